@@ -1,0 +1,4 @@
+pub mod System
+pub mod Strike
+pub mod Sample
+pub mod Papers
