@@ -1,0 +1,214 @@
+-- A sheet's bytes: the first fault of a bad sheet, and what a good sheet says. Document 01, "Sheets, byte by byte", and the numbers 1 to
+-- 10 of its table. Every check stands here once, in reading order; a check's number is its line in the table. Assumes nothing.
+use mathlib.Core.Bool.{Bool, true, false, cond, _&&_}
+use mathlib.Core.Option.{Option, none, some}
+use mathlib.Core.List.{List, [], _∷_, map}
+use Prim.Native.Nat.{ℕ, zero, suc, _+_, _-_, _*_, _%_}
+use lib.Dec.{leb, ltb, eqb}
+use lib.ListN.{length, getD, take, drop}
+
+-- ---- what can be wrong
+
+pub data Why : Type 0 where
+  badSize badVersion badLength badLetters tooMany recordMissing badShape badLiteral notAscending surplus : Why
+
+-- the table's numbers 1 to 10
+abbrev pub numberOf : Why → ℕ
+numberOf badSize = 1
+numberOf badVersion = 2
+numberOf badLength = 3
+numberOf badLetters = 4
+numberOf tooMany = 5
+numberOf recordMissing = 6
+numberOf badShape = 7
+numberOf badLiteral = 8
+numberOf notAscending = 9
+numberOf surplus = 10
+
+-- A fault and the byte where it was met. No promise of the base shows the place.
+pub record Fault : Type 0 where
+  pub why : Why
+  pub at : ℕ
+
+-- one check: nothing, or this fault at this place where the test fails
+abbrev pub unless : Bool → Why → ℕ → Option Fault
+unless true why at = none
+unless false why at = some (record { why = why; at = at })
+
+infixr 10 _then_
+-- "Faults are reported in reading order, front to back": the first of two
+abbrev pub _then_ : Option Fault → Option Fault → Option Fault
+none then later = later
+some f then later = some f
+
+-- ---- literals
+
+-- "A literal is a signed byte in two's complement: k means letter k holds, minus k means it does not": bytes below 128 are 0 to 127, and
+-- byte b from 128 on is b - 256. `positive` is its sign, `size` its size; the size of -128 is 128.
+unfoldable pub positive : ℕ → Bool
+positive b = ltb b 128
+
+unfoldable pub size : ℕ → ℕ
+unfolding positive
+size b = cond (positive b) b (256 - b)
+
+-- "ascend strictly as signed numbers, so -2 stands before -1 before 1": signed b + 128 is 0 for -128 up to 255 for 127
+unfoldable pub signedBelow : ℕ → ℕ → Bool
+signedBelow b c = ltb ((b + 128) % 256) ((c + 128) % 256)
+
+-- "k from 1 to n. Zero, and any size above n, is a fault"
+unfoldable pub names : ℕ → ℕ → Bool
+unfolding size
+names n b = leb 1 (size b) && leb (size b) n
+
+-- One list's literals, the first at place `at`: "each literal 8 before 9".
+unfoldable pub literals : ℕ → ℕ → ℕ → List ℕ → Option Fault
+unfolding names signedBelow
+literals n at before [] = none
+literals n at before (b ∷ bs) =
+    unless (names n b) badLiteral at
+    then unless (signedBelow before b) notAscending at
+    then literals n (suc at) b bs
+
+-- Before the first literal stands byte 128, that is -128: below every literal that names a letter.
+unfoldable pub list : ℕ → ℕ → List ℕ → Option Fault
+unfolding literals
+list n at bs = literals n at 128 bs
+
+-- ---- records
+
+pub data Kind : Type 0 where
+  aLimit aFirst aStep aPromise : Kind
+
+-- what a limit, a first rule, a step rule and a promise say, from a record's own bytes (those after its length byte)
+pub record Limit : Type 0 where
+  pub exact : Bool
+  pub bound : ℕ
+  pub among : List ℕ
+
+pub record StepRule : Type 0 where
+  pub left : List ℕ
+  pub right : List ℕ
+
+-- "a kind (0 exactly, 1 at most), a bound m (any byte), then literals"
+unfoldable pub limitOf : List ℕ → Limit
+limitOf body = record { exact = eqb (getD body 0 0) 0; bound = getD body 1 0; among = drop 2 body }
+
+-- "a count a, then a literals joined by and (the left side), then the rest joined by or (the right side)"
+unfoldable pub stepOf : List ℕ → StepRule
+stepOf body = record { left = take (getD body 0 0) (drop 1 body); right = drop (getD body 0 0) (drop 1 body) }
+
+-- "one literal"
+unfoldable pub promiseOf : List ℕ → ℕ
+promiseOf body = getD body 0 0
+
+-- "Each record is judged on its own bytes": its fault, where its length byte stands at `at`. "In a record 6, 7, then each literal 8
+-- before 9"; 6 is in `records`. "A step rule's two sides are two lists."
+unfoldable pub recordFault : Kind → ℕ → ℕ → List ℕ → Option Fault
+unfolding limitOf stepOf list
+recordFault aLimit n at body =
+    unless (leb 2 (length body) && leb (getD body 0 0) 1) badShape at
+    then list n (at + 3) (limitOf body .among)
+recordFault aFirst n at body = list n (at + 1) body
+recordFault aStep n at body =
+    unless (leb 1 (length body) && leb (getD body 0 0) (length body - 1)) badShape at
+    then list n (at + 2) (stepOf body .left)
+    then list n (at + 2 + getD body 0 0) (stepOf body .right)
+recordFault aPromise n at body =
+    unless (eqb (length body) 1) badShape at
+    then list n (at + 1) body
+
+-- ---- where things stand
+
+unfoldable pub byte : List ℕ → ℕ → ℕ
+byte s i = getD s i 0
+
+-- "Each begins with one byte, the number of bytes after it in the record": the record's own bytes, and where the next record begins.
+unfoldable pub bodyAt : List ℕ → ℕ → List ℕ
+unfolding byte
+bodyAt s at = take (byte s at) (drop (suc at) s)
+
+unfoldable pub nextAt : List ℕ → ℕ → ℕ
+unfolding byte
+nextAt s at = suc at + byte s at
+
+-- where `count` records from `at` on end, and their own bytes
+unfoldable pub afterAt : List ℕ → ℕ → ℕ → ℕ
+unfolding nextAt
+afterAt s zero at = at
+afterAt s (suc count) at = afterAt s count (nextAt s at)
+
+unfoldable pub bodies : List ℕ → ℕ → ℕ → List (List ℕ)
+unfolding bodyAt nextAt
+bodies s zero at = []
+bodies s (suc count) at = bodyAt s at ∷ bodies s count (nextAt s at)
+
+-- The first fault of `count` records of a kind from `at` on. 6: "record missing or past the end" (past the sheet's end `byte` is 0, so a
+-- missing length byte fails the same test).
+unfoldable pub records : Kind → ℕ → List ℕ → ℕ → ℕ → Option Fault
+unfolding recordFault bodyAt nextAt
+records kind n s zero at = none
+records kind n s (suc count) at =
+    unless (leb (nextAt s at) (length s)) recordMissing at
+    then recordFault kind n at (bodyAt s at)
+    then records kind n s count (nextAt s at)
+
+-- "Byte 3 is n, the number of letters .. Bytes 4 to 7 count limits, first rules, step rules, promises. The records follow in that order."
+unfoldable pub lettersIn : List ℕ → ℕ
+unfolding byte
+lettersIn s = byte s 3
+
+unfoldable pub firstsAt : List ℕ → ℕ
+unfolding byte afterAt
+firstsAt s = afterAt s (byte s 4) 8
+
+unfoldable pub stepsAt : List ℕ → ℕ
+unfolding byte afterAt firstsAt
+stepsAt s = afterAt s (byte s 5) (firstsAt s)
+
+unfoldable pub promisesAt : List ℕ → ℕ
+unfolding byte afterAt stepsAt
+promisesAt s = afterAt s (byte s 6) (stepsAt s)
+
+unfoldable pub endAt : List ℕ → ℕ
+unfolding byte afterAt promisesAt
+endAt s = afterAt s (byte s 7) (promisesAt s)
+
+-- ---- the whole sheet
+
+unfoldable pub mostLetters : ℕ
+mostLetters = 24
+
+-- The first fault of a sheet, none if it is good: "1 to 5 in that order, then the records; .. 10 last".
+unfoldable pub firstFault : List ℕ → Option Fault
+unfolding byte lettersIn firstsAt stepsAt promisesAt endAt records mostLetters
+firstFault s =
+    unless (leb 8 (length s) && leb (length s) 4096) badSize 0
+    then unless (eqb (byte s 0) 1) badVersion 0
+    then unless (eqb (byte s 1 * 256 + byte s 2) (length s)) badLength 1
+    then unless (leb 1 (lettersIn s) && leb (lettersIn s) mostLetters) badLetters 3
+    then unless (leb (byte s 4) 32) tooMany 4
+    then unless (leb (byte s 7) 16) tooMany 7
+    then records aLimit (lettersIn s) s (byte s 4) 8
+    then records aFirst (lettersIn s) s (byte s 5) (firstsAt s)
+    then records aStep (lettersIn s) s (byte s 6) (stepsAt s)
+    then records aPromise (lettersIn s) s (byte s 7) (promisesAt s)
+    then unless (eqb (endAt s) (length s)) surplus (endAt s)
+
+-- What a good sheet says; "those of one kind are numbered from 1", in the order in which they stand.
+pub record Sheet : Type 0 where
+  pub letters : ℕ
+  pub limits : List Limit
+  pub firsts : List (List ℕ)
+  pub steps : List StepRule
+  pub promises : List ℕ
+
+unfoldable pub decode : List ℕ → Sheet
+unfolding byte lettersIn bodies limitOf stepOf promiseOf firstsAt stepsAt promisesAt
+decode s = record
+  { letters = lettersIn s
+  ; limits = map limitOf (bodies s (byte s 4) 8)
+  ; firsts = bodies s (byte s 5) (firstsAt s)
+  ; steps = map stepOf (bodies s (byte s 6) (stepsAt s))
+  ; promises = map promiseOf (bodies s (byte s 7) (promisesAt s))
+  }
