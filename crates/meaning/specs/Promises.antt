@@ -150,16 +150,30 @@ unfolding over zeros cleared
 outcome lent (bad f) = record { answer = numberOf (f .why); count = 0; a = 0; b = 0; leaves = lent }
 outcome lent crowded = record { answer = 11; count = 0; a = 0; b = 0; leaves = cleared lent }
 outcome lent (short b) = record { answer = 12; count = 0; a = 0; b = b; leaves = cleared lent }
-outcome lent (keeps livable states a) = record
-  { answer = 0; count = length livable; a = a; b = length states
-  ; leaves = record
-    { table = over livable (zeros (lent .table)); words = zeros (lent .words); scratch = zeros (lent .scratch)
-    ; run = over states (lent .run) } }
-outcome lent (cannot states words) = record
-  { answer = 13; count = length states; a = 0; b = 0
-  ; leaves = record
-    { table = over states (zeros (lent .table)); words = over words (zeros (lent .words)); scratch = zeros (lent .scratch)
-    ; run = lent .run } }
+outcome lent (keeps livable states a) = record {
+  answer = 0;
+  count = length livable;
+  a = a;
+  b = length states;
+  leaves = record {
+    table = over livable (zeros (lent .table));
+    words = zeros (lent .words);
+    scratch = zeros (lent .scratch);
+    run = over states (lent .run);
+  };
+}
+outcome lent (cannot states words) = record {
+  answer = 13;
+  count = length states;
+  a = 0;
+  b = 0;
+  leaves = record {
+    table = over states (zeros (lent .table));
+    words = over words (zeros (lent .words));
+    scratch = zeros (lent .scratch);
+    run = lent .run;
+  };
+}
 
 -- the judge's promise: the outcome is that of a true finding
 pub record Judged (sheet : List ℕ) (lent : Lent) (o : Outcome) : Type 0 where

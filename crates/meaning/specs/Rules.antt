@@ -74,10 +74,10 @@ kept sheet k s = trueIn s (getD (sheet .promises) k 0)
 -- the system of a sheet
 unfoldable pub systemOf : Sheet → System
 unfolding lawful firstState moves kept
-systemOf sheet = record
-  { Lawful = λ s. T (lawful sheet s)
-  ; First = λ s. T (firstState sheet s)
-  ; Move = λ s t. T (moves sheet s t)
-  ; promises = length (sheet .promises)
-  ; Kept = λ k s. T (kept sheet k s)
-  }
+systemOf sheet = record {
+  Lawful = λ s. T (lawful sheet s);
+  First = λ s. T (firstState sheet s);
+  Move = λ s t. T (moves sheet s t);
+  promises = length (sheet .promises);
+  Kept = λ k s. T (kept sheet k s);
+}

@@ -205,10 +205,10 @@ pub record Sheet : Type 0 where
 
 unfoldable pub decode : List ℕ → Sheet
 unfolding byte lettersIn bodies limitOf stepOf promiseOf firstsAt stepsAt promisesAt
-decode s = record
-  { letters = lettersIn s
-  ; limits = map limitOf (bodies s (byte s 4) 8)
-  ; firsts = bodies s (byte s 5) (firstsAt s)
-  ; steps = map stepOf (bodies s (byte s 6) (stepsAt s))
-  ; promises = map promiseOf (bodies s (byte s 7) (promisesAt s))
-  }
+decode s = record {
+  letters = lettersIn s;
+  limits = map limitOf (bodies s (byte s 4) 8);
+  firsts = bodies s (byte s 5) (firstsAt s);
+  steps = map stepOf (bodies s (byte s 6) (stepsAt s));
+  promises = map promiseOf (bodies s (byte s 7) (promisesAt s));
+}
