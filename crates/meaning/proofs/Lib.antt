@@ -1,0 +1,3 @@
+pub mod Lasso
+pub mod Soundness
+pub mod Rounds
