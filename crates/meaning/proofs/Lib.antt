@@ -1,3 +1,4 @@
 pub mod Lasso
 pub mod Soundness
 pub mod Rounds
+pub mod Logic

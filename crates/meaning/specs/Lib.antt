@@ -6,3 +6,4 @@ pub mod Sheet
 pub mod Rules
 pub mod Promises
 pub mod Wall
+pub mod Logic
