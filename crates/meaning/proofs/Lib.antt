@@ -1,4 +1,11 @@
+pub mod Places
 pub mod Lasso
 pub mod Soundness
 pub mod Rounds
+pub mod Search
+pub mod Pigeonhole
+pub mod Unique
+pub mod SampleRun
+pub mod Bounds
+pub mod Exists
 pub mod Logic

@@ -1,18 +1,18 @@
 -- "Obeys" is source document 000's meaning: a sequence obeys a sheet exactly if it is a model of the sheet's constraints that satisfies the
 -- sheet's normal form at moment 0. Assumes nothing.
-use mathlib.Core.Path.{_≡_, refl, subst}
+use mathlib.Core.Path.{refl}
 use mathlib.Core.Logic.{_↔_, _⊎_, inl, inr}
 use mathlib.Core.Bool.{Bool, true, false, not, _&&_, _||_}
 use mathlib.Core.List.{List, [], _∷_, map}
 use Prim.Native.Nat.{ℕ, zero, suc, _≤_, _<_, zero-le, suc-le-suc}
-use native.Mathlib.Nat.{le-refl, le-of-suc-le-suc, not-suc-le-zero, zero-lt-suc}
+use native.Mathlib.Nat.{le-of-suc-le-suc, not-suc-le-zero, zero-lt-suc}
 use native.Mathlib.Omega.{arith}
 use lib.Dec.{T}
 use lib.ListN.{length, getD}
-use Rattle.meaning.specs.System.{System, Run, Obeys}
+use Rattle.meaning.specs.System.{Obeys}
 use Rattle.meaning.specs.Sheet.{Sheet, StepRule}
 use Rattle.meaning.specs.Rules.{trueIn, someTrue, allTrue, every, lawful, firstState, stepHolds, moves, kept, systemOf}
-use Rattle.meaning.specs.Logic.{Formula, literal, Sat, allOf, someOf, initialClause, stepClause, sometimeClause, normalForm, Model}
+use Rattle.meaning.specs.Logic.{Formula, literal, Sat, allOf, someOf, initialClause, stepClause, sometimeClause, Model}
 
 and-T : (a b : Bool) → T (a && b) ↔ (T a × T b)
 and-T true b = (λ t. (tt, t), λ t. t .1)

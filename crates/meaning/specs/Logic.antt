@@ -3,7 +3,7 @@
 -- normal form". `always` is said directly, as in source document 001 (000 writes it as "not sometime not"). Assumes nothing.
 use mathlib.Core.Path.{_≡_}
 use mathlib.Core.Logic.{_⊎_}
-use mathlib.Core.List.{List, [], _∷_, _++_, map}
+use mathlib.Core.List.{List, [], _∷_, map}
 use Prim.Native.Nat.{ℕ, suc, _≤_, _<_}
 use lib.Dec.{T}
 use Rattle.meaning.specs.Sheet.{Sheet, StepRule}
