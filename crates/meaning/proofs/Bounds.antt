@@ -11,7 +11,7 @@ use lib.ListN.{length, getD}
 use Rattle.meaning.specs.System.{System, Obeys, Livable, In, Number, Finite}
 use Rattle.meaning.specs.Sample.{Sample, RunPaper}
 use Rattle.meaning.specs.Papers.{reading}
-use Rattle.meaning.proofs.Search.{least-passing}
+use Rattle.meaning.proofs.Search.{least-below}
 use Rattle.meaning.proofs.Pigeonhole.{pairs-fit}
 use Rattle.meaning.proofs.Unique.{sample-determined}
 use Rattle.meaning.proofs.SampleRun.{sample-livable, aim-below, sample-obeys, paper-reads-the-sample}
@@ -48,7 +48,7 @@ first-kept {S} {f} fin o k h i = from (o .keeps k h i)
   where
     from : (j : ℕ) × (i ≤ j) × S .Kept k (f j) → (d : ℕ) × S .Kept k (f (i + d)) × ((j : ℕ) → S .Kept k (f (i + j)) → d ≤ j)
     from w = let e : w .0 ≡ i + (w .0 - i) = omega (arith, w .1) in
-        least-passing (λ j. S .Kept k (f (i + j))) (λ j. fin .kept? k (f (i + j))) (w .0 - i) (subst (λ (j : ℕ). S .Kept k (f j)) e (w .2))
+        least-below {P = λ j. S .Kept k (f (i + j))} (λ j. fin .kept? k (f (i + j))) {n = w .0 - i} (subst (λ (j : ℕ). S .Kept k (f j)) e (w .2))
 
 -- Up to the first time that a promise is kept, no pair of state and aim comes twice: it would bring that time nearer.
 apart-until-kept : {S : System} {f aim : ℕ → ℕ} → Sample S f aim → (k i d : ℕ) → S .Kept k (f (i + d)) → ((j : ℕ) → S .Kept k (f (i + j)) → d ≤ j)

@@ -2,7 +2,7 @@
 -- whether it is livable. Each step is a search: the least livable first state, the nearest livable next states and the least of them, the
 -- first pair of state and aim that comes again. Assumes nothing.
 use mathlib.Core.Path.{_≡_, refl, sym, ap, subst, _∙_}
-use mathlib.Core.Logic.{_⊎_, inl, inr}
+use mathlib.Core.Logic.{_⊎_, inl, inr, Dec·and}
 use mathlib.Core.List.{List, [], _∷_}
 use Prim.Native.Nat.{ℕ, zero, suc, _+_, _-_, _*_, _≤_, _<_}
 use native.Mathlib.Decide.{ℕ-discrete}
@@ -11,20 +11,20 @@ use lib.ListN.{length, getD}
 use Rattle.meaning.specs.System.{System, CanBeKept, Livable, Finite}
 use Rattle.meaning.specs.Strike.{Way}
 use Rattle.meaning.specs.Sample.{Met, Best, Passes, nextAim, Sample, RunPaper}
-use Rattle.meaning.proofs.Search.{both?, either?, some-below?, least-passing}
+use Rattle.meaning.proofs.Search.{either?, any-below, least-below}
 use Rattle.meaning.proofs.Pigeonhole.{pairs-repeat}
 use Rattle.meaning.proofs.SampleRun.{obeying-livable, obeying-way, way-starts, next-aim-below, aim-below}
 
 -- In a finite system it can be said whether a state has a way of n moves.
 pub way? : {S : System} → Finite S → (U G : ℕ → Type 0) → ((s : ℕ) → Dec (U s)) → ((s : ℕ) → Dec (G s)) → (n s : ℕ) → Dec (Way S U G n s)
-way? fin U G U? G? zero s = both? (U? s) (G? s)
-way? {S} fin U G U? G? (suc n) s = both? (U? s) (step (λ t. way? fin U G U? G? n t))
+way? fin U G U? G? zero s = Dec·and (U? s) (G? s)
+way? {S} fin U G U? G? (suc n) s = Dec·and (U? s) (step (λ t. way? fin U G U? G? n t))
   where
     Step : ℕ → Type 0
     Step t = S .Move s t × Way S U G n t
 
     step : ((t : ℕ) → Dec (Way S U G n t)) → Dec ((t : ℕ) × S .Move s t × Way S U G n t)
-    step rest = by (some-below? Step (λ t. both? (fin .move? s t) (rest t)) (fin .bound))
+    step rest = by (any-below {P = Step} (λ t. Dec·and (fin .move? s t) (rest t)) (fin .bound))
       where
         by : Dec ((t : ℕ) × (t < fin .bound) × Step t) → Dec ((t : ℕ) × S .Move s t × Way S U G n t)
         by (yes w) = yes (w .0, w .2 .0, w .2 .1)
@@ -92,7 +92,7 @@ module _ {S : System} (fin : Finite S) (livable? : (s : ℕ) → Dec (Livable S 
 
   -- It can be said whether a next state has a way of n moves to an aim.
   step-way? : (k s n t : ℕ) → Dec (StepWay S k s n t)
-  step-way? k s n t = both? (fin .move? s t) (way? fin (Livable S) (Met S k) livable? (met? k) n t)
+  step-way? k s n t = Dec·and (fin .move? s t) (way? fin (Livable S) (Met S k) livable? (met? k) n t)
 
   -- A livable state has a next state that is best for an aim.
   pub best-exists : (k s : ℕ) → k < suc (S .promises - 1) → Livable S s → (t : ℕ) × Best S k s t
@@ -105,12 +105,12 @@ module _ {S : System} (fin : Finite S) (livable? : (s : ℕ) → Dec (Livable S 
       inside n t w = (t, fin .move-below s t (w .0), w)
 
       least : (far : ℕ) × Layer far × ((n : ℕ) → Layer n → far ≤ n) → (t : ℕ) × Best S k s t
-      least w = let v = least-passing (StepWay S k s (w .0)) (step-way? k s (w .0)) (w .1 .0) (w .1 .2) in
+      least w = let v = least-below {P = StepWay S k s (w .0)} (step-way? k s (w .0)) {n = w .1 .0} (w .1 .2) in
           (v .0, best-of-nearest S k s (w .0) (v .0) (v .1) (λ n u x. w .2 n (inside n u x)) (v .2))
 
       nearest : (t : ℕ) × S .Move s t × Livable S t → (t : ℕ) × Best S k s t
       nearest w = let v = livable-way (w .2) k h in
-          least (least-passing Layer (λ n. some-below? (StepWay S k s n) (step-way? k s n) (fin .bound)) (v .0) (inside (v .0) (w .0) (w .1, v .1)))
+          least (least-below {P = Layer} (λ n. any-below {P = StepWay S k s n} (step-way? k s n) (fin .bound)) {n = v .0} (inside (v .0) (w .0) (w .1, v .1)))
 
   -- The aim passes or stays.
   passed : (k s : ℕ) → k < suc (S .promises - 1) → (k′ : ℕ) × Passes S k s k′ × (k′ < suc (S .promises - 1))
@@ -133,7 +133,7 @@ module _ {S : System} (fin : Finite S) (livable? : (s : ℕ) → Dec (Livable S 
   -- A system that can be kept has a sample run.
   pub sample-exists : CanBeKept S → (f : ℕ → ℕ) × (aim : ℕ → ℕ) × Sample S f aim
   unfolding nodes
-  sample-exists c = from (least-passing (λ s. S .First s × Livable S s) (λ s. both? (fin .first? s) (livable? s)) (c .0 0)
+  sample-exists c = from (least-below {P = λ s. S .First s × Livable S s} (λ s. Dec·and (fin .first? s) (livable? s)) {n = c .0 0}
       (c .1 .run .starts, obeying-livable (c .1) 0))
     where
       from : (s : ℕ) × (S .First s × Livable S s) × ((u : ℕ) → S .First u × Livable S u → s ≤ u) → (f : ℕ → ℕ) × (aim : ℕ → ℕ) × Sample S f aim
@@ -215,8 +215,8 @@ module _ {S : System} {f aim : ℕ → ℕ} (fin : Finite S) (x : Sample S f aim
       )
 
       cut : (i j : ℕ) × (i < j) × (j < suc (fin .bound * q)) × (f i ≡ f j) × (aim i ≡ aim j) → (states : List ℕ) × (a : ℕ) × RunPaper S states a
-      cut w = write (least-passing Again
-          (λ b. some-below? (Same b) (λ a. both? (ℕ-discrete (f a) (f b)) (ℕ-discrete (aim a) (aim b))) b) (w .1) (w .0, w .2, (w .4, w .5)))
+      cut w = write (least-below {P = Again}
+          (λ b. any-below {P = Same b} (λ a. Dec·and (ℕ-discrete (f a) (f b)) (ℕ-discrete (aim a) (aim b))) b) {n = w .1} (w .0, w .2, (w .4, w .5)))
 
 -- A system that can be kept has a paper of its sample run.
 pub run-paper-exists : {S : System} → Finite S → ((s : ℕ) → Dec (Livable S s)) → CanBeKept S → (states : List ℕ) × (a : ℕ) × RunPaper S states a

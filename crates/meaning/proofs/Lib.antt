@@ -1,9 +1,14 @@
+pub mod Search
+pub mod Lists
+pub mod Pigeonhole
+pub mod Settle
 pub mod Places
 pub mod Lasso
 pub mod Soundness
 pub mod Rounds
-pub mod Search
-pub mod Pigeonhole
+pub mod Decide
+pub mod Strikes
+pub mod Checks
 pub mod Unique
 pub mod SampleRun
 pub mod Bounds

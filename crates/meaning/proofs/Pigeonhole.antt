@@ -8,7 +8,7 @@ use native.Mathlib.Nat.{mul-add-div-right, mul-add-mod-self-right, div-eq-of-lt,
 use native.Mathlib.Omega.{arith}
 use lib.Dec.{ltb}
 use borrow.Author.Tests.{lt-ltb, le-ltb}
-use Rattle.meaning.proofs.Search.{some-below?}
+use Rattle.meaning.proofs.Search.{any-below}
 
 -- a number other than x, with x taken out of the numbers
 squeeze : ℕ → ℕ → ℕ
@@ -46,7 +46,7 @@ squeeze-apart x y z p q e = by (decLt x y) (decLt x z)
 pub repeats : (m n : ℕ) (g : ℕ → ℕ) → ((i : ℕ) → i < n → g i < m) → m < n → (i j : ℕ) × (i < j) × (j < n) × (g i ≡ g j)
 repeats m zero g below q = absurd (omega arith)
 repeats zero (suc n) g below q = absurd (omega (arith, below n (omega arith)))
-repeats (suc m) (suc n) g below q = by (some-below? (λ i. g i ≡ g n) (λ i. ℕ-discrete (g i) (g n)) n)
+repeats (suc m) (suc n) g below q = by (any-below {P = λ i. g i ≡ g n} (λ i. ℕ-discrete (g i) (g n)) n)
     (λ fits. repeats m n (λ i. squeeze (g n) (g i)) fits (omega arith))
   where
     by : Dec ((i : ℕ) × (i < n) × (g i ≡ g n))

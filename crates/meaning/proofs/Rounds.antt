@@ -8,8 +8,8 @@ use mathlib.Core.Path.{_≡_, refl, sym, _∙_, ap, subst}
 use mathlib.Core.Logic.{_↔_, _⊎_, inl, inr, ⊎-elim}
 use mathlib.Core.List.{List}
 use Prim.Native.Nat.{ℕ, zero, suc, _+_, _-_, _*_, _/_, _%_, _≤_, _<_, zero-le}
-use native.Mathlib.Nat.{mod-lt, div-add-mod', suc-mul, mul-le-mul-right, mul-add-mod-self-left, mod-eq-of-lt, le-of-eq, le-of-lt}
-use native.Mathlib.Decide.{decLt, decLe, le-ind}
+use native.Mathlib.Nat.{mod-lt, div-add-mod', div-mul-le-self, div-lt-iff-lt-mul, suc-mul, mul-add-mod-self-left, mod-eq-of-lt, le-of-eq, le-of-lt}
+use native.Mathlib.Decide.{decLt, decLe, le-ind, ℕ-discrete}
 use native.Mathlib.Omega.{arith}
 use lib.Arith.{digits-mod}
 use lib.ListN.{getD}
@@ -278,31 +278,22 @@ quiet-left-is-livable n q s = (left-livable n q, livable-left n)
 pub quiet-stays : (S : System) (n m : ℕ) → Quiet S n → n ≤ m → (s : ℕ) → Left S n s → Left S m s
 quiet-stays S n m q h s l = livable-left m (left-livable n q l)
 
--- of two numbers a * w + r < b * w + t with r and t below w, the first is in an earlier round or earlier in the same one
-parts-rise : (w a b r t m n : ℕ) → a * w + r ≡ m → b * w + t ≡ n → r < w → t < w → m < n → (a < b) ⊎ ((a ≡ b) × (r < t))
-parts-rise w a b r t m n e f h g l = by (decLt a b) (decLt b a)
+-- Numbers in order have their quotients, then their remainders in order.
+pub parts-rise : (c : ℕ) {a b : ℕ} → zero < c → a < b → (a / c < b / c) ⊎ ((a / c ≡ b / c) × (a % c < b % c))
+parts-rise c {a} {b} pos h = by (decLt (a / c) (b / c)) (ℕ-discrete (a / c) (b / c))
   where
-    by : Dec (a < b) → Dec (b < a) → (a < b) ⊎ ((a ≡ b) × (r < t))
+    by : Dec (a / c < b / c) → Dec (a / c ≡ b / c) → (a / c < b / c) ⊎ ((a / c ≡ b / c) × (a % c < b % c))
     by (yes q) d = inl q
-    by (no q) (yes d) =
-        let more : suc b * w ≡ b * w + w = suc-mul b w in
-        let up : suc b * w ≤ a * w = mul-le-mul-right w d in
-        absurd (omega arith)
-    by (no q) (no d) =
-        let same : a ≡ b = omega arith in
-        let z : a * w ≡ b * w = ap (λ (x : ℕ). x * w) same in
-        inr (same, omega arith)
+    by (no q) (yes e) = inr (e, omega (arith, div-add-mod' a c, div-add-mod' b c, ap (λ (k : ℕ). k * c) e))
+    by (no q) (no e) = absurd (omega (arith, div-lt-iff-lt-mul {k = c} {x = b} {y = a / c} pos .0 (omega arith), div-mul-le-self a c))
 
 -- Words ascend as phases do.
 pub phase-word-rises : (S : System) → S .promises < 32 → (m n : ℕ) → m < n → wordOf S m < wordOf S n
-phase-word-rises S h m n l =
-    by (parts-rise w (m / w) (n / w) (m % w) (n % w) m n (div-add-mod' m w) (div-add-mod' n w) (mod-lt m (omega arith)) (mod-lt n (omega arith)) l)
+phase-word-rises S h m n l = by (parts-rise (suc (S .promises)) (omega arith) l)
   where
-    w : ℕ
-    w = suc (S .promises)
-
-    by : (m / w < n / w) ⊎ ((m / w ≡ n / w) × (m % w < n % w)) → wordOf S m < wordOf S n
-    by (inl q) = let r : m % suc (S .promises) ≤ S .promises = reason-at-most S m in omega arith
+    by : (m / suc (S .promises) < n / suc (S .promises))
+        ⊎ ((m / suc (S .promises) ≡ n / suc (S .promises)) × (m % suc (S .promises) < n % suc (S .promises))) → wordOf S m < wordOf S n
+    by (inl q) = omega (arith, reason-at-most S m)
     by (inr q) = omega arith
 
 -- and never fall
