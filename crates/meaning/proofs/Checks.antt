@@ -53,8 +53,8 @@ entry-right? F states words (suc k) word s = Dec·and (Dec·not (F .kept? k s)) 
 -- Whether a proposed strike list is accepted.
 pub strikes-accepted? : {S : System} → Finite S → (states words : List ℕ) → Dec (StrikesAccepted S states words)
 strikes-accepted? {S} F states words = map-dec
-    (λ (v, (r, (l, (m, (f, e))))). record { even = v; rising = r; lawful = l; reasons = m; firsts = f; entries = e })
-    (λ r. (r .even, (r .rising, (r .lawful, (r .reasons, (r .firsts, r .entries))))))
+    (λ (v, (r, (l, (m, (f, e))))). record { as-many = v; rising = r; lawful = l; reasons = m; firsts = f; entries = e })
+    (λ r. (r .as-many, (r .rising, (r .lawful, (r .reasons, (r .firsts, r .entries))))))
     (Dec·and (ℕ-discrete (length words) (length states)) (Dec·and rising? (Dec·and lawful? (Dec·and reasons? (Dec·and firsts? entries?)))))
   where
     rising? : Dec ((i : ℕ) → suc i < length states → getD words i 0 ≤ getD words (suc i) 0)

@@ -344,7 +344,7 @@ module _ (S : System) (states words : List ℕ) (small : S .promises < 32) (L : 
 pub strike-list-accepted : {S : System} {states words : List ℕ} → ((s : ℕ) → Reachable S s → S .Lawful s) → S .promises < 32
     → StrikeList S states words → StrikesAccepted S states words
 strike-list-accepted {S} {states} {words} lawful small L = record {
-  even = L .even;
+  as-many = L .as-many;
   rising = λ i h. ⊎-elim (λ g. le-of-lt g) (λ g. le-of-eq (g .0)) (L .ordered i h);
   lawful = λ i h. let k = L .struck i h in lawful (getD states i 0) (left-reachable (k .0) (k .1 .0));
   reasons = λ i h. let k = L .struck i h in rw (k .2, word-reason-is S small (k .0)) (reason-at-most S (k .0));

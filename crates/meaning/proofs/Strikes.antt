@@ -60,7 +60,7 @@ pub strike-list-unique : {S : System} {states words states′ words′ : List �
     → (states ≡ states′) × (words ≡ words′)
 strike-list-unique {states} {words} {states′} {words′} L M = (
   ext-getD 0 states states′ long (λ i h. ap (λ (e : ℕ × ℕ). e .1) (same i h)),
-  ext-getD 0 words words′ (L .even ∙ long ∙ sym (M .even)) (λ i h. ap (λ (e : ℕ × ℕ). e .0) (same i (omega (arith, L .even)))),
+  ext-getD 0 words words′ (L .as-many ∙ long ∙ sym (M .as-many)) (λ i h. ap (λ (e : ℕ × ℕ). e .0) (same i (omega (arith, L .as-many)))),
 )
   where
     there : Inside (entry states words) (length states) (entry states′ words′) (length states′)
@@ -107,7 +107,7 @@ Key S N k = Struck S (k / N) (k % N)
 -- the list of all keys, read as states and words, is the strike list
 keys-strike-list : (S : System) (N : ℕ) (keys : List ℕ) → zero < N → S .promises < 32 → Lists (Key S N) keys
     → ((s : ℕ) → Reachable S s → (m : ℕ) × (s < N) × Struck S m s) → StrikeList S (map (λ k. k % N) keys) (map (λ k. wordOf S (k / N)) keys)
-keys-strike-list S N keys pos few L strikes = record { even = length-map keys word ∙ sym long; ordered = order; struck = hit; whole = found }
+keys-strike-list S N keys pos few L strikes = record { as-many = length-map keys word ∙ sym long; ordered = order; struck = hit; whole = found }
   where
     state : ℕ → ℕ
     state k = k % N

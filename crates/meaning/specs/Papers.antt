@@ -22,7 +22,7 @@ abbrev pub place : ℕ → ℕ → ℕ → ℕ
 place a b zero = 0
 place a b (suc i) = cond (ltb (suc (place a b i)) b) (suc (place a b i)) a
 
--- the endless reading of a paper
+-- the endless reading of a paper (demands 2 and 3 speak of it; no promise does)
 abbrev pub reading : List ℕ → ℕ → ℕ → ℕ
 reading states a i = getD states (place a (length states) i) 0
 
@@ -39,7 +39,7 @@ EntryRight S states words (suc k) word s = (S .Kept k s → ⊥) × ((t : ℕ) �
 -- "A proposed strike list (states and words) is accepted exactly if there are as many words as states, the words never fall, each state
 -- is lawful, each word's remainder by 32 is at most p, every first state is listed, and for each entry .."
 pub record StrikesAccepted (S : System) (states words : List ℕ) : Type 0 where
-  pub even : length words ≡ length states
+  pub as-many : length words ≡ length states
   pub rising : (i : ℕ) → suc i < length states → getD words i 0 ≤ getD words (suc i) 0
   pub lawful : (i : ℕ) → i < length states → S .Lawful (getD states i 0)
   pub reasons : (i : ℕ) → i < length states → getD words i 0 % 32 ≤ S .promises

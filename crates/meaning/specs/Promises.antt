@@ -5,7 +5,7 @@ use mathlib.Core.Option.{Option, none, some}
 use mathlib.Core.List.{List, [], _∷_, _++_}
 use Prim.Native.Nat.{ℕ, zero, suc, _+_, _*_, _/_, _%_, _≤_, _<_, min}
 use lib.ListN.{length, take, drop, replicate}
-use Rattle.meaning.specs.System.{System, CanBeKept, Livable, Reachable, Lists, Number}
+use Rattle.meaning.specs.System.{System, CanBeKept, Livable, Lists, IsR}
 use Rattle.meaning.specs.Strike.{StrikeList}
 use Rattle.meaning.specs.Sample.{RunPaper}
 use Rattle.meaning.specs.Papers.{RunAccepted, StrikesAccepted}
@@ -17,7 +17,7 @@ unfoldable pub systemIn : List ℕ → System
 unfolding systemOf decode
 systemIn sheet = systemOf (decode sheet)
 
--- ---- the reader: "0 (reader) good sheet", or the number of the first fault. It changes nothing; naxxurbi_read answers the same number.
+-- ---- the reader: 0 for a good sheet, or the number of the first fault. It changes nothing; its C form answers the same number.
 
 unfoldable pub readNumber : Option Fault → ℕ
 readNumber none = 0
@@ -68,7 +68,7 @@ unfoldable pub numbersIn : ℕ → List ℕ → List ℕ
 unfolding numbersFrom
 numbersIn width bytes = numbersFrom width (length bytes / width) bytes
 
--- the firmware's two calls, on bytes: naxxurbi_check_run and naxxurbi_check_strikes
+-- the firmware's two calls, on bytes
 unfoldable pub RunBytesChecked : (sheet states : List ℕ) (a n : ℕ) → Type 0
 unfolding stateBytes
 RunBytesChecked sheet states a n =
@@ -97,9 +97,12 @@ pub record Outcome : Type 0 where
   pub b : ℕ
   pub leaves : Lent
 
+abbrev pub mostStates : ℕ
+mostStates = 16384
+
 -- "C is the least of the table's length, the words' length, half the scratch length rounded down, and 16,384."
 unfoldable pub capacity : Lent → ℕ
-capacity lent = min (min (length (lent .table)) (length (lent .words))) (min (length (lent .scratch) / 2) 16384)
+capacity lent = min (min (length (lent .table)) (length (lent .words))) (min (length (lent .scratch) / 2) mostStates)
 
 -- What a judge can find: a fault; R above C; that the sheet can be kept, but the run needs b places; that it can be kept, by these
 -- livable states and this run; that it cannot be kept, by this strike list.
@@ -107,25 +110,26 @@ pub data Finding : Type 0 where
   bad : Fault → Finding
   crowded : Finding
   short : (b : ℕ) → Finding
-  keeps : (livable states : List ℕ) (a : ℕ) → Finding
+  can : (livable states : List ℕ) (a : ℕ) → Finding
   cannot : (states words : List ℕ) → Finding
 
 -- a good sheet whose R states have room
 pub record Roomy (sheet : List ℕ) (lent : Lent) : Type 0 where
   pub good : firstFault sheet ≡ none
   pub reached : ℕ
-  pub number : Number (Reachable (systemIn sheet)) reached
+  pub number : IsR (systemIn sheet) reached
   pub room : reached ≤ capacity lent
 
--- "A bad sheet comes before 11, 11 before 12": when each finding is the true one. "11: R above C, and only then."
+-- "A bad sheet comes before 11, 11 before 12": when each finding is the true one. Of 11: "R above C, and
+-- only then". (That an obeying run exists would follow from the run paper; it is said because demand 2 says it.)
 abbrev pub Found : List ℕ → Lent → Finding → Type 0
 Found sheet lent (bad f) = firstFault sheet ≡ some f
 Found sheet lent crowded =
-    (firstFault sheet ≡ none) × ((r : ℕ) × Number (Reachable (systemIn sheet)) r × (capacity lent < r))
+    (firstFault sheet ≡ none) × ((r : ℕ) × IsR (systemIn sheet) r × (capacity lent < r))
 Found sheet lent (short b) =
     Roomy sheet lent × CanBeKept (systemIn sheet)
     × ((states : List ℕ) × (a : ℕ) × RunPaper (systemIn sheet) states a × (length states ≡ b)) × (length (lent .run) < b)
-Found sheet lent (keeps livable states a) =
+Found sheet lent (can livable states a) =
     Roomy sheet lent × CanBeKept (systemIn sheet)
     × Lists (Livable (systemIn sheet)) livable × RunPaper (systemIn sheet) states a × (length states ≤ length (lent .run))
 Found sheet lent (cannot states words) =
@@ -150,7 +154,7 @@ unfolding over zeros cleared
 outcome lent (bad f) = record { answer = numberOf (f .why); count = 0; a = 0; b = 0; leaves = lent }
 outcome lent crowded = record { answer = 11; count = 0; a = 0; b = 0; leaves = cleared lent }
 outcome lent (short b) = record { answer = 12; count = 0; a = 0; b = b; leaves = cleared lent }
-outcome lent (keeps livable states a) = record {
+outcome lent (can livable states a) = record {
   answer = 0;
   count = length livable;
   a = a;
@@ -181,7 +185,7 @@ pub record Judged (sheet : List ℕ) (lent : Lent) (o : Outcome) : Type 0 where
   pub found : Found sheet lent finding
   pub returned : o ≡ outcome lent finding
 
--- naxxurbi_judge: the same, its four numbers in `out`, in the order answer, count, a, b. `out` is the returned value and no lent slice:
+-- The judge's C form, which returns nothing else: the same, its four numbers in `out`, in the order answer, count, a, b. `out` is the returned value and no lent slice:
 -- what stood in it before plays no part, and it is written on every answer, 1 to 10 too.
 pub record JudgedOut (sheet : List ℕ) (lent : Lent) (out : List ℕ) (leaves : Lent) : Type 0 where
   pub judged : Outcome

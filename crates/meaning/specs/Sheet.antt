@@ -41,10 +41,28 @@ abbrev pub _then_ : Option Fault → Option Fault → Option Fault
 none then later = later
 some f then later = some f
 
+-- ---- document 01's numbers
+
+-- "below 8 or above 4,096 bytes", "n not 1 to 24", "over 32 limits or 16 promises"
+abbrev pub leastBytes : ℕ
+leastBytes = 8
+
+abbrev pub mostBytes : ℕ
+mostBytes = 4096
+
+abbrev pub mostLetters : ℕ
+mostLetters = 24
+
+abbrev pub mostLimits : ℕ
+mostLimits = 32
+
+abbrev pub mostPromises : ℕ
+mostPromises = 16
+
 -- ---- literals
 
 -- "A literal is a signed byte in two's complement: k means letter k holds, minus k means it does not": bytes below 128 are 0 to 127, and
--- byte b from 128 on is b - 256. `positive` is its sign, `size` its size; the size of -128 is 128.
+-- byte b from 128 on is b - 256. `positive` is its sign (zero is refused by `names`), `size` its size; the size of -128 is 128.
 unfoldable pub positive : ℕ → Bool
 positive b = ltb b 128
 
@@ -52,7 +70,7 @@ unfoldable pub size : ℕ → ℕ
 unfolding positive
 size b = cond (positive b) b (256 - b)
 
--- "ascend strictly as signed numbers, so -2 stands before -1 before 1": signed b + 128 is 0 for -128 up to 255 for 127
+-- "ascend strictly as signed numbers, so -2 stands before -1 before 1": the signed value plus 128 runs from 0 (for -128) to 255 (for 127)
 unfoldable pub signedBelow : ℕ → ℕ → Bool
 signedBelow b c = ltb ((b + 128) % 256) ((c + 128) % 256)
 
@@ -62,18 +80,18 @@ unfolding size
 names n b = leb 1 (size b) && leb (size b) n
 
 -- One list's literals, the first at place `at`: "each literal 8 before 9".
-unfoldable pub literals : ℕ → ℕ → ℕ → List ℕ → Option Fault
+unfoldable pub literalsFault : ℕ → ℕ → ℕ → List ℕ → Option Fault
 unfolding names signedBelow
-literals n at before [] = none
-literals n at before (b ∷ bs) =
+literalsFault n at before [] = none
+literalsFault n at before (b ∷ bs) =
     unless (names n b) badLiteral at
     then unless (signedBelow before b) notAscending at
-    then literals n (suc at) b bs
+    then literalsFault n (suc at) b bs
 
 -- Before the first literal stands byte 128, that is -128: below every literal that names a letter.
-unfoldable pub list : ℕ → ℕ → List ℕ → Option Fault
-unfolding literals
-list n at bs = literals n at 128 bs
+unfoldable pub listFault : ℕ → ℕ → List ℕ → Option Fault
+unfolding literalsFault
+listFault n at bs = literalsFault n at 128 bs
 
 -- ---- records
 
@@ -103,20 +121,20 @@ unfoldable pub promiseOf : List ℕ → ℕ
 promiseOf body = getD body 0 0
 
 -- "Each record is judged on its own bytes": its fault, where its length byte stands at `at`. "In a record 6, 7, then each literal 8
--- before 9"; 6 is in `records`. "A step rule's two sides are two lists."
+-- before 9"; 6 is in `recordsFault`. "A step rule's two sides are two lists."
 unfoldable pub recordFault : Kind → ℕ → ℕ → List ℕ → Option Fault
-unfolding limitOf stepOf list
+unfolding limitOf stepOf listFault
 recordFault aLimit n at body =
     unless (leb 2 (length body) && leb (getD body 0 0) 1) badShape at
-    then list n (at + 3) (limitOf body .among)
-recordFault aFirst n at body = list n (at + 1) body
+    then listFault n (at + 3) (limitOf body .among)
+recordFault aFirst n at body = listFault n (at + 1) body
 recordFault aStep n at body =
     unless (leb 1 (length body) && leb (getD body 0 0) (length body - 1)) badShape at
-    then list n (at + 2) (stepOf body .left)
-    then list n (at + 2 + getD body 0 0) (stepOf body .right)
+    then listFault n (at + 2) (stepOf body .left)
+    then listFault n (at + 2 + getD body 0 0) (stepOf body .right)
 recordFault aPromise n at body =
     unless (eqb (length body) 1) badShape at
-    then list n (at + 1) body
+    then listFault n (at + 1) body
 
 -- ---- where things stand
 
@@ -145,15 +163,16 @@ bodies s (suc count) at = bodyAt s at ∷ bodies s count (nextAt s at)
 
 -- The first fault of `count` records of a kind from `at` on. 6: "record missing or past the end" (past the sheet's end `byte` is 0, so a
 -- missing length byte fails the same test).
-unfoldable pub records : Kind → ℕ → List ℕ → ℕ → ℕ → Option Fault
+unfoldable pub recordsFault : Kind → ℕ → List ℕ → ℕ → ℕ → Option Fault
 unfolding recordFault bodyAt nextAt
-records kind n s zero at = none
-records kind n s (suc count) at =
+recordsFault kind n s zero at = none
+recordsFault kind n s (suc count) at =
     unless (leb (nextAt s at) (length s)) recordMissing at
     then recordFault kind n at (bodyAt s at)
-    then records kind n s count (nextAt s at)
+    then recordsFault kind n s count (nextAt s at)
 
--- "Byte 3 is n, the number of letters .. Bytes 4 to 7 count limits, first rules, step rules, promises. The records follow in that order."
+-- "Byte 3 is n, the number of letters .. Bytes 4 to 7 count limits (..), first rules (..), step rules (..), promises (..). The records
+-- follow in that order."
 unfoldable pub lettersIn : List ℕ → ℕ
 unfolding byte
 lettersIn s = byte s 3
@@ -176,26 +195,24 @@ endAt s = afterAt s (byte s 7) (promisesAt s)
 
 -- ---- the whole sheet
 
-unfoldable pub mostLetters : ℕ
-mostLetters = 24
-
 -- The first fault of a sheet, none if it is good: "1 to 5 in that order, then the records; .. 10 last".
 unfoldable pub firstFault : List ℕ → Option Fault
-unfolding byte lettersIn firstsAt stepsAt promisesAt endAt records mostLetters
+unfolding byte lettersIn firstsAt stepsAt promisesAt endAt recordsFault
 firstFault s =
-    unless (leb 8 (length s) && leb (length s) 4096) badSize 0
+    unless (leb leastBytes (length s) && leb (length s) mostBytes) badSize 0
     then unless (eqb (byte s 0) 1) badVersion 0
     then unless (eqb (byte s 1 * 256 + byte s 2) (length s)) badLength 1
     then unless (leb 1 (lettersIn s) && leb (lettersIn s) mostLetters) badLetters 3
-    then unless (leb (byte s 4) 32) tooMany 4
-    then unless (leb (byte s 7) 16) tooMany 7
-    then records aLimit (lettersIn s) s (byte s 4) 8
-    then records aFirst (lettersIn s) s (byte s 5) (firstsAt s)
-    then records aStep (lettersIn s) s (byte s 6) (stepsAt s)
-    then records aPromise (lettersIn s) s (byte s 7) (promisesAt s)
+    then unless (leb (byte s 4) mostLimits) tooMany 4
+    then unless (leb (byte s 7) mostPromises) tooMany 7
+    then recordsFault aLimit (lettersIn s) s (byte s 4) 8
+    then recordsFault aFirst (lettersIn s) s (byte s 5) (firstsAt s)
+    then recordsFault aStep (lettersIn s) s (byte s 6) (stepsAt s)
+    then recordsFault aPromise (lettersIn s) s (byte s 7) (promisesAt s)
     then unless (eqb (endAt s) (length s)) surplus (endAt s)
 
--- What a good sheet says; "those of one kind are numbered from 1", in the order in which they stand.
+-- What a good sheet says; "those of one kind are numbered from 1", in the order in which they stand. (Of a bad sheet `decode` says
+-- something too, which no promise uses.)
 pub record Sheet : Type 0 where
   pub letters : ℕ
   pub limits : List Limit

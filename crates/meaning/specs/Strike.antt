@@ -8,7 +8,8 @@ use Prim.Native.Nat.{ℕ, zero, suc, _+_, _*_, _/_, _%_, _<_}
 use lib.ListN.{length, getD}
 use Rattle.meaning.specs.System.{System, Reachable, In}
 
--- A path: n moves, through states of U only (s itself included), lead from s to a state where G is true. "A path of no moves counts."
+-- A path: n moves, through states of U only (s itself included), lead from s to a state where G is true. A path of no
+-- moves counts (docs/DECISIONS.md).
 abbrev pub Way : (S : System) (U G : ℕ → Type 0) → ℕ → ℕ → Type 0
 Way S U G zero s = U s × G s
 Way S U G (suc n) s = U s × ((t : ℕ) × S .Move s t × Way S U G n t)
@@ -40,9 +41,9 @@ abbrev pub wordOf : System → ℕ → ℕ
 wordOf S n = 32 * roundOf S n + reasonOf S n
 
 -- The strike list of a system in which all reachable states are struck. "States of one word stand in ascending order; words ascend."
--- (A round that strikes nothing would be followed by none that does, so "stop after a round that strikes nothing" changes no word.)
+-- ("Stop after a round that strikes nothing" changes no word: a quiet round is followed by none that strikes, `quiet-stays`.)
 pub record StrikeList (S : System) (states words : List ℕ) : Type 0 where
-  pub even : length words ≡ length states
+  pub as-many : length words ≡ length states
   pub ordered : (i : ℕ) → suc i < length states
       → (getD words i 0 < getD words (suc i) 0) ⊎ ((getD words i 0 ≡ getD words (suc i) 0) × (getD states i 0 < getD states (suc i) 0))
   pub struck : (i : ℕ) → i < length states → (n : ℕ) × Struck S n (getD states i 0) × (getD words i 0 ≡ wordOf S n)

@@ -7,8 +7,8 @@ use mathlib.Core.List.{List}
 use Prim.Native.Nat.{ℕ, zero, suc, _≤_, _<_}
 use lib.ListN.{length, getD}
 
--- Lawful states, first states, moves, how many promises there are, and at which states promise k (counted from 0 here, so it is the
--- document's promise k + 1) is kept.
+-- Lawful states, first states, moves, how many promises there are, and at which states promise k is kept. Promises are counted from 0 here,
+-- so `Kept k` is the document's promise k + 1; it is asked only for k below their number.
 pub record System : Type 1 where
   pub Lawful : ℕ → Type 0
   pub First : ℕ → Type 0
@@ -56,11 +56,20 @@ pub record Lists (P : ℕ → Type 0) (l : List ℕ) : Type 0 where
   pub sound : (i : ℕ) → i < length l → P (getD l i 0)
   pub whole : (s : ℕ) → P s → In l s
 
--- "The number of states" of P is n: R is the number of reachable states, K that of livable ones.
+-- the number of states of P is n
 pub record Number (P : ℕ → Type 0) (n : ℕ) : Type 0 where
   pub list : List ℕ
   pub lists : Lists P list
   pub counted : length list ≡ n
+
+-- "R is the number of states reachable by moves from first states"; "K is the number of states that occur in some obeying run"
+abbrev pub IsR : System → ℕ → Type 0
+IsR S r = Number (Reachable S) r
+
+abbrev pub IsK : System → ℕ → Type 0
+IsK S k = Number (Livable S) k
+
+-- ---- used by theorems only
 
 -- A system whose states lie below a bound and whose tests can be made. The theorems that something exists ask for it; every sheet's
 -- system is one.

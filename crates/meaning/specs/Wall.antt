@@ -5,7 +5,7 @@ use mathlib.Core.Option.{none}
 use mathlib.Core.List.{List, [], _∷_}
 use Prim.Native.Nat.{ℕ, _*_}
 use lib.ListN.{length}
-use Rattle.meaning.specs.System.{System, CanBeKept, Livable, Reachable, Lists, Number}
+use Rattle.meaning.specs.System.{System, CanBeKept, Lists, IsR, IsK}
 use Rattle.meaning.specs.Strike.{StrikeList}
 use Rattle.meaning.specs.Sample.{RunPaper}
 use Rattle.meaning.specs.Sheet.{firstFault}
@@ -23,9 +23,9 @@ pub data Claim : Type 0 where
 abbrev pub Claimed : System → Claim → Type 0
 Claimed S (lawfulAre l) = Lists (S .Lawful) l
 Claimed S (firstsAre l) = Lists (S .First) l
-Claimed S (canBeKept K run a b) = CanBeKept S × Number (Livable S) K × RunPaper S run a × (length run ≡ b)
-Claimed S (canBeKeptAtLimit K run a b) = CanBeKept S × Number (Livable S) K × RunPaper S run a × (length run ≡ b) × (b ≡ K * S .promises)
-Claimed S (cannotBeKept R states words) = (CanBeKept S → ⊥) × Number (Reachable S) R × StrikeList S states words
+Claimed S (canBeKept K run a b) = CanBeKept S × IsK S K × RunPaper S run a × (length run ≡ b)
+Claimed S (canBeKeptAtLimit K run a b) = CanBeKept S × IsK S K × RunPaper S run a × (length run ≡ b) × (b ≡ K * S .promises)
+Claimed S (cannotBeKept R states words) = (CanBeKept S → ⊥) × IsR S R × StrikeList S states words
 
 pub record Example : Type 0 where
   pub sheet : List ℕ
