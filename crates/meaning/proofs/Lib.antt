@@ -14,3 +14,8 @@ pub mod SampleRun
 pub mod Bounds
 pub mod Exists
 pub mod Logic
+pub mod SheetSystem
+pub mod Judging
+pub mod Promised
+pub mod Meetable
+pub mod Demands

@@ -1,0 +1,136 @@
+-- The system of a sheet: its states lie below 2 to the power of its letters and all its tests can be made, so the theorems that something
+-- exists apply to it; what is reached in it is lawful; and the system of a good sheet has at most 16 promises. Assumes nothing.
+use mathlib.Core.Path.{_≡_, refl, ap}
+use mathlib.Core.Bool.{Bool, true, false, _&&_}
+use mathlib.Core.Option.{Option, none, some}
+use mathlib.Core.List.{List}
+use Prim.Native.Nat.{ℕ, zero, suc, _+_, _*_, _^_, _≤_, _<_}
+use native.Mathlib.Omega.{arith}
+use lib.Dec.{T, leb, ltb, eqb, ltb→lt, leb→le}
+use lib.ListN.{length, length-map}
+use Rattle.meaning.specs.System.{Finite, Reachable}
+use Rattle.meaning.specs.Sheet.{
+  Why,
+  badSize,
+  badVersion,
+  badLength,
+  badLetters,
+  tooMany,
+  Fault,
+  unless,
+  _then_,
+  byte,
+  nextAt,
+  bodies,
+  lettersIn,
+  mostLetters,
+  firstFault,
+  Sheet,
+  decode,
+}
+use Rattle.meaning.specs.Rules.{someTrue, limitHolds, every, lawful, firstState, stepHolds, moves, kept, systemOf}
+use Rattle.meaning.specs.Promises.{systemIn}
+
+-- ---- tests
+
+-- a test can be made
+T? : (b : Bool) → Dec (T b)
+T? true = yes tt
+T? false = no (λ t. t)
+
+-- of two tests that pass together each passes
+left-passes : (a b : Bool) → T (a && b) → T a
+left-passes true b t = tt
+left-passes false b t = t
+
+right-passes : (a b : Bool) → T (a && b) → T b
+right-passes true b t = t
+right-passes false b t = absurd t
+
+-- ---- lawful states
+
+-- A first state is lawful.
+first-lawful : (sheet : Sheet) (s : ℕ) → T (firstState sheet s) → T (lawful sheet s)
+unfolding firstState
+first-lawful sheet s t = left-passes (lawful sheet s) (every (someTrue s) (sheet .firsts)) t
+
+-- A move leads to a lawful state.
+move-lawful : (sheet : Sheet) (s t : ℕ) → T (moves sheet s t) → T (lawful sheet t)
+unfolding moves
+move-lawful sheet s t m =
+    right-passes (lawful sheet s) (lawful sheet t)
+    (left-passes (lawful sheet s && lawful sheet t) (every (stepHolds s t) (sheet .steps)) m)
+
+-- A lawful state is a number below 2 to the power of the letters.
+lawful-below : (sheet : Sheet) (s : ℕ) → T (lawful sheet s) → s < 2 ^ sheet .letters
+unfolding lawful
+lawful-below sheet s t =
+    ltb→lt s (2 ^ sheet .letters) (left-passes (ltb s (2 ^ sheet .letters)) (every (limitHolds s) (sheet .limits)) t)
+
+-- The system of a sheet is finite.
+pub finite-of : (sheet : Sheet) → Finite (systemOf sheet)
+unfolding systemOf
+finite-of sheet = record {
+  bound = 2 ^ sheet .letters;
+  first-below = λ s t. lawful-below sheet s (first-lawful sheet s t);
+  move-below = λ s t m. lawful-below sheet t (move-lawful sheet s t m);
+  lawful? = λ s. T? (lawful sheet s);
+  first? = λ s. T? (firstState sheet s);
+  move? = λ s t. T? (moves sheet s t);
+  kept? = λ k s. T? (kept sheet k s);
+}
+
+-- So is the system that stands in a sheet's bytes.
+pub finite-in : (bytes : List ℕ) → Finite (systemIn bytes)
+unfolding systemIn
+finite-in bytes = finite-of (decode bytes)
+
+-- What is reached in a sheet's system is lawful.
+pub reachable-lawful : (sheet : Sheet) (s : ℕ) → Reachable (systemOf sheet) s → systemOf sheet .Lawful s
+unfolding systemOf
+reachable-lawful sheet s (zero, first) = first-lawful sheet s first
+reachable-lawful sheet s (suc n, (r, reached, move)) = move-lawful sheet r s move
+
+-- So it is in the system that stands in a sheet's bytes.
+pub reachable-lawful-in : (bytes : List ℕ) (s : ℕ) → Reachable (systemIn bytes) s → systemIn bytes .Lawful s
+unfolding systemIn
+reachable-lawful-in bytes = reachable-lawful (decode bytes)
+
+-- ---- the number of promises
+
+-- where the first of two checks finds nothing, and then the second, both found nothing
+first-none : (x y : Option Fault) → x then y ≡ none → x ≡ none
+first-none none y e = refl
+first-none (some f) y e = e
+
+second-none : (x y : Option Fault) → x then y ≡ none → y ≡ none
+second-none none y e = e
+second-none (some f) y e = cc
+
+-- a check that finds nothing passed
+none-passes : (b : Bool) (why : Why) (at : ℕ) → unless b why at ≡ none → T b
+none-passes true why at e = tt
+none-passes false why at e = let z : _≡_ {A = ℕ} 0 1 = cc in absurd (omega arith)
+
+-- There are as many bodies as records.
+length-bodies : (bytes : List ℕ) (count at : ℕ) → length (bodies bytes count at) ≡ count
+unfolding bodies
+length-bodies bytes zero at = refl
+length-bodies bytes (suc count) at = ap suc (length-bodies bytes count (nextAt bytes at))
+
+-- The check on byte 7 passed in a good sheet: it comes behind those on the size, the version, the length, the letters and the limits.
+byte-7-checked : (bytes : List ℕ) → firstFault bytes ≡ none → T (leb (byte bytes 7) 16)
+unfolding firstFault
+byte-7-checked bytes e =
+    let n : ℕ = length bytes in
+    let past-size = second-none (unless (leb 8 n && leb n 4096) badSize 0) _ e in
+    let past-version = second-none (unless (eqb (byte bytes 0) 1) badVersion 0) _ past-size in
+    let past-length = second-none (unless (eqb (byte bytes 1 * 256 + byte bytes 2) n) badLength 1) _ past-version in
+    let past-letters = second-none (unless (leb 1 (lettersIn bytes) && leb (lettersIn bytes) mostLetters) badLetters 3) _ past-length in
+    let past-limits = second-none (unless (leb (byte bytes 4) 32) tooMany 4) _ past-letters in
+    none-passes (leb (byte bytes 7) 16) tooMany 7 (first-none _ _ past-limits)
+
+-- A good sheet has at most 16 promises.
+pub few-promises : (bytes : List ℕ) → firstFault bytes ≡ none → systemIn bytes .promises ≤ 16
+unfolding systemIn systemOf decode
+few-promises bytes e = rw (length-map, length-bodies) (leb→le (byte bytes 7) 16 (byte-7-checked bytes e))
