@@ -7,7 +7,7 @@ use mathlib.Core.List.{List, [], _∷_, map}
 use Prim.Native.Nat.{ℕ, zero, suc, _≤_, _<_, zero-le, suc-le-suc}
 use native.Mathlib.Nat.{le-of-suc-le-suc, not-suc-le-zero, zero-lt-suc}
 use native.Mathlib.Omega.{arith}
-use lib.Dec.{T}
+use lib.Dec.{T, ltb, lt→ltb}
 use lib.ListN.{length, getD}
 use Rattle.meaning.specs.System.{Obeys}
 use Rattle.meaning.specs.Sheet.{Sheet, StepRule}
@@ -93,6 +93,10 @@ first-parts : (sheet : Sheet) (s : ℕ) → T (firstState sheet s) ↔ (T (lawfu
 unfolding firstState
 first-parts sheet s = and-T (lawful sheet s) (every (someTrue s) (sheet .firsts))
 
+kept-parts : (sheet : Sheet) (k s : ℕ) → T (kept sheet k s) ↔ (T (ltb k (length (sheet .promises))) × T (trueIn s (getD (sheet .promises) k 0)))
+unfolding kept
+kept-parts sheet k s = and-T (ltb k (length (sheet .promises))) (trueIn s (getD (sheet .promises) k 0))
+
 step-clauses : (sheet : Sheet) (σ : ℕ → ℕ) (i : ℕ)
     → T (every (stepHolds (σ i) (σ (suc i))) (sheet .steps)) ↔ Sat σ i (allOf (map stepClause (sheet .steps)))
 step-clauses sheet σ i = every-clause σ i (stepHolds (σ i) (σ (suc i))) stepClause (step-clause σ i) (sheet .steps)
@@ -110,7 +114,8 @@ obeys-is-model sheet σ o = record {
     initial-clauses sheet σ (o .run .starts) i,
     (
       step-clauses sheet σ i .0 (move-parts sheet (σ i) (σ (suc i)) .0 (o .run .goes i) .2),
-      promise-clauses σ i (sheet .promises) .0 (λ k b. o .keeps k b i),
+      promise-clauses σ i (sheet .promises) .0
+          (λ k b. (o .keeps k b i .0, o .keeps k b i .1, kept-parts sheet k (σ (o .keeps k b i .0)) .0 (o .keeps k b i .2) .1)),
     ),
   );
 }
@@ -123,7 +128,8 @@ model-obeys sheet σ m = record {
     starts = first-parts sheet (σ 0) .1 (m .constrained 0, initial-now σ (sheet .firsts) .1 (m .satisfied 0 zero-le .0));
     goes = λ i. move-parts sheet (σ i) (σ (suc i)) .1 (m .constrained i, m .constrained (suc i), step-clauses sheet σ i .1 (m .satisfied i zero-le .1 .0));
   };
-  keeps = λ k b i. promise-clauses σ i (sheet .promises) .1 (m .satisfied i zero-le .1 .1) k b;
+  keeps = λ k b i. let (j, late, now) = promise-clauses σ i (sheet .promises) .1 (m .satisfied i zero-le .1 .1) k b in
+      (j, late, kept-parts sheet k (σ j) .1 (lt→ltb k (length (sheet .promises)) b, now));
 }
 
 -- "by the meaning in source document 000": a sequence of states obeys exactly if it is a model

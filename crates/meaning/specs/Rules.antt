@@ -66,10 +66,10 @@ unfoldable pub moves : Sheet → ℕ → ℕ → Bool
 unfolding lawful every stepHolds
 moves sheet s t = lawful sheet s && lawful sheet t && every (stepHolds s t) (sheet .steps)
 
--- promise k + 1's literal is true in s
+-- promise k + 1's literal is true in s (past the last promise there is none to keep)
 unfoldable pub kept : Sheet → ℕ → ℕ → Bool
 unfolding trueIn
-kept sheet k s = trueIn s (getD (sheet .promises) k 0)
+kept sheet k s = ltb k (length (sheet .promises)) && trueIn s (getD (sheet .promises) k 0)
 
 -- the system of a sheet
 unfoldable pub systemOf : Sheet → System
