@@ -13,9 +13,14 @@ pub mod Unique
 pub mod SampleRun
 pub mod Bounds
 pub mod Exists
-pub mod Logic
+pub mod Parts
 pub mod SheetSystem
 pub mod Judging
 pub mod Promised
 pub mod Meetable
 pub mod Demands
+pub mod Tests
+pub mod Tables
+pub mod Walled
+pub mod Idle
+pub mod Logic

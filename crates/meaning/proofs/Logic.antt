@@ -2,21 +2,18 @@
 -- sheet's normal form at moment 0. Assumes nothing.
 use mathlib.Core.Path.{refl}
 use mathlib.Core.Logic.{_↔_, _⊎_, inl, inr}
-use mathlib.Core.Bool.{Bool, true, false, not, _&&_, _||_}
+use mathlib.Core.Bool.{Bool, true, false, not, _||_}
 use mathlib.Core.List.{List, [], _∷_, map}
 use Prim.Native.Nat.{ℕ, zero, suc, _≤_, _<_, zero-le, suc-le-suc}
 use native.Mathlib.Nat.{le-of-suc-le-suc, not-suc-le-zero, zero-lt-suc}
 use native.Mathlib.Omega.{arith}
-use lib.Dec.{T, ltb, lt→ltb}
+use lib.Dec.{T, lt→ltb}
 use lib.ListN.{length, getD}
 use Rattle.meaning.specs.System.{Obeys}
 use Rattle.meaning.specs.Sheet.{Sheet, StepRule}
-use Rattle.meaning.specs.Rules.{trueIn, someTrue, allTrue, every, lawful, firstState, stepHolds, moves, kept, systemOf}
+use Rattle.meaning.specs.Rules.{trueIn, someTrue, allTrue, every, firstState, stepHolds, kept, systemOf}
+use Rattle.meaning.proofs.Parts.{and-parts, first-parts, move-parts, kept-parts}
 use Rattle.meaning.specs.Logic.{Formula, literal, Sat, allOf, someOf, initialClause, stepClause, sometimeClause, Model}
-
-and-T : (a b : Bool) → T (a && b) ↔ (T a × T b)
-and-T true b = (λ t. (tt, t), λ t. t .1)
-and-T false b = (λ t. absurd t, λ t. t .0)
 
 -- an or-list is true at moment i exactly if the disjunction is
 some-true : (σ : ℕ → ℕ) (i : ℕ) (ls : List ℕ) → T (someTrue (σ i) ls) ↔ Sat σ i (someOf (map literal ls))
@@ -33,7 +30,7 @@ all-true : (σ : ℕ → ℕ) (i : ℕ) (ls : List ℕ) → T (allTrue (σ i) ls
 unfolding allTrue
 all-true σ i [] = (λ t. t, λ t. t)
 all-true σ i (l ∷ ls) =
-    let e = and-T (trueIn (σ i) l) (allTrue (σ i) ls) in
+    let e = and-parts (trueIn (σ i) l) (allTrue (σ i) ls) in
     let f = all-true σ i ls in
     (λ t. (e .0 t .0, f .0 (e .0 t .1)), λ t. e .1 (t .0, f .1 (t .1)))
 
@@ -43,7 +40,7 @@ every-clause : {A : Type 0} (σ : ℕ → ℕ) (i : ℕ) (test : A → Bool) (cl
 unfolding every
 every-clause σ i test clause same [] = (λ t. t, λ t. t)
 every-clause σ i test clause same (x ∷ xs) =
-    let e = and-T (test x) (every test xs) in
+    let e = and-parts (test x) (every test xs) in
     let f = every-clause σ i test clause same xs in
     (λ t. (same x .0 (e .0 t .0), f .0 (e .0 t .1)), λ t. e .1 (same x .1 (t .0), f .1 (t .1)))
 
@@ -80,22 +77,6 @@ promise-clauses σ i (l ∷ ls) =
       λ h. (λ t. (h 0 (zero-lt-suc _) .0, h 0 (zero-lt-suc _) .1, h 0 (zero-lt-suc _) .2, λ j a b. tt), rest .0 (λ k b. h (suc k) (suc-le-suc b))),
       λ h. again-cons σ i l ls (rest .1 (h .1)) (h .0 tt .0, h .0 tt .1, h .0 tt .2),
     )
-
--- a move is two lawful states and every step rule's clause
-move-parts : (sheet : Sheet) (s t : ℕ) → T (moves sheet s t) ↔ (T (lawful sheet s) × T (lawful sheet t) × T (every (stepHolds s t) (sheet .steps)))
-unfolding moves
-move-parts sheet s t =
-    let outer = and-T (lawful sheet s && lawful sheet t) (every (stepHolds s t) (sheet .steps)) in
-    let inner = and-T (lawful sheet s) (lawful sheet t) in
-    (λ m. (inner .0 (outer .0 m .0) .0, inner .0 (outer .0 m .0) .1, outer .0 m .1), λ p. outer .1 (inner .1 (p .0, p .1), p .2))
-
-first-parts : (sheet : Sheet) (s : ℕ) → T (firstState sheet s) ↔ (T (lawful sheet s) × T (every (someTrue s) (sheet .firsts)))
-unfolding firstState
-first-parts sheet s = and-T (lawful sheet s) (every (someTrue s) (sheet .firsts))
-
-kept-parts : (sheet : Sheet) (k s : ℕ) → T (kept sheet k s) ↔ (T (ltb k (length (sheet .promises))) × T (trueIn s (getD (sheet .promises) k 0)))
-unfolding kept
-kept-parts sheet k s = and-T (ltb k (length (sheet .promises))) (trueIn s (getD (sheet .promises) k 0))
 
 step-clauses : (sheet : Sheet) (σ : ℕ → ℕ) (i : ℕ)
     → T (every (stepHolds (σ i) (σ (suc i))) (sheet .steps)) ↔ Sat σ i (allOf (map stepClause (sheet .steps)))

@@ -4,9 +4,9 @@ use mathlib.Core.Path.{_≡_, refl, ap}
 use mathlib.Core.Bool.{Bool, true, false, _&&_}
 use mathlib.Core.Option.{Option, none, some}
 use mathlib.Core.List.{List}
-use Prim.Native.Nat.{ℕ, zero, suc, _+_, _*_, _^_, _≤_, _<_}
+use Prim.Native.Nat.{ℕ, zero, suc, _+_, _*_, _^_, _≤_}
 use native.Mathlib.Omega.{arith}
-use lib.Dec.{T, leb, ltb, eqb, ltb→lt, leb→le}
+use lib.Dec.{T, leb, eqb, leb→le}
 use lib.ListN.{length, length-map}
 use Rattle.meaning.specs.System.{Finite, Reachable}
 use Rattle.meaning.specs.Sheet.{
@@ -28,52 +28,17 @@ use Rattle.meaning.specs.Sheet.{
   Sheet,
   decode,
 }
-use Rattle.meaning.specs.Rules.{someTrue, limitHolds, every, lawful, firstState, stepHolds, moves, kept, systemOf}
+use Rattle.meaning.specs.Rules.{lawful, firstState, moves, kept, systemOf}
 use Rattle.meaning.specs.Promises.{systemIn}
-
--- ---- tests
-
--- a test can be made
-T? : (b : Bool) → Dec (T b)
-T? true = yes tt
-T? false = no (λ t. t)
-
--- of two tests that pass together each passes
-left-passes : (a b : Bool) → T (a && b) → T a
-left-passes true b t = tt
-left-passes false b t = t
-
-right-passes : (a b : Bool) → T (a && b) → T b
-right-passes true b t = t
-right-passes false b t = absurd t
-
--- ---- lawful states
-
--- A first state is lawful.
-first-lawful : (sheet : Sheet) (s : ℕ) → T (firstState sheet s) → T (lawful sheet s)
-unfolding firstState
-first-lawful sheet s t = left-passes (lawful sheet s) (every (someTrue s) (sheet .firsts)) t
-
--- A move leads to a lawful state.
-move-lawful : (sheet : Sheet) (s t : ℕ) → T (moves sheet s t) → T (lawful sheet t)
-unfolding moves
-move-lawful sheet s t m =
-    right-passes (lawful sheet s) (lawful sheet t)
-    (left-passes (lawful sheet s && lawful sheet t) (every (stepHolds s t) (sheet .steps)) m)
-
--- A lawful state is a number below 2 to the power of the letters.
-lawful-below : (sheet : Sheet) (s : ℕ) → T (lawful sheet s) → s < 2 ^ sheet .letters
-unfolding lawful
-lawful-below sheet s t =
-    ltb→lt s (2 ^ sheet .letters) (left-passes (ltb s (2 ^ sheet .letters)) (every (limitHolds s) (sheet .limits)) t)
+use Rattle.meaning.proofs.Parts.{T?, lawful-below, first-parts, move-parts}
 
 -- The system of a sheet is finite.
 pub finite-of : (sheet : Sheet) → Finite (systemOf sheet)
 unfolding systemOf
 finite-of sheet = record {
   bound = 2 ^ sheet .letters;
-  first-below = λ s t. lawful-below sheet s (first-lawful sheet s t);
-  move-below = λ s t m. lawful-below sheet t (move-lawful sheet s t m);
+  first-below = λ s t. lawful-below sheet s (first-parts sheet s .0 t .0);
+  move-below = λ s t m. lawful-below sheet t (move-parts sheet s t .0 m .1);
   lawful? = λ s. T? (lawful sheet s);
   first? = λ s. T? (firstState sheet s);
   move? = λ s t. T? (moves sheet s t);
@@ -88,8 +53,8 @@ finite-in bytes = finite-of (decode bytes)
 -- What is reached in a sheet's system is lawful.
 pub reachable-lawful : (sheet : Sheet) (s : ℕ) → Reachable (systemOf sheet) s → systemOf sheet .Lawful s
 unfolding systemOf
-reachable-lawful sheet s (zero, first) = first-lawful sheet s first
-reachable-lawful sheet s (suc n, (r, reached, move)) = move-lawful sheet r s move
+reachable-lawful sheet s (zero, first) = first-parts sheet s .0 first .0
+reachable-lawful sheet s (suc n, (r, reached, move)) = move-parts sheet r s .0 move .1
 
 -- So it is in the system that stands in a sheet's bytes.
 pub reachable-lawful-in : (bytes : List ℕ) (s : ℕ) → Reachable (systemIn bytes) s → systemIn bytes .Lawful s
