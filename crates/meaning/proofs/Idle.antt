@@ -14,21 +14,7 @@ use Rattle.meaning.specs.Strike.{Left, Struck}
 use Rattle.meaning.specs.Sample.{RunPaper}
 use Rattle.meaning.specs.Papers.{RunAccepted}
 use Rattle.meaning.specs.Sheet.{firstFault}
-use Rattle.meaning.specs.Promises.{
-  systemIn,
-  accepted,
-  refused,
-  RunChecked,
-  StrikesChecked,
-  Lent,
-  Outcome,
-  capacity,
-  can,
-  cannot,
-  Roomy,
-  outcome,
-  Judged,
-}
+use Rattle.meaning.specs.Promises.{systemIn, accepted, refused, RunChecked, StrikesChecked, Lent, Outcome, capacity, can, cannot, Roomy, outcome, Judged, crowded, short}
 use Rattle.meaning.specs.Wall.{w1, w2, w4, w5}
 use Rattle.meaning.proofs.Lists.{number-unique}
 use Rattle.meaning.proofs.Rounds.{strike-list-accepted}
@@ -39,7 +25,7 @@ use Rattle.meaning.proofs.Promised.{run-checked-unique, strikes-checked
 use Rattle.meaning.proofs.Demands.{RunFits, kept-hands-over, kept-run-accepted, cannot-hands-over, answers-11-exactly, short-run-leaves, demand-2}
 use Rattle.meaning.proofs.Tests.{Test, as?, same?, le?, both?, if?, each?, any?, lists?}
 use Rattle.meaning.proofs.Tables.{Testable, left-below, struck?, left?}
-use Rattle.meaning.proofs.Walled.{tests-in, lawful-list?, reachable-list?, w1-kept, w4-struck, w5-struck}
+use Rattle.meaning.proofs.Walled.{tests-in, lawful-list?, reachable-list?, w1-kept, w2-kept, w4-struck, w5-struck}
 
 -- ---- builds, and what is lent
 
@@ -381,3 +367,41 @@ hands-back-no-run {sheet} {o = o} j kept =
     let h = kept-hands-over j kept in
     let ok = kept-run-accepted h in
     (omega (arith, ok .back, h .length-is), subst (λ (l : List ℕ). RunAccepted (systemIn sheet) l (o .a)) (sym (h .run-front)) ok)
+
+-- ---- W16: W2 with too little room, and with a run slice one place short
+
+abbrev one-place : Lent
+one-place = record { table = 7 ∷ []; words = 7 ∷ 7 ∷ []; scratch = 7 ∷ 7 ∷ 7 ∷ 7 ∷ []; run = 7 ∷ 7 ∷ [] }
+
+abbrev short-run : Lent
+short-run = record { table = 7 ∷ 7 ∷ []; words = 7 ∷ 7 ∷ 7 ∷ []; scratch = 7 ∷ 7 ∷ 7 ∷ 7 ∷ 7 ∷ []; run = 7 ∷ [] }
+
+w2-reached : IsR (systemIn w2) 2
+unfolding reachable-list?
+w2-reached = lists-number (reachable-list? w2 (0 ∷ 1 ∷ []) .sound tt)
+
+-- "W2 with C=1: answer 11."
+pub w16-no-room : {o : Outcome} → Judged w2 one-place o → o ≡ record {
+  answer = 11;
+  count = 0;
+  a = 0;
+  b = 0;
+  leaves = record { table = 0 ∷ []; words = 0 ∷ 0 ∷ []; scratch = 0 ∷ 0 ∷ 0 ∷ 0 ∷ []; run = 7 ∷ 7 ∷ [] };
+}
+unfolding outcome firstFault capacity
+w16-no-room j = judged-unique j (record { finding = crowded; found = (refl, (2, w2-reached, lit≤ tt)); returned = refl })
+
+-- "With C=2 and a run slice of 1: answer 12, b=2." Words and scratch past C are zero too.
+pub w16-short-run : {o : Outcome} → Judged w2 short-run o → o ≡ record {
+  answer = 12;
+  count = 0;
+  a = 0;
+  b = 2;
+  leaves = record { table = 0 ∷ 0 ∷ []; words = 0 ∷ 0 ∷ 0 ∷ []; scratch = 0 ∷ 0 ∷ 0 ∷ 0 ∷ 0 ∷ []; run = 7 ∷ [] };
+}
+unfolding outcome firstFault capacity
+w16-short-run j = judged-unique j (record {
+  finding = short 2;
+  found = (record { good = refl; reached = 2; number = w2-reached; room = lit≤ tt }, w2-kept .0, (0 ∷ 1 ∷ [], 1, w2-kept .2, refl), lit≤ tt);
+  returned = refl;
+})
