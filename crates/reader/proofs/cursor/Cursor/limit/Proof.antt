@@ -1,0 +1,58 @@
+-- `reader::cursor::Cursor::limit`: refused for its shape, else its list. Assumes nothing.
+use mathlib.Core.Path.{_∙_, sym, subst}
+use Prim.Native.Nat.{ℕ, _≤_}
+use native.Mathlib.Omega.{arith}
+use lib.ListN.{length}
+use Rattle.meaning.specs.Sheet.{byte, nextAt}
+use Rattle.reader.proofs.Reading.{limit-short, limit-kind, limit-shaped}
+use Rattle.reader.proofs.cursor.Cursor.limit.Statement.{statement}
+use Rattle.reader.proofs.cursor.Cursor.limit.Tie as tie
+
+shared-slice-read-if1 : tie.Need-shared-slice-read-if1
+unfolding nextAt byte
+shared-slice-read-if1 c = omega arith
+
+returns : tie.Need-returns
+unfolding byte
+returns c = limit-short (c .before .before .before .args .s .now) (c .before .before .before .args .n) (c .before .before .before .args .self .at) (c .before .before .before .pre .fits) (c .if1 .taken)
+
+add-kind : tie.Need-add-kind
+unfolding nextAt byte
+add-kind c = omega arith
+
+shared-slice-read-if2 : tie.Need-shared-slice-read-if2
+unfolding nextAt byte
+shared-slice-read-if2 c = omega arith
+
+returns-2 : tie.Need-returns-2
+unfolding byte
+returns-2 c = limit-kind (c .before .before .before .before .before .args .s .now) (c .before .before .before .before .before .args .n) (c .before .before .before .before .before .args .self .at) (c .before .before .before .before .before .pre .fits) (c .before .before .if1 .left) (c .if2 .taken)
+
+limit-parts-requires : tie.Need-limit-parts-requires
+unfolding byte
+limit-parts-requires c κs = record { fits = c .before .before .before .before .before .pre .fits; long = c .before .before .if1 .left }
+
+list-requires : tie.Need-list-requires
+list-requires c κs = 
+    let p = c .limit-parts .ensures in
+    record { letters = c .before .before .before .before .before .before .pre .letters; order = p .order; within = subst (λ (e : ℕ). e ≤ length (c .before .before .before .before .before .before .args .s .now)) (sym (p .end)) (c .before .before .before .before .before .before .pre .fits) }
+
+returns-3 : tie.Need-returns-3
+unfolding byte
+returns-3 c = 
+    c .list .ensures
+    ∙ limit-shaped (c .before .before .before .before .before .before .before .args .s .now) (c .before .before .before .before .before .before .before .args .n) (c .before .before .before .before .before .before .before .args .self .at) (c .before .before .before .before .before .before .before .pre .fits)
+      (c .before .limit-parts .result) (c .before .limit-parts .ensures) (c .before .before .before .before .if1 .left) (c .before .before .if2 .left)
+
+pub limit-spec : {M : Type 1} → statement M
+limit-spec =
+    tie.close
+    (tie.spec
+    shared-slice-read-if1
+    returns
+    add-kind
+    shared-slice-read-if2
+    returns-2
+    limit-parts-requires
+    list-requires
+    returns-3)

@@ -1,0 +1,76 @@
+-- `reader::cursor::Cursor::list`: what is left of the list has the fault of the whole. Assumes nothing.
+use mathlib.Core.Path.{sym, _∙_}
+use Prim.Native.Nat.{_-_}
+use native.Mathlib.Omega.{arith}
+use borrow.Author.Tests.{not-true, not-false}
+use borrow.Author.Needs.{needs}
+use Rattle.reader.proofs.Reading.{Listing, listing-begins, listing-done, listing-names-none, listing-falls, listing-goes-on}
+use Rattle.reader.proofs.cursor.Cursor.list.Statement.{statement}
+use Rattle.reader.proofs.cursor.Cursor.list.Tie as tie
+
+abbrev Inv-loop : tie.InvT-loop
+Inv-loop s n end before₀ at₀ before at = Listing s n end at₀ before at
+
+abbrev μ-loop : tie.MeasureT-loop
+μ-loop s n end before₀ at₀ before at = end - at
+
+loop-holds : tie.Need-loop-holds Inv-loop μ-loop
+loop-holds c = listing-begins (c .before .args .s .now) (c .before .args .n) (c .before .args .self .at) (c .before .args .end) (c .before .pre .order)
+
+shared-slice-read-b : tie.Need-shared-slice-read-b Inv-loop μ-loop
+shared-slice-read-b c = omega arith
+
+names-letter-requires : tie.Need-names-letter-requires Inv-loop μ-loop
+names-letter-requires c κs = search needs
+
+returns : tie.Need-returns Inv-loop μ-loop
+returns c = 
+    let a = c .before .before .before .before .before .before .args in
+    listing-names-none (a .s .now) (a .n) (a .end) (a .self .at) (c .before .before .before .before .loop .before) (c .before .before .before .before .loop .at) (c .before .before .before .before .loop .inv)
+    (c .before .before .before .loop-test .taken) (c .before .before .before .before .before .before .pre .within) (sym (c .before .names-letter .ensures) ∙ not-true _ (c .if1 .taken))
+
+signed-below-requires : tie.Need-signed-below-requires Inv-loop μ-loop
+signed-below-requires c κs = search needs
+
+returns-2 : tie.Need-returns-2 Inv-loop μ-loop
+returns-2 c = 
+    let a = c .before .before .before .before .before .before .before .before .args in
+    listing-falls (a .s .now) (a .n) (a .end) (a .self .at) (c .before .before .before .before .before .before .loop .before) (c .before .before .before .before .before .before .loop .at) (c .before .before .before .before .before .before .loop .inv)
+    (c .before .before .before .before .before .loop-test .taken) (c .before .before .before .before .before .before .before .before .pre .within)
+    (sym (c .before .before .before .names-letter .ensures) ∙ not-false _ (c .before .before .if1 .left)) (sym (c .before .signed-below .ensures) ∙ not-true _ (c .if2 .taken))
+
+add-at : tie.Need-add-at Inv-loop μ-loop
+add-at c = omega arith
+
+loop-less : tie.Need-loop-less Inv-loop μ-loop
+loop-less c = omega arith
+
+loop-again : tie.Need-loop-again Inv-loop μ-loop
+loop-again c = 
+    let a = c .before .before .before .before .before .before .before .before .args in
+    listing-goes-on (a .s .now) (a .n) (a .end) (a .self .at) (c .before .before .before .before .before .before .loop .before) (c .before .before .before .before .before .before .loop .at) (c .before .before .before .before .before .before .loop .inv)
+    (c .before .before .before .before .before .loop-test .taken) (c .before .before .before .before .before .before .before .before .pre .within)
+    (sym (c .before .before .before .names-letter .ensures) ∙ not-false _ (c .before .before .if1 .left)) (sym (c .before .signed-below .ensures) ∙ not-false _ (c .if2 .left))
+
+returns-3 : tie.Need-returns-3 Inv-loop μ-loop
+returns-3 c = 
+    let a = c .before .before .before .args in
+    listing-done (a .s .now) (a .n) (a .end) (a .self .at) (c .before .loop .before) (c .before .loop .at) (c .before .loop .inv)
+    (c .loop-test .left)
+
+pub list-spec : {M : Type 1} → statement M
+list-spec =
+    tie.close
+    (tie.spec
+    Inv-loop
+    μ-loop
+    loop-holds
+    shared-slice-read-b
+    names-letter-requires
+    returns
+    signed-below-requires
+    returns-2
+    add-at
+    loop-less
+    loop-again
+    returns-3)

@@ -1,0 +1,39 @@
+-- `reader::cursor::Cursor::promise`: refused unless one byte long, else its list. Assumes nothing.
+use mathlib.Core.Path.{_≡_, refl, _∙_}
+use Prim.Native.Nat.{_+_}
+use native.Mathlib.Omega.{arith}
+use Rattle.meaning.specs.Sheet.{byte, nextAt}
+use Rattle.reader.proofs.Reading.{promise-long, promise-shaped}
+use Rattle.reader.proofs.cursor.Cursor.promise.Statement.{statement}
+use Rattle.reader.proofs.cursor.Cursor.promise.Tie as tie
+
+shared-slice-read-if1 : tie.Need-shared-slice-read-if1
+unfolding nextAt byte
+shared-slice-read-if1 c = omega arith
+
+returns : tie.Need-returns
+unfolding byte
+returns c = promise-long (c .before .before .before .args .s .now) (c .before .before .before .args .n) (c .before .before .before .args .self .at) (c .before .before .before .pre .fits) (c .if1 .taken)
+
+add-start : tie.Need-add-start
+unfolding nextAt byte
+add-start c = omega arith
+
+add-end : tie.Need-add-end
+unfolding nextAt byte
+add-end c = omega arith
+
+list-requires : tie.Need-list-requires
+unfolding nextAt byte
+list-requires c κs = record { letters = c .before .before .before .pre .letters; order = omega arith; within = omega arith }
+
+returns-2 : tie.Need-returns-2
+unfolding nextAt byte
+returns-2 c = 
+    let a = c .before .before .before .before .args in
+    let next : a .self .at + 2 ≡ nextAt (a .s .now) (a .self .at) = omega arith in
+    c .list .ensures ∙ promise-shaped (a .s .now) (a .n) (a .self .at) (c .before .before .before .before .pre .fits) _ _ refl next (c .before .if1 .left)
+
+pub promise-spec : {M : Type 1} → statement M
+promise-spec =
+    tie.close (tie.spec shared-slice-read-if1 returns add-start add-end list-requires returns-2)

@@ -1,0 +1,66 @@
+-- `reader::cursor::Cursor::records`: what is left of the section has the fault of the whole. Assumes nothing.
+use mathlib.Core.Path.{_∙_, sym}
+use native.Mathlib.Omega.{arith}
+use borrow.Author.Needs.{needs}
+use Rattle.reader.specs.Answer.{kindOf}
+use Rattle.reader.proofs.Sections.{Section, section-begins, section-done, section-refused, section-goes-on}
+use Rattle.reader.proofs.cursor.Cursor.records.Statement.{statement}
+use Rattle.reader.proofs.cursor.Cursor.records.Tie as tie
+
+abbrev Inv-loop : tie.InvT-loop
+Inv-loop kind s n count c₀ left₀ c left = Section (kindOf kind) n s count (c₀ .at) left (c .at)
+
+abbrev μ-loop : tie.MeasureT-loop
+μ-loop kind s n count c₀ left₀ c left = left
+
+loop-holds : tie.Need-loop-holds Inv-loop μ-loop
+loop-holds c = section-begins (kindOf (c .before .args .kind)) (c .before .args .n) (c .before .args .s .now) (c .before .args .count) (c .before .args .self .at) (c .before .pre .within)
+
+record-requires : tie.Need-record-requires Inv-loop μ-loop
+record-requires c κs = record { letters = c .before .before .before .pre .letters; within = c .before .loop .inv .within }
+
+enum-known-next : tie.Need-enum-known-next Inv-loop μ-loop
+enum-known-next c = search needs
+
+sub-left : tie.Need-sub-left Inv-loop μ-loop
+sub-left c = omega arith
+
+loop-less : tie.Need-loop-less Inv-loop μ-loop
+loop-less c = omega arith
+
+loop-again : tie.Need-loop-again Inv-loop μ-loop
+loop-again c = 
+    let a = c .before .before .before .before .before .before .before .args in
+    section-goes-on (kindOf (a .kind)) (a .n) (a .s .now) (a .count) (a .self .at) (c .before .before .before .before .before .loop .left) (c .before .before .before .before .before .loop .c .at) (c .before .before .before .before .before .loop .inv)
+    (c .before .before .before .before .loop-test .taken) (sym (c .before .before .before .«record» .ensures) ∙ c .before .next .given .1)
+
+enum-known-f : tie.Need-enum-known-f Inv-loop μ-loop
+enum-known-f c = search needs
+
+returns : tie.Need-returns Inv-loop μ-loop
+returns c = 
+    let a = c .before .before .before .before .before .before .before .args in
+    section-refused (kindOf (a .kind)) (a .n) (a .s .now) (a .count) (a .self .at) (c .before .before .before .before .before .loop .left) (c .before .before .before .before .before .loop .c .at) (c .before .before .before .before .before .loop .inv)
+    (c .before .before .before .before .loop-test .taken) (sym (c .before .before .before .«record» .ensures) ∙ c .before .f .given .1)
+
+returns-2 : tie.Need-returns-2 Inv-loop μ-loop
+returns-2 c = 
+    let a = c .before .before .before .args in
+    section-done (kindOf (a .kind)) (a .n) (a .s .now) (a .count) (a .self .at) (c .before .loop .left) (c .before .loop .c .at) (c .before .loop .inv)
+    (c .loop-test .left)
+
+pub records-spec : {M : Type 1} → statement M
+records-spec =
+    tie.close
+    (tie.spec
+    Inv-loop
+    μ-loop
+    loop-holds
+    record-requires
+    enum-known-next
+    sub-left
+    loop-less
+    loop-again
+    enum-known-f
+    returns
+    returns-2)

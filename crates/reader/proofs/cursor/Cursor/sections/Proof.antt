@@ -1,0 +1,93 @@
+-- `reader::cursor::Cursor::sections`: the four sections and the end in a row, each cursor within the sheet. Assumes nothing.
+use mathlib.Core.Path.{_≡_, _∙_, ap}
+use native.Mathlib.Omega.{arith}
+use borrow.Author.Needs.{needs}
+use Rattle.meaning.specs.Sheet.{byte, aLimit, aFirst, aStep}
+use Rattle.reader.specs.Answer.{recordsStep, Within}
+use Rattle.reader.proofs.Whole.{sections-chain, limits-within, further-within}
+use Rattle.reader.proofs.cursor.Cursor.sections.Statement.{statement}
+use Rattle.reader.proofs.cursor.Cursor.sections.Tie as tie
+
+limits-read :
+  (c : tie.After-records) → c .records .result
+  ≡ recordsStep aLimit (byte (c .before .before .before .before .args .s .now) 3) (c .before .before .before .before .args .s .now) (byte (c .before .before .before .before .args .s .now) 4) 8
+unfolding byte
+limits-read c =
+    let s = c .before .before .before .before .args .s .now in
+    c .records .ensures ∙ ap (recordsStep aLimit (byte s 3) s (byte s 4)) (c .before .before .before .before .pre .behind)
+
+-- each section ends within the sheet
+limits-in : (c : tie.After-records) → Within (c .before .before .before .before .args .s .now) (c .records .result)
+limits-in c = limits-within (c .before .before .before .before .args .s .now) (c .records .result) (limits-read c) (c .before .before .before .before .pre .least)
+
+firsts-in : (c : tie.After-then-records) → Within (c .before .before .before .before .before .before .args .s .now) (c .then-records .result)
+unfolding byte
+firsts-in c =
+    let s = c .before .before .before .before .before .before .args .s .now in
+    further-within s aFirst (byte s 3) (byte s 5) (c .before .before .records .result) (c .then-records .result)
+    (c .then-records .ensures) (limits-in (c .before .before))
+
+steps-in : (c : tie.After-then-records2) → Within (c .before .before .before .before .before .before .before .before .args .s .now) (c .then-records2 .result)
+unfolding byte
+steps-in c =
+    let s = c .before .before .before .before .before .before .before .before .args .s .now in
+    further-within s aStep (byte s 3) (byte s 6) (c .before .before .then-records .result) (c .then-records2 .result)
+    (c .then-records2 .ensures) (firsts-in (c .before .before))
+
+shared-slice-read-n : tie.Need-shared-slice-read-n
+shared-slice-read-n c = search needs
+
+shared-slice-read-records : tie.Need-shared-slice-read-records
+shared-slice-read-records c = search needs
+
+records-requires : tie.Need-records-requires
+unfolding byte
+records-requires c κs = 
+    let asks = c .before .before .before .pre in
+    record { letters = omega (arith, asks .letters); within = omega (arith, asks .least, asks .behind) }
+
+shared-slice-read-then-records : tie.Need-shared-slice-read-then-records
+shared-slice-read-then-records c = search needs
+
+then-records-requires : tie.Need-then-records-requires
+unfolding byte
+then-records-requires c κs = record { letters = omega (arith, c .before .before .before .before .before .pre .letters); within = limits-in (c .before) }
+
+shared-slice-read-then-records-2 : tie.Need-shared-slice-read-then-records-2
+shared-slice-read-then-records-2 c = search needs
+
+then-records-requires-2 : tie.Need-then-records-requires-2
+unfolding byte
+then-records-requires-2 c κs = record { letters = omega (arith, c .before .before .before .before .before .before .before .pre .letters); within = firsts-in (c .before) }
+
+shared-slice-read-then-records-3 : tie.Need-shared-slice-read-then-records-3
+shared-slice-read-then-records-3 c = search needs
+
+then-records-requires-3 : tie.Need-then-records-requires-3
+unfolding byte
+then-records-requires-3 c κs = record { letters = omega (arith, c .before .before .before .before .before .before .before .before .before .pre .letters); within = steps-in (c .before) }
+
+then-end-requires : tie.Need-then-end-requires
+then-end-requires c κs = search needs
+
+returns : tie.Need-returns
+unfolding byte
+returns c = 
+    sections-chain (c .before .before .before .before .before .before .before .before .before .before .before .args .s .now) _ _ _ _ _ (limits-read (c .before .before .before .before .before .before .before)) (c .before .before .before .before .before .then-records .ensures)
+    (c .before .before .before .then-records2 .ensures) (c .before .then-records3 .ensures) (c .then-end .ensures)
+
+pub sections-spec : {M : Type 1} → statement M
+sections-spec =
+    tie.close
+    (tie.spec
+    shared-slice-read-n
+    shared-slice-read-records
+    records-requires
+    shared-slice-read-then-records
+    then-records-requires
+    shared-slice-read-then-records-2
+    then-records-requires-2
+    shared-slice-read-then-records-3
+    then-records-requires-3
+    then-end-requires
+    returns)

@@ -1,0 +1,96 @@
+-- `reader::cursor::Cursor::step_rule`: refused for its shape, else its left side's fault, else its right side's. Assumes nothing.
+use mathlib.Core.Path.{_∙_, sym, subst}
+use Prim.Native.Nat.{ℕ, _<_}
+use native.Mathlib.Numerals.{add-one}
+use native.Mathlib.Omega.{arith}
+use lib.ListN.{getD}
+use borrow.Author.Needs.{needs}
+use Rattle.meaning.specs.Sheet.{byte, nextAt}
+use Rattle.reader.proofs.Reading.{step-short, step-count, left-refused, left-moved}
+use Rattle.reader.proofs.cursor.Cursor.step_rule.Statement.{statement}
+use Rattle.reader.proofs.cursor.Cursor.step_rule.Tie as tie
+
+shared-slice-read-len : tie.Need-shared-slice-read-len
+unfolding nextAt byte
+shared-slice-read-len c = omega arith
+
+returns : tie.Need-returns
+unfolding byte
+returns c = step-short (c .before .before .before .args .s .now) (c .before .before .before .args .n) (c .before .before .before .args .self .at) (c .before .before .before .pre .fits) (c .if1 .taken)
+
+add-count : tie.Need-add-count
+unfolding nextAt byte
+add-count c = omega arith
+
+shared-slice-read-if2 : tie.Need-shared-slice-read-if2
+unfolding nextAt byte
+shared-slice-read-if2 c = omega arith
+
+returns-2 : tie.Need-returns-2
+unfolding byte
+returns-2 c = step-count (c .before .before .before .before .before .args .s .now) (c .before .before .before .before .before .args .n) (c .before .before .before .before .before .args .self .at) (c .before .before .before .before .before .pre .fits) (c .before .before .if1 .left) (c .if2 .taken)
+
+step-parts-requires : tie.Need-step-parts-requires
+unfolding byte
+step-parts-requires c κs = 
+    let a = c .before .before .before .before .before .args in
+    record {
+      fits = c .before .before .before .before .before .pre .fits;
+      long = c .before .before .if1 .left;
+      count = subst (λ (i : ℕ). getD (a .s .now) i 0 < getD (a .s .now) (a .self .at) 0) (add-one (a .self .at)) (c .if2 .left);
+    }
+
+list-requires : tie.Need-list-requires
+list-requires c κs = search needs
+
+enum-known-right : tie.Need-enum-known-right
+enum-known-right c = search needs
+
+list-requires-2 : tie.Need-list-requires-2
+unfolding byte
+list-requires-2 c κs = 
+    let p = c .before .before .before .before .step-parts .ensures in
+    let m =
+        left-moved (c .before .before .before .before .before .before .before .before .before .before .args .s .now) (c .before .before .before .before .before .before .before .before .before .before .args .n) (c .before .before .before .before .before .before .before .before .before .before .args .self .at) (c .before .before .before .before .before .before .before .before .before .before .pre .fits)
+        (c .before .before .before .before .step-parts .result) (c .before .before .before .before .step-parts .ensures) (c .before .before .before .before .before .before .before .if1 .left) (c .before .before .before .before .before .if2 .left)
+        (sym (c .before .before .before .list .ensures) ∙ c .before .right .given .1) in
+    record {
+      letters = c .before .before .before .before .before .before .before .before .before .before .pre .letters;
+      order = omega (arith, m .0, p .order-2);
+      within = omega (arith, p .end, c .before .before .before .before .before .before .before .before .before .before .pre .fits);
+    }
+
+enum-known-f : tie.Need-enum-known-f
+enum-known-f c = search needs
+
+returns-3 : tie.Need-returns-3
+unfolding byte
+returns-3 c = 
+    c .list2 .ensures
+    ∙ left-moved (c .before .before .before .before .before .before .before .before .before .before .before .args .s .now) (c .before .before .before .before .before .before .before .before .before .before .before .args .n) (c .before .before .before .before .before .before .before .before .before .before .before .args .self .at) (c .before .before .before .before .before .before .before .before .before .before .before .pre .fits)
+        (c .before .before .before .before .before .step-parts .result) (c .before .before .before .before .before .step-parts .ensures) (c .before .before .before .before .before .before .before .before .if1 .left) (c .before .before .before .before .before .before .if2 .left)
+        (sym (c .before .before .before .before .list .ensures) ∙ c .before .before .right .given .1) .1
+
+returns-4 : tie.Need-returns-4
+unfolding byte
+returns-4 c = 
+    left-refused (c .before .before .before .before .before .before .before .before .before .before .args .s .now) (c .before .before .before .before .before .before .before .before .before .before .args .n) (c .before .before .before .before .before .before .before .before .before .before .args .self .at) (c .before .before .before .before .before .before .before .before .before .before .pre .fits)
+        (c .before .before .before .before .step-parts .result) (c .before .before .before .before .step-parts .ensures) (c .before .before .before .before .before .before .before .if1 .left) (c .before .before .before .before .before .if2 .left)
+        (sym (c .before .before .before .list .ensures) ∙ c .before .f .given .1)
+
+pub step-rule-spec : {M : Type 1} → statement M
+step-rule-spec =
+    tie.close
+    (tie.spec
+    shared-slice-read-len
+    returns
+    add-count
+    shared-slice-read-if2
+    returns-2
+    step-parts-requires
+    list-requires
+    enum-known-right
+    list-requires-2
+    enum-known-f
+    returns-3
+    returns-4)

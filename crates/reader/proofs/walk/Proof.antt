@@ -1,0 +1,31 @@
+-- `reader::walk`: the header's fault is the sheet's; behind a header without fault the sections' fault is. Assumes nothing.
+use mathlib.Core.Path.{_∙_, sym}
+use borrow.Author.Needs.{needs}
+use Rattle.reader.proofs.Whole.{header-passed, sections-are-whole, header-refused}
+use Rattle.reader.proofs.walk.Statement.{statement}
+use Rattle.reader.proofs.walk.Tie as tie
+
+header-requires : tie.Need-header-requires
+header-requires c κs = search needs
+
+enum-known-c : tie.Need-enum-known-c
+enum-known-c c = search needs
+
+sections-requires : tie.Need-sections-requires
+sections-requires c κs = header-passed (c .before .before .before .before .before .args .sheet .now) (sym (c .before .before .before .header .ensures) ∙ c .before .c .given .1)
+
+enum-known-f : tie.Need-enum-known-f
+enum-known-f c = search needs
+
+returns : tie.Need-returns
+returns c = 
+    c .sections .ensures
+    ∙ sections-are-whole (c .before .before .before .before .before .before .args .sheet .now) (sym (c .before .before .before .before .header .ensures) ∙ c .before .before .c .given .1)
+
+returns-2 : tie.Need-returns-2
+returns-2 c = header-refused (c .before .before .before .before .before .args .sheet .now) (sym (c .before .before .before .header .ensures) ∙ c .before .f .given .1)
+
+pub walk-spec : {M : Type 1} → statement M
+walk-spec =
+    tie.close
+    (tie.spec header-requires enum-known-c sections-requires enum-known-f returns returns-2)

@@ -1,0 +1,5 @@
+pub mod Signed
+pub mod Place
+pub mod Parts
+pub mod Answer
+pub mod Whole

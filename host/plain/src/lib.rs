@@ -1,0 +1,30 @@
+//! A plain implementation of the rule-sheet judge and its two checkers.
+//!
+//! It is written from document 01 alone and shares no code with the proved
+//! build, so that the two can be held against each other, and timed.
+//!
+//! | module    | what it does                                                     |
+//! |-----------|------------------------------------------------------------------|
+//! | [`sheet`] | reads a sheet's bytes, or names the first fault                  |
+//! | [`rules`] | what a sheet says of states and moves, compiled to bit masks     |
+//! | [`list`]  | lists lawful, first and next states in ascending order           |
+//! | [`judge`] | the judge: "can be kept" with a run, "cannot" with a strike list |
+//! | [`check`] | the checkers of runs and of strike lists                         |
+//! | [`brute`] | everything a second time, naively, for at most five letters      |
+//! | [`make`]  | sheets for tests and benchmarks, good and damaged                |
+
+#![deny(warnings)]
+#![deny(missing_docs)]
+#![forbid(unsafe_code)]
+
+pub mod brute;
+pub mod check;
+mod graph;
+mod hash;
+pub mod judge;
+pub mod list;
+pub mod make;
+pub mod rules;
+pub mod sheet;
+mod strike;
+mod walk;
