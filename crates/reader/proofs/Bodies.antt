@@ -1,5 +1,5 @@
 -- A part of a sheet by its two ends, and the parts of a record as such. Assumes nothing.
-use mathlib.Core.Path.{_≡_, refl, sym, _∙_, ap, subst}
+use mathlib.Core.Path.{_≡_, refl, sym, _∙_, ap}
 use mathlib.Core.List.{List, [], _∷_}
 use Prim.Native.Nat.{ℕ, zero, suc, _+_, _-_, _≤_, _<_}
 use native.Mathlib.Omega.{arith}
@@ -48,7 +48,7 @@ body-from s at k p e q r =
 
 -- The a bytes of a record after its first k.
 pub body-between :
-  (s : List ℕ) (at k a p e : ℕ) → p ≡ suc at + k → e ≡ p + a → k + a ≤ byte s at → part p e s ≡ take a (drop k (bodyAt s at))
+    (s : List ℕ) (at k a p e : ℕ) → p ≡ suc at + k → e ≡ p + a → k + a ≤ byte s at → part p e s ≡ take a (drop k (bodyAt s at))
 unfolding part bodyAt
 body-between s at k a p e q r h =
     let size : e - p ≡ a = omega arith in
@@ -68,8 +68,8 @@ count-byte s at h =
 
 -- The limit that starts at `at`, from the bytes that `limit_parts` reads.
 pub limit-read :
-  (s : List ℕ) (at : ℕ) → LimitAsks s at
-  → LimitRead s at (record { exact = eqb (getD s (at + 1) 0) 0; bound = getD s (at + 2) 0; start = at + 3; end = at + 1 + getD s at 0 })
+    (s : List ℕ) (at : ℕ) → LimitAsks s at
+    → LimitRead s at (record { exact = eqb (getD s (at + 1) 0) 0; bound = getD s (at + 2) 0; start = at + 3; end = at + 1 + getD s at 0 })
 unfolding limitOf byte nextAt
 limit-read s at asks =
     let end : at + 1 + getD s at 0 ≡ nextAt s at = omega arith in
@@ -85,8 +85,8 @@ limit-read s at asks =
 
 -- The step rule that starts at `at`, from the bytes that `step_parts` reads.
 pub step-read :
-  (s : List ℕ) (at : ℕ) → StepAsks s at
-  → StepRead s at (record { left = at + 2; right = at + 2 + getD s (at + 1) 0; end = at + 1 + getD s at 0 })
+    (s : List ℕ) (at : ℕ) → StepAsks s at
+    → StepRead s at (record { left = at + 2; right = at + 2 + getD s (at + 1) 0; end = at + 1 + getD s at 0 })
 unfolding stepOf byte nextAt
 step-read s at asks =
     let end : at + 1 + getD s at 0 ≡ nextAt s at = omega arith in

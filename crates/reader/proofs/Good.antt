@@ -133,7 +133,7 @@ pub record LiteralsGood (n : ℕ) (ls : List ℕ) : Type 0 where
   pub rising : (j : ℕ) → suc j < length ls → signedBelow (getD ls j 0) (getD ls (suc j) 0) ≡ true
 
 first-above :
-  (n at before : ℕ) (ls : List ℕ) → literalsFault n at before ls ≡ none → 0 < length ls → signedBelow before (getD ls 0 0) ≡ true
+    (n at before : ℕ) (ls : List ℕ) → literalsFault n at before ls ≡ none → 0 < length ls → signedBelow before (getD ls 0 0) ≡ true
 unfolding literalsFault
 first-above n at before [] e h = absurd (omega arith)
 first-above n at before (b ∷ bs) e h =
@@ -141,13 +141,14 @@ first-above n at before (b ∷ bs) e h =
     first-passed (signedBelow before b) notAscending at _ (rest .1) .0
 
 more-good :
-  (n b : ℕ) (bs : List ℕ) → names n b ≡ true → (0 < length bs → signedBelow b (getD bs 0 0) ≡ true) → LiteralsGood n bs
-  → LiteralsGood n (b ∷ bs)
+    (n b : ℕ) (bs : List ℕ) → names n b ≡ true → (0 < length bs → signedBelow b (getD bs 0 0) ≡ true) → LiteralsGood n bs
+    → LiteralsGood n (b ∷ bs)
 more-good n b bs e first rest = record { named = named; rising = rising }
   where
     named : (j : ℕ) → j < suc (length bs) → names n (getD (b ∷ bs) j 0) ≡ true
     named zero h = e
     named (suc j) h = rest .named j (omega arith)
+
     rising : (j : ℕ) → suc j < suc (length bs) → signedBelow (getD (b ∷ bs) j 0) (getD bs j 0) ≡ true
     rising zero h = first (omega arith)
     rising (suc j) h = rest .rising j (omega arith)
@@ -245,8 +246,8 @@ after-more s (suc i) at = after-more s i (nextAt s at)
 
 -- The i-th record of a section that reads without fault is good.
 pub record-good :
-  (kind : Kind) (n : ℕ) (s : List ℕ) (count at : ℕ) → recordsFault kind n s count at ≡ none
-  → (i : ℕ) → i < count → RecordGood kind n s (afterAt s i at)
+    (kind : Kind) (n : ℕ) (s : List ℕ) (count at : ℕ) → recordsFault kind n s count at ≡ none
+    → (i : ℕ) → i < count → RecordGood kind n s (afterAt s i at)
 unfolding recordsFault afterAt
 record-good kind n s zero at e i h = absurd (omega arith)
 record-good kind n s (suc count) at e zero h =
@@ -261,8 +262,8 @@ record-good kind n s (suc count) at e (suc i) h =
 
 -- Such a section's records begin and end within the sheet.
 pub after-within :
-  (kind : Kind) (n : ℕ) (s : List ℕ) (count at : ℕ) → recordsFault kind n s count at ≡ none → at ≤ length s
-  → (i : ℕ) → i ≤ count → afterAt s i at ≤ length s
+    (kind : Kind) (n : ℕ) (s : List ℕ) (count at : ℕ) → recordsFault kind n s count at ≡ none → at ≤ length s
+    → (i : ℕ) → i ≤ count → afterAt s i at ≤ length s
 unfolding afterAt
 after-within kind n s count at e w zero h = w
 after-within kind n s count at e w (suc i) h =
@@ -367,8 +368,8 @@ getD-map-in f (x ∷ xs) zero d e h = refl
 getD-map-in f (x ∷ xs) (suc i) d e h = getD-map-in f xs i d e (omega arith)
 
 rule-at :
-  {A : Type 0} (f : List ℕ → A) (s : List ℕ) (count at i : ℕ) (d : A) → i < count
-  → getD (map f (bodies s count at)) i d ≡ f (bodyAt s (afterAt s i at))
+    {A : Type 0} (f : List ℕ → A) (s : List ℕ) (count at i : ℕ) (d : A) → i < count
+    → getD (map f (bodies s count at)) i d ≡ f (bodyAt s (afterAt s i at))
 rule-at f s count at i d h =
     getD-map-in f (bodies s count at) i d [] (subst (λ (l : ℕ). i < l) (sym (length-bodies s count at)) h) ∙ ap f (bodies-at s count at i h)
 

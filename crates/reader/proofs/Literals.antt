@@ -1,8 +1,8 @@
 -- Signed bytes: what the machine computes with an i8, in the meaning's terms. A signed local holds bits, so its facts speak of
 -- `toZ w8 (ofZ w8 x)`; these laws turn them into facts of the byte. Assumes nothing.
-use mathlib.Core.Path.{_≡_, refl, sym, _∙_, ap, subst}
-use mathlib.Core.Bool.{Bool, true, false, cond, _&&_}
-use Prim.Native.Nat.{ℕ, zero, suc, _+_, _-_, _%_, _^_, _≤_, _<_}
+use mathlib.Core.Path.{_≡_, sym, _∙_, ap, subst}
+use mathlib.Core.Bool.{true, false, cond, _&&_}
+use Prim.Native.Nat.{ℕ, suc, _+_, _-_, _%_, _≤_, _<_}
 use native.Mathlib.Omega.{arith}
 use native.Mathlib.Decide.{decLt}
 use lib.Dec.{T, ltb, leb, leb·zero}
@@ -11,7 +11,7 @@ use lib.Signed.{ltZ, leZ, nonNeg}
 use mir.Syntax.{w8, w16}
 use mir.Val.{toZ, ofZ, Fits, SFits}
 use mir.Facts.{toZ-ofZ, ofZ-toZ, toZ-pos, fits-natAbs}
-use borrow.Author.Tests.{ltb-true, lt-ltb, le-ltb, le-leb, lt-leb}
+use borrow.Author.Tests.{ltb-true, lt-ltb, le-ltb, lt-leb}
 use Rattle.meaning.specs.Sheet.{names, signedBelow, positive, size}
 use Rattle.reader.specs.Signed.{signedOf}
 
@@ -69,10 +69,13 @@ negated (negsuc n) f m t = record {
   where
     ne : n ≡ 127 → ⊥
     ne e = m (ap negsuc e)
+
     bound : n < 127
     bound = omega (arith, f .sfits, ne)
+
     fits : SFits w8 (pos (0 + suc n))
     fits = record { sfits = omega (arith, bound) }
+
     back : toZ w8 (ofZ w8 (pos (0 + suc n))) ≡ pos (0 + suc n)
     back = toZ-ofZ fits
 
@@ -89,7 +92,7 @@ module _ (x : ℤ) (f : SFits w8 x) where
   up (negsuc n) t = let z : _≡_ {A = ℕ} 0 1 = cc in absurd (omega arith)
 
   pub not-negative :
-    ltZ (toZ w8 (ofZ w8 x)) (pos 0) ≡ false → T (nonNeg (toZ w8 (ofZ w8 x))) × Fits w8 (natAbs (toZ w8 (ofZ w8 x)))
+      ltZ (toZ w8 (ofZ w8 x)) (pos 0) ≡ false → T (nonNeg (toZ w8 (ofZ w8 x))) × Fits w8 (natAbs (toZ w8 (ofZ w8 x)))
   not-negative t =
       (up (toZ w8 (ofZ w8 x)) t, subst (λ (y : ℤ). Fits w8 (natAbs y)) (sym read-back) (fits-natAbs tt f))
 
@@ -124,7 +127,7 @@ order-is-below a b f g = by (decLt a 128) (decLt b 128)
     by (no p) (no q) =
         let r : 128 ≤ a = omega arith in
         let t : 128 ≤ b = omega arith in
-        simp (le-ltb a 128 r, le-ltb b 128 t) 
+        simp (le-ltb a 128 r, le-ltb b 128 t)
         (ltb-agree (256 - suc b) (256 - suc a) ((a + 128) % 256) ((b + 128) % 256) (λ h. omega arith) (λ h. omega arith))
 
 pub size-is-letter : (b : ℕ) → b < 256 → natAbs (toZ w8 b) ≡ size b

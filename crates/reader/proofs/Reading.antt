@@ -1,15 +1,15 @@
 -- What the cursor's loops and checks keep, in the meaning's terms: "what is left to read has the fault of the whole". Assumes nothing.
-use mathlib.Core.Path.{_≡_, refl, sym, _∙_, ap, subst}
+use mathlib.Core.Path.{_≡_, refl, sym, _∙_, ap}
 use mathlib.Core.Bool.{Bool, true, false, _&&_}
 use mathlib.Core.Option.{Option, none, some}
 use mathlib.Core.List.{List, [], _∷_}
-use Prim.Native.Nat.{ℕ, zero, suc, _+_, _-_, _≤_, _<_}
+use Prim.Native.Nat.{ℕ, _+_, _-_, _≤_, _<_}
 use native.Mathlib.Omega.{arith}
 use native.Mathlib.Numerals.{add-one}
-use lib.Dec.{leb, eqb}
+use lib.Dec.{leb}
 use lib.ListN.{length, getD}
 use borrow.Author.Tests.{le-leb, lt-leb, eq-eqb, ne-eqb}
-use Rattle.meaning.specs.Sheet.{badLiteral, notAscending, badShape, Fault, unless, _then_, signedBelow, names, literalsFault, listFault}
+use Rattle.meaning.specs.Sheet.{badShape, Fault, unless, _then_, signedBelow, names, literalsFault, listFault}
 use Rattle.meaning.specs.Sheet.{byte, bodyAt, nextAt, recordFault, stepOf, aLimit, aFirst, aStep, aPromise}
 use Rattle.reader.specs.declared.Why.the-variants.{BadLiteral, NotAscending, BadShape}
 use Rattle.reader.specs.declared.Fault as F
@@ -51,21 +51,21 @@ module _ (s : List ℕ) (n end start before at : ℕ) (l : Listing s n end start
 
     -- a literal that names no letter
     pub listing-names-none :
-      names n (getD s at 0) ≡ false
-      → Refused (record { why = BadLiteral; at = at }) ≡ stepTo end (listFault n start (part start end s))
+        names n (getD s at 0) ≡ false
+        → Refused (record { why = BadLiteral; at = at }) ≡ stepTo end (listFault n start (part start end s))
     unfolding literalsFault
     listing-names-none q = ap (stepTo end) (rw q at this)
 
     -- a literal that does not ascend
     pub listing-falls :
-      names n (getD s at 0) ≡ true → signedBelow before (getD s at 0) ≡ false
-      → Refused (record { why = NotAscending; at = at }) ≡ stepTo end (listFault n start (part start end s))
+        names n (getD s at 0) ≡ true → signedBelow before (getD s at 0) ≡ false
+        → Refused (record { why = NotAscending; at = at }) ≡ stepTo end (listFault n start (part start end s))
     unfolding literalsFault
     listing-falls q r = ap (stepTo end) (rw (q, r) at this)
 
     -- a literal without fault
     pub listing-goes-on :
-      names n (getD s at 0) ≡ true → signedBelow before (getD s at 0) ≡ true → Listing s n end start (getD s at 0) (at + 1)
+        names n (getD s at 0) ≡ true → signedBelow before (getD s at 0) ≡ true → Listing s n end start (getD s at 0) (at + 1)
     unfolding literalsFault
     listing-goes-on q r = record {
       order = omega arith;
@@ -122,8 +122,8 @@ module _ (s : List ℕ) (n at : ℕ) (fits : nextAt s at ≤ length s) where
 
   -- a limit of good shape has the fault of its list
   pub limit-shaped :
-    (p : LimitParts) → LimitRead s at p → 2 ≤ byte s at → getD s (at + 1) 0 ≤ 1
-    → stepTo (p .end) (listFault n (p .start) (part (p .start) (p .end) s)) ≡ recordStep aLimit n s at
+      (p : LimitParts) → LimitRead s at p → 2 ≤ byte s at → getD s (at + 1) 0 ≤ 1
+      → stepTo (p .end) (listFault n (p .start) (part (p .start) (p .end) s)) ≡ recordStep aLimit n s at
   unfolding recordStep recordFault
   limit-shaped p r h k =
       let e = count-byte s at (omega arith) in
@@ -136,7 +136,7 @@ module _ (s : List ℕ) (n at : ℕ) (fits : nextAt s at ≤ length s) where
 
   -- a first rule has the fault of its list
   pub first-shaped :
-    (p e : ℕ) → p ≡ at + 1 → e ≡ nextAt s at → stepTo e (listFault n p (part p e s)) ≡ recordStep aFirst n s at
+      (p e : ℕ) → p ≡ at + 1 → e ≡ nextAt s at → stepTo e (listFault n p (part p e s)) ≡ recordStep aFirst n s at
   unfolding recordStep recordFault
   first-shaped p e q r =
       ap (λ (x : ℕ). stepTo x (listFault n p (part p e s))) r
@@ -150,7 +150,7 @@ module _ (s : List ℕ) (n at : ℕ) (fits : nextAt s at ≤ length s) where
 
   -- a promise of one literal has the fault of its list
   pub promise-shaped :
-    (p e : ℕ) → p ≡ at + 1 → e ≡ nextAt s at → byte s at ≡ 1 → stepTo e (listFault n p (part p e s)) ≡ recordStep aPromise n s at
+      (p e : ℕ) → p ≡ at + 1 → e ≡ nextAt s at → byte s at ≡ 1 → stepTo e (listFault n p (part p e s)) ≡ recordStep aPromise n s at
   unfolding recordStep recordFault
   promise-shaped p e q r h =
       first-shaped p e q r ∙ ap (stepTo (nextAt s at)) (shaped _ at _ (eq-eqb (length (bodyAt s at)) 1 (sized ∙ h)))
@@ -178,36 +178,37 @@ module _ (s : List ℕ) (n at : ℕ) (fits : nextAt s at ≤ length s) where
 
     -- a step rule of good shape has the fault of its left side, else of its right side
     sides :
-      stepTo (nextAt s at)
-      (listFault n (p .left) (part (p .left) (p .right) s) then listFault n (p .right) (part (p .right) (p .end) s))
-      ≡ recordStep aStep n s at
+        stepTo (nextAt s at)
+        (listFault n (p .left) (part (p .left) (p .right) s) then listFault n (p .right) (part (p .right) (p .end) s))
+        ≡ recordStep aStep n s at
     unfolding recordStep recordFault
     sides =
         let body = bodyAt s at in
         let a = count-byte s at h in
         let there : p .right ≡ at + 2 + getD body 0 0 = right-place in
         let left : listFault n (p .left) (part (p .left) (p .right) s) ≡ listFault n (at + 2) (stepOf body .left) =
-            ap (λ (x : ℕ). listFault n x (part (p .left) (p .right) s)) (r .left-at) ∙ ap (listFault n (at + 2)) (r .left) in
+        ap (λ (x : ℕ). listFault n x (part (p .left) (p .right) s)) (r .left-at) ∙ ap (listFault n (at + 2)) (r .left) in
         let right : listFault n (p .right) (part (p .right) (p .end) s) ≡ listFault n (at + 2 + getD body 0 0) (stepOf body .right) =
-            ap (λ (x : ℕ). listFault n x (part (p .right) (p .end) s)) there ∙ ap (listFault n (at + 2 + getD body 0 0)) (r .right) in
+        ap (λ (x : ℕ). listFault n x (part (p .right) (p .end) s)) there ∙ ap (listFault n (at + 2 + getD body 0 0)) (r .right) in
         let long : leb 1 (length body) ≡ true = le-leb 1 (length body) (omega (arith, sized)) in
         let count : leb (getD body 0 0) (length body - 1) ≡ true =
-            le-leb (getD body 0 0) (length body - 1) (omega (arith, a, sized)) in
+        le-leb (getD body 0 0) (length body - 1) (omega (arith, a, sized)) in
         ap (λ (o : Option Fault). stepTo (nextAt s at) (o then listFault n (p .right) (part (p .right) (p .end) s))) left
         ∙ ap (λ (o : Option Fault). stepTo (nextAt s at) (listFault n (at + 2) (stepOf body .left) then o)) right
         ∙ ap (stepTo (nextAt s at)) (shaped _ at _ (ap (λ (b : Bool). b && leb (getD body 0 0) (length body - 1)) long ∙ count))
 
     pub left-refused :
-      {f : F.Fault} → stepTo (p .right) (listFault n (p .left) (part (p .left) (p .right) s)) ≡ Refused f → Refused f ≡ recordStep aStep n s at
+        {f : F.Fault} → stepTo (p .right) (listFault n (p .left) (part (p .left) (p .right) s)) ≡ Refused f → Refused f ≡ recordStep aStep n s at
     left-refused q = refused (p .right) (nextAt s at) (listFault n (p .left) (part (p .left) (p .right) s)) _ q ∙ sides
 
     pub left-moved :
-      {c : Cursor} → stepTo (p .right) (listFault n (p .left) (part (p .left) (p .right) s)) ≡ Moved c
-      → (c .at ≡ p .right) × (stepTo (p .end) (listFault n (c .at) (part (c .at) (p .end) s)) ≡ recordStep aStep n s at)
+        {c : Cursor} → stepTo (p .right) (listFault n (p .left) (part (p .left) (p .right) s)) ≡ Moved c
+        → (c .at ≡ p .right) × (stepTo (p .end) (listFault n (c .at) (part (c .at) (p .end) s)) ≡ recordStep aStep n s at)
     left-moved {c} q =
-        let m = moved (p .right) (listFault n (p .left) (part (p .left) (p .right) s)) q in
-        (m .1,
-        ap (λ (x : ℕ). stepTo (p .end) (listFault n x (part x (p .end) s))) (m .1)
-        ∙ ap (λ (x : ℕ). stepTo x (listFault n (p .right) (part (p .right) (p .end) s))) (r .end)
-        ∙ ap (λ (o : Option Fault). stepTo (nextAt s at) (o then listFault n (p .right) (part (p .right) (p .end) s))) (sym (m .0))
-        ∙ sides)
+        let m = moved (p .right) (listFault n (p .left) (part (p .left) (p .right) s)) q in (
+          m .1,
+          ap (λ (x : ℕ). stepTo (p .end) (listFault n x (part x (p .end) s))) (m .1)
+              ∙ ap (λ (x : ℕ). stepTo x (listFault n (p .right) (part (p .right) (p .end) s))) (r .end)
+              ∙ ap (λ (o : Option Fault). stepTo (nextAt s at) (o then listFault n (p .right) (part (p .right) (p .end) s))) (sym (m .0))
+              ∙ sides,
+        )

@@ -1,14 +1,13 @@
 -- Records in a row: the check for 6, what the loop over a section keeps, and how the sections follow each other. Assumes nothing.
 use mathlib.Core.Path.{_≡_, refl, sym, _∙_, ap, subst}
-use mathlib.Core.Bool.{Bool, true, false}
 use mathlib.Core.Option.{Option, none, some}
 use mathlib.Core.List.{List}
-use Prim.Native.Nat.{ℕ, zero, suc, _+_, _-_, _≤_, _<_}
+use Prim.Native.Nat.{ℕ, zero, suc, _-_, _≤_, _<_}
 use native.Mathlib.Omega.{arith}
 use lib.Dec.{leb, eqb}
-use lib.ListN.{length, getD}
+use lib.ListN.{length}
 use borrow.Author.Tests.{le-leb, lt-leb, eq-eqb, ne-eqb, leb-true}
-use Rattle.meaning.specs.Sheet.{recordMissing, surplus, Fault, unless, _then_, Kind, recordFault, recordsFault, byte, bodyAt, nextAt, afterAt}
+use Rattle.meaning.specs.Sheet.{recordMissing, surplus, Fault, unless, _then_, Kind, recordFault, recordsFault, bodyAt, nextAt, afterAt}
 use Rattle.reader.specs.declared.Why.the-variants.{RecordMissing, Surplus}
 use Rattle.reader.specs.declared.Fault as F
 use Rattle.reader.specs.declared.cursor.Cursor.{Cursor}
@@ -22,8 +21,8 @@ use Rattle.reader.proofs.Reading.{moved, refused}
 
 -- a record that runs past the end, or is missing
 pub record-missing :
-  (kind : Kind) (n : ℕ) (s : List ℕ) (at : ℕ) → length s < nextAt s at
-  → Refused (record { why = RecordMissing; at = at }) ≡ nextStep kind n s at
+    (kind : Kind) (n : ℕ) (s : List ℕ) (at : ℕ) → length s < nextAt s at
+    → Refused (record { why = RecordMissing; at = at }) ≡ nextStep kind n s at
 unfolding nextStep
 record-missing kind n s at h = let t = lt-leb (nextAt s at) (length s) h in rw t
 
@@ -49,16 +48,16 @@ unrolled e d (some f) b c q = sym q
 
 -- every record was read
 pub section-done :
-  (kind : Kind) (n : ℕ) (s : List ℕ) (count start left at : ℕ) → Section kind n s count start left at
-  → left ≤ 0 → Moved (record { at = at }) ≡ recordsStep kind n s count start
+    (kind : Kind) (n : ℕ) (s : List ℕ) (count start left at : ℕ) → Section kind n s count start left at
+    → left ≤ 0 → Moved (record { at = at }) ≡ recordsStep kind n s count start
 unfolding recordsStep afterAt recordsFault
 section-done kind n s count start zero at l h = l .rest
 section-done kind n s count start (suc m) at l h = absurd (omega arith)
 
 -- a record with a fault
 pub section-refused :
-  (kind : Kind) (n : ℕ) (s : List ℕ) (count start left at : ℕ) → Section kind n s count start left at
-  → 0 < left → {f : F.Fault} → nextStep kind n s at ≡ Refused f → Refused f ≡ recordsStep kind n s count start
+    (kind : Kind) (n : ℕ) (s : List ℕ) (count start left at : ℕ) → Section kind n s count start left at
+    → 0 < left → {f : F.Fault} → nextStep kind n s at ≡ Refused f → Refused f ≡ recordsStep kind n s count start
 unfolding nextStep recordsStep afterAt recordsFault
 section-refused kind n s count start zero at l h q = absurd (omega arith)
 section-refused kind n s count start (suc m) at l h q =
@@ -68,8 +67,8 @@ section-refused kind n s count start (suc m) at l h q =
 
 -- a record without fault
 pub section-goes-on :
-  (kind : Kind) (n : ℕ) (s : List ℕ) (count start left at : ℕ) → Section kind n s count start left at
-  → 0 < left → {c : Cursor} → nextStep kind n s at ≡ Moved c → Section kind n s count start (left - 1) (c .at)
+    (kind : Kind) (n : ℕ) (s : List ℕ) (count start left at : ℕ) → Section kind n s count start left at
+    → 0 < left → {c : Cursor} → nextStep kind n s at ≡ Moved c → Section kind n s count start (left - 1) (c .at)
 unfolding nextStep recordsStep afterAt recordsFault
 section-goes-on kind n s count start zero at l h q = absurd (omega arith)
 section-goes-on kind n s count start (suc m) at l h {c} q =
@@ -79,7 +78,7 @@ section-goes-on kind n s count start (suc m) at l h {c} q =
     let d = moved (nextAt s at) (room then fault) q in
     let none-here = then-none room fault (d .0) in
     let fits : nextAt s at ≤ length s =
-        leb-true (nextAt s at) (length s) (passed (leb (nextAt s at) (length s)) recordMissing at (none-here .0)) in
+    leb-true (nextAt s at) (length s) (passed (leb (nextAt s at) (length s)) recordMissing at (none-here .0)) in
     let less : suc m - 1 ≡ m = omega arith in
     record {
       within = subst (λ (x : ℕ). x ≤ length s) (sym (d .1)) fits;
@@ -94,7 +93,7 @@ section-goes-on kind n s count start (suc m) at l h {c} q =
 
 -- whatever was read, what follows stands within the sheet
 pub records-within :
-  (kind : Kind) (n : ℕ) (s : List ℕ) (count at : ℕ) → at ≤ length s → Within s (recordsStep kind n s count at)
+    (kind : Kind) (n : ℕ) (s : List ℕ) (count at : ℕ) → at ≤ length s → Within s (recordsStep kind n s count at)
 unfolding recordsStep
 records-within kind n s count at h = by (recordsFault kind n s count at) refl
   where
@@ -103,22 +102,22 @@ records-within kind n s count at h = by (recordsFault kind n s count at) refl
     by (some f) q = tt
 
 pub onwards-within :
-  (kind : Kind) (n : ℕ) (s : List ℕ) (count : ℕ) (step : Step) → Within s step → Within s (onwards step (recordsStep kind n s count))
+    (kind : Kind) (n : ℕ) (s : List ℕ) (count : ℕ) (step : Step) → Within s step → Within s (onwards step (recordsStep kind n s count))
 onwards-within kind n s count (Moved c) h = records-within kind n s count (c .at) h
 onwards-within kind n s count (Refused f) h = tt
 
 -- a section behind others
 pub onwards-records :
-  (kind : Kind) (n : ℕ) (s : List ℕ) (count at : ℕ) (o : Option Fault)
-  → onwards (stepTo at o) (recordsStep kind n s count) ≡ stepTo (afterAt s count at) (o then recordsFault kind n s count at)
+    (kind : Kind) (n : ℕ) (s : List ℕ) (count at : ℕ) (o : Option Fault)
+    → onwards (stepTo at o) (recordsStep kind n s count) ≡ stepTo (afterAt s count at) (o then recordsFault kind n s count at)
 unfolding recordsStep
 onwards-records kind n s count at none = refl
 onwards-records kind n s count at (some f) = refl
 
 -- the end behind the sections
 pub onwards-end :
-  (s : List ℕ) (at : ℕ) (o : Option Fault)
-  → onwards (stepTo at o) (endStep s) ≡ stepTo at (o then unless (eqb at (length s)) surplus at)
+    (s : List ℕ) (at : ℕ) (o : Option Fault)
+    → onwards (stepTo at o) (endStep s) ≡ stepTo at (o then unless (eqb at (length s)) surplus at)
 unfolding endStep
 onwards-end s at none = refl
 onwards-end s at (some f) = refl

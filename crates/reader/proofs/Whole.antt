@@ -11,7 +11,7 @@ use borrow.Author.Tests.{le-leb, lt-leb}
 use native.Mathlib.Omega.{arith}
 use Rattle.meaning.specs.Promises.{ReadSays, readNumber}
 use Rattle.meaning.specs.Sheet as Sheet
-use Rattle.meaning.specs.Sheet.{badSize, badVersion, badLength, badLetters, unless, _then_, Fault, numberOf, byte, lettersIn, firstFault}
+use Rattle.meaning.specs.Sheet.{badSize, badVersion, badLength, badLetters, _then_, Fault, numberOf, byte, lettersIn, firstFault}
 use Rattle.reader.specs.declared.Why.the-variants.{BadSize, BadVersion, BadLength, BadLetters, TooMany}
 use Rattle.reader.specs.declared.Fault as F
 use Rattle.reader.specs.declared.cursor.Cursor.{Cursor}
@@ -54,14 +54,14 @@ module _ (s : List ℕ) where
 
     module _ (t2 : eqb (byte s 0) 1 ≡ true) where
       pub length-bad :
-        eqb (byte s 1 * 256 + byte s 2) (length s) ≡ false
-        → Refused (record { why = BadLength; at = 1 }) ≡ stepTo 8 (headerFault s)
+          eqb (byte s 1 * 256 + byte s 2) (length s) ≡ false
+          → Refused (record { why = BadLength; at = 1 }) ≡ stepTo 8 (headerFault s)
       unfolding headerFault
       length-bad q = rw (t1, t2, q)
 
       module _ (t3 : eqb (byte s 1 * 256 + byte s 2) (length s) ≡ true) where
         pub letters-bad :
-          leb 1 (byte s 3) && leb (byte s 3) 24 ≡ false → Refused (record { why = BadLetters; at = 3 }) ≡ stepTo 8 (headerFault s)
+            leb 1 (byte s 3) && leb (byte s 3) 24 ≡ false → Refused (record { why = BadLetters; at = 3 }) ≡ stepTo 8 (headerFault s)
         unfolding headerFault
         letters-bad q = rw (t1, t2, t3, q)
 
@@ -95,7 +95,7 @@ whole-fault s = simp then-assoc
 module _ (s : List ℕ) where
   -- the cursor behind the limits, the first rules, the step rules and the promises
   limits-end : (x : Step) → x ≡ recordsStep aLimit (byte s 3) s (byte s 4) 8
-    → x ≡ stepTo (firstsAt s) (recordsFault aLimit (byte s 3) s (byte s 4) 8)
+      → x ≡ stepTo (firstsAt s) (recordsFault aLimit (byte s 3) s (byte s 4) 8)
   unfolding recordsStep firstsAt
   limits-end x e = e
 
@@ -103,12 +103,12 @@ module _ (s : List ℕ) where
   onwards-same x y z go e q = e ∙ ap (λ (t : Step). onwards t go) q
 
   pub sections-chain :
-    (x1 x2 x3 x4 x5 : Step) → x1 ≡ recordsStep aLimit (byte s 3) s (byte s 4) 8
-    → x2 ≡ onwards x1 (recordsStep aFirst (byte s 3) s (byte s 5))
-    → x3 ≡ onwards x2 (recordsStep aStep (byte s 3) s (byte s 6))
-    → x4 ≡ onwards x3 (recordsStep aPromise (byte s 3) s (byte s 7))
-    → x5 ≡ onwards x4 (endStep s)
-    → x5 ≡ stepTo (endAt s) (sectionsFault s)
+      (x1 x2 x3 x4 x5 : Step) → x1 ≡ recordsStep aLimit (byte s 3) s (byte s 4) 8
+      → x2 ≡ onwards x1 (recordsStep aFirst (byte s 3) s (byte s 5))
+      → x3 ≡ onwards x2 (recordsStep aStep (byte s 3) s (byte s 6))
+      → x4 ≡ onwards x3 (recordsStep aPromise (byte s 3) s (byte s 7))
+      → x5 ≡ onwards x4 (endStep s)
+      → x5 ≡ stepTo (endAt s) (sectionsFault s)
   unfolding sectionsFault firstsAt stepsAt promisesAt endAt
   sections-chain x1 x2 x3 x4 x5 e1 e2 e3 e4 e5 =
       let n = byte s 3 in
@@ -118,11 +118,11 @@ module _ (s : List ℕ) where
       let p = recordsFault aPromise n s (byte s 7) (promisesAt s) in
       let q1 = limits-end x1 e1 in
       let q2 : x2 ≡ stepTo (stepsAt s) (l then f) =
-          onwards-same x1 _ x2 _ e2 q1 ∙ onwards-records aFirst n s (byte s 5) (firstsAt s) l in
+      onwards-same x1 _ x2 _ e2 q1 ∙ onwards-records aFirst n s (byte s 5) (firstsAt s) l in
       let q3 : x3 ≡ stepTo (promisesAt s) ((l then f) then t) =
-          onwards-same x2 _ x3 _ e3 q2 ∙ onwards-records aStep n s (byte s 6) (stepsAt s) (l then f) in
+      onwards-same x2 _ x3 _ e3 q2 ∙ onwards-records aStep n s (byte s 6) (stepsAt s) (l then f) in
       let q4 : x4 ≡ stepTo (endAt s) (((l then f) then t) then p) =
-          onwards-same x3 _ x4 _ e4 q3 ∙ onwards-records aPromise n s (byte s 7) (promisesAt s) ((l then f) then t) in
+      onwards-same x3 _ x4 _ e4 q3 ∙ onwards-records aPromise n s (byte s 7) (promisesAt s) ((l then f) then t) in
       onwards-same x4 _ x5 _ e5 q4 ∙ onwards-end s (endAt s) (((l then f) then t) then p) ∙ simp then-assoc
 
   pub limits-within : (x : Step) → x ≡ recordsStep aLimit (byte s 3) s (byte s 4) 8 → 8 ≤ length s → Within s x
@@ -150,8 +150,8 @@ header-passed s q =
 
 -- the sheet's fault is then that of its sections
 pub sections-are-whole :
-  (s : List ℕ) {c : Cursor} → stepTo 8 (headerFault s) ≡ Moved c
-  → stepTo (endAt s) (sectionsFault s) ≡ stepTo (endAt s) (firstFault s)
+    (s : List ℕ) {c : Cursor} → stepTo 8 (headerFault s) ≡ Moved c
+    → stepTo (endAt s) (sectionsFault s) ≡ stepTo (endAt s) (firstFault s)
 sections-are-whole s q =
     ap (λ (o : Option Fault). stepTo (endAt s) (o then sectionsFault s)) (sym (moved 8 (headerFault s) q .0))
     ∙ ap (stepTo (endAt s)) (whole-fault s)

@@ -7,11 +7,11 @@ use lib.ListN.{length}
 use Rattle.meaning.specs.Sheet as Sheet
 use Rattle.meaning.specs.Sheet.{unless, _then_}
 use Rattle.reader.specs.declared.Why.{Why}
-use Rattle.reader.specs.declared.Why.the-variants.{BadSize, BadVersion, BadLength, BadLetters, TooMany, RecordMissing, BadShape, BadLiteral, NotAscending, Surplus}
+use Rattle.reader.specs.declared.Why.the-variants.{BadSize, BadVersion, BadLength, BadLetters, TooMany, RecordMissing}
+use Rattle.reader.specs.declared.Why.the-variants.{BadShape, BadLiteral, NotAscending, Surplus}
 use Rattle.reader.specs.declared.Kind.{Kind}
 use Rattle.reader.specs.declared.Kind.the-variants.{Limit, FirstRule, StepRule, Promise}
 use Rattle.reader.specs.declared.Fault.{Fault}
-use Rattle.reader.specs.declared.cursor.Cursor.{Cursor}
 use Rattle.reader.specs.declared.cursor.Step.{Step}
 use Rattle.reader.specs.declared.cursor.Step.the-variants.{Moved, Refused}
 use Rattle.reader.specs.declared.Answer.{Answer}
@@ -55,6 +55,9 @@ kindOf Promise = Sheet.aPromise
 
 abbrev pub faultOf : Sheet.Fault → Fault
 faultOf f = record { why = whyOf (f .why); at = f .at }
+
+abbrev pub refusal : Why → ℕ → Step
+refusal why at = Refused (record { why = why; at = at })
 
 -- What a cursor's method gives back: the cursor at `end` if there was no fault, else the fault.
 abbrev pub stepTo : ℕ → Option Sheet.Fault → Step

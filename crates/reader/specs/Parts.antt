@@ -2,7 +2,7 @@
 -- of the record's own bytes. Assumes nothing.
 use mathlib.Core.Path.{_≡_}
 use mathlib.Core.List.{List}
-use Prim.Native.Nat.{ℕ, suc, _+_, _-_, _≤_, _<_}
+use Prim.Native.Nat.{ℕ, suc, _+_, _≤_, _<_}
 use lib.ListN.{length}
 use Rattle.meaning.specs.Sheet.{limitOf, stepOf, byte, bodyAt, nextAt}
 use Rattle.reader.specs.Place.{part}

@@ -6,7 +6,7 @@ use mathlib.Core.List.{List}
 use Prim.Native.Nat.{ℕ, _+_, _*_}
 use lib.Dec.{leb, eqb}
 use lib.ListN.{length}
-use Rattle.meaning.specs.Sheet.{badSize, badVersion, badLength, badLetters, tooMany, surplus, Fault, unless, _then_, byte, lettersIn}
+use Rattle.meaning.specs.Sheet.{badSize, badVersion, badLength, badLetters, tooMany, surplus, Fault, unless, _then_, byte}
 use Rattle.meaning.specs.Sheet.{aLimit, aFirst, aStep, aPromise, recordsFault, firstsAt, stepsAt, promisesAt, endAt}
 
 unfoldable pub headerFault : List ℕ → Option Fault

@@ -1,12 +1,11 @@
 // The reading cursor: each method takes it by value and gives back the moved cursor or the fault, checks in reading order.
+use super::Fault;
+use super::Kind;
+use super::Why;
 use super::literal::names_letter;
 use super::literal::signed_below;
 use super::parts::limit_parts;
 use super::parts::step_parts;
-use super::Fault;
-use super::Kind;
-use super::Why;
-
 ghost use mathlib.Core.Path.{_≡_};
 ghost use Rattle.meaning.specs.Sheet.{listFault, aLimit, aFirst, aStep, aPromise, endAt};
 ghost use Rattle.reader.specs.Answer.{stepTo, kindOf, recordStep, nextStep, recordsStep, onwards, OnwardsAsks, endStep};
@@ -35,10 +34,16 @@ impl Cursor {
         while at < end {
             let b = s[at];
             if !names_letter(b, n) {
-                return Step::Refused(Fault { why: Why::BadLiteral, at });
+                return Step::Refused(Fault {
+                    why: Why::BadLiteral,
+                    at,
+                });
             }
             if !signed_below(before, b) {
-                return Step::Refused(Fault { why: Why::NotAscending, at });
+                return Step::Refused(Fault {
+                    why: Why::NotAscending,
+                    at,
+                });
             }
             before = b;
             at += 1;
@@ -53,11 +58,17 @@ impl Cursor {
     {
         let at = self.at;
         if s[at] < 2 {
-            return Step::Refused(Fault { why: Why::BadShape, at });
+            return Step::Refused(Fault {
+                why: Why::BadShape,
+                at,
+            });
         }
         let kind = at + 1;
         if s[kind] > 1 {
-            return Step::Refused(Fault { why: Why::BadShape, at });
+            return Step::Refused(Fault {
+                why: Why::BadShape,
+                at,
+            });
         }
         let p = limit_parts(s, at);
         let start = Cursor { at: p.start };
@@ -84,11 +95,17 @@ impl Cursor {
         let at = self.at;
         let len = s[at];
         if len < 1 {
-            return Step::Refused(Fault { why: Why::BadShape, at });
+            return Step::Refused(Fault {
+                why: Why::BadShape,
+                at,
+            });
         }
         let count = at + 1;
         if s[count] >= len {
-            return Step::Refused(Fault { why: Why::BadShape, at });
+            return Step::Refused(Fault {
+                why: Why::BadShape,
+                at,
+            });
         }
         let p = step_parts(s, at);
         let left = Cursor { at: p.left };
@@ -105,7 +122,10 @@ impl Cursor {
     {
         let at = self.at;
         if s[at] != 1 {
-            return Step::Refused(Fault { why: Why::BadShape, at });
+            return Step::Refused(Fault {
+                why: Why::BadShape,
+                at,
+            });
         }
         let start = at + 1;
         let end = at + 2;
@@ -120,12 +140,18 @@ impl Cursor {
     {
         let at = self.at;
         if s.len() <= at {
-            return Step::Refused(Fault { why: Why::RecordMissing, at });
+            return Step::Refused(Fault {
+                why: Why::RecordMissing,
+                at,
+            });
         }
         let len = s[at] as usize;
         let start = at + 1;
         if len > s.len() - start {
-            return Step::Refused(Fault { why: Why::RecordMissing, at });
+            return Step::Refused(Fault {
+                why: Why::RecordMissing,
+                at,
+            });
         }
         match kind {
             Kind::Limit => self.limit(s, n),
@@ -192,7 +218,10 @@ impl Step {
                 if at == s.len() {
                     Step::Moved(c)
                 } else {
-                    Step::Refused(Fault { why: Why::Surplus, at })
+                    Step::Refused(Fault {
+                        why: Why::Surplus,
+                        at,
+                    })
                 }
             }
             Step::Refused(f) => Step::Refused(f),

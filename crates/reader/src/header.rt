@@ -1,21 +1,25 @@
 // A sheet's first eight bytes: document 01's faults 1 to 5, in that order.
-use super::cursor::Cursor;
-use super::cursor::Step;
 use super::Fault;
 use super::Why;
-
+use super::cursor::Cursor;
+use super::cursor::Step;
 ghost use mathlib.Core.Path.{_≡_};
 ghost use Prim.Native.Nat.{_+_, _*_};
 ghost use lib.Dec.{eqb};
-ghost use Rattle.reader.specs.Answer.{stepTo};
+ghost use Rattle.reader.specs.Answer.{stepTo, refusal};
 ghost use Rattle.reader.specs.Whole.{headerFault};
 
 // Document 01's bounds. The records start behind the header.
 pub const LEAST_BYTES: usize = 8;
+
 pub const MOST_BYTES: usize = 4096;
+
 pub const MOST_LETTERS: u8 = 24;
+
 pub const MOST_LIMITS: u8 = 32;
+
 pub const MOST_PROMISES: u8 = 16;
+
 pub const RECORDS_AT: usize = 8;
 
 // Whether a sheet of this version is read.
@@ -32,29 +36,36 @@ fn stated_length(high: u8, low: u8) -> usize
     (high as usize) * 256 + low as usize
 }
 
+// A fault at a byte of the header.
+fn refuse(why: Why, at: usize) -> Step
+    ensures { λ r. ⌜ r ≡ refusal why at ⌝ }
+{
+    Step::Refused(Fault { why, at })
+}
+
 // The header's first fault, or a cursor at the first record.
 pub fn header(s: &[u8]) -> Step
     ensures { λ r. ⌜ r ≡ stepTo 8 (headerFault (now (s .entry))) ⌝ }
 {
     let len = s.len();
     if len < LEAST_BYTES || len > MOST_BYTES {
-        return Step::Refused(Fault { why: Why::BadSize, at: 0 });
+        return refuse(Why::BadSize, 0);
     }
     if !version_ok(s[0]) {
-        return Step::Refused(Fault { why: Why::BadVersion, at: 0 });
+        return refuse(Why::BadVersion, 0);
     }
     if stated_length(s[1], s[2]) != len {
-        return Step::Refused(Fault { why: Why::BadLength, at: 1 });
+        return refuse(Why::BadLength, 1);
     }
     let n = s[3];
     if n < 1 || n > MOST_LETTERS {
-        return Step::Refused(Fault { why: Why::BadLetters, at: 3 });
+        return refuse(Why::BadLetters, 3);
     }
     if s[4] > MOST_LIMITS {
-        return Step::Refused(Fault { why: Why::TooMany, at: 4 });
+        return refuse(Why::TooMany, 4);
     }
     if s[7] > MOST_PROMISES {
-        return Step::Refused(Fault { why: Why::TooMany, at: 7 });
+        return refuse(Why::TooMany, 7);
     }
     Step::Moved(Cursor { at: RECORDS_AT })
 }

@@ -1,7 +1,6 @@
 // The sheet reader: whether a sheet is good, or the number of its first fault. One pass, front to back; nothing is copied and nothing
 // changed. What a caller may rely on is `ReadSays` of the meaning; what follows for a good sheet is in proofs/Good.antt.
 use cursor::Step;
-
 ghost use mathlib.Core.Path.{_≡_};
 ghost use Rattle.meaning.specs.Sheet.{endAt, firstFault};
 ghost use Rattle.meaning.specs.Promises.{ReadSays};

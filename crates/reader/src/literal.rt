@@ -10,7 +10,11 @@ ghost use Rattle.reader.specs.Signed.{signedOf};
 pub fn signed(b: u8) -> i8
     ensures { λ r. ⌜ r ≡ signedOf b ⌝ }
 {
-    if b < 128 { b as i8 } else { ((b as i16) - 256) as i8 }
+    if b < 128 {
+        b as i8
+    } else {
+        ((b as i16) - 256) as i8
+    }
 }
 
 // The size of a signed number other than -128, whose size is no signed byte.

@@ -20,12 +20,18 @@ number-requires : tie.Need-number-requires
 number-requires c κs = search needs
 
 returns : tie.Need-returns
-returns c = subst (λ (r : Answer). ReadSays (c .before .before .before .before .args .sheet .now) (answerNumber r)) (c .enum-told .given .1) (c .before .before .read .ensures)
+returns c =
+    let c2 = c .before .before in
+    let c4 = c2 .before .before in
+    subst (λ (r : Answer). ReadSays (c4 .args .sheet .now) (answerNumber r)) (c .enum-told .given .1) (c2 .read .ensures)
 
 returns-2 : tie.Need-returns-2
-returns-2 c = 
-    subst (ReadSays (c .before .before .before .before .before .before .args .sheet .now)) (sym (c .number .ensures))
-    (subst (λ (r : Answer). ReadSays (c .before .before .before .before .before .before .args .sheet .now) (answerNumber r)) (c .before .before .why .given .1) (c .before .before .before .before .read .ensures))
+returns-2 c =
+    let c2 = c .before .before in
+    let c4 = c2 .before .before in
+    let c6 = c4 .before .before in
+    subst (ReadSays (c6 .args .sheet .now)) (sym (c .number .ensures))
+    (subst (λ (r : Answer). ReadSays (c6 .args .sheet .now) (answerNumber r)) (c2 .why .given .1) (c4 .read .ensures))
 
 pub naxxurbi-read-spec : {M : Type 1} → statement M
 naxxurbi-read-spec =

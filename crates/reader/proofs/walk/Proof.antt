@@ -12,18 +12,27 @@ enum-known-c : tie.Need-enum-known-c
 enum-known-c c = search needs
 
 sections-requires : tie.Need-sections-requires
-sections-requires c κs = header-passed (c .before .before .before .before .before .args .sheet .now) (sym (c .before .before .before .header .ensures) ∙ c .before .c .given .1)
+sections-requires c κs =
+    let c3 = c .before .before .before in
+    let c5 = c3 .before .before in
+    header-passed (c5 .args .sheet .now) (sym (c3 .header .ensures) ∙ c .before .c .given .1)
 
 enum-known-f : tie.Need-enum-known-f
 enum-known-f c = search needs
 
 returns : tie.Need-returns
-returns c = 
+returns c =
+    let c2 = c .before .before in
+    let c4 = c2 .before .before in
+    let c6 = c4 .before .before in
     c .sections .ensures
-    ∙ sections-are-whole (c .before .before .before .before .before .before .args .sheet .now) (sym (c .before .before .before .before .header .ensures) ∙ c .before .before .c .given .1)
+    ∙ sections-are-whole (c6 .args .sheet .now) (sym (c4 .header .ensures) ∙ c2 .c .given .1)
 
 returns-2 : tie.Need-returns-2
-returns-2 c = header-refused (c .before .before .before .before .before .args .sheet .now) (sym (c .before .before .before .header .ensures) ∙ c .before .f .given .1)
+returns-2 c =
+    let c3 = c .before .before .before in
+    let c5 = c3 .before .before in
+    header-refused (c5 .args .sheet .now) (sym (c3 .header .ensures) ∙ c .before .f .given .1)
 
 pub walk-spec : {M : Type 1} → statement M
 walk-spec =

@@ -30,7 +30,7 @@ list-requires c κs = record { letters = c .before .before .pre .letters; order 
 
 returns : tie.Need-returns
 unfolding nextAt byte
-returns c = 
+returns c =
     let a = c .before .before .before .args in
     let next : a .self .at + 1 + getD (a .s .now) (a .self .at) 0 ≡ nextAt (a .s .now) (a .self .at) = omega arith in
     c .list .ensures ∙ first-shaped (a .s .now) (a .n) (a .self .at) (c .before .before .before .pre .fits) _ _ refl next

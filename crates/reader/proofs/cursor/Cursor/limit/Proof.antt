@@ -14,7 +14,9 @@ shared-slice-read-if1 c = omega arith
 
 returns : tie.Need-returns
 unfolding byte
-returns c = limit-short (c .before .before .before .args .s .now) (c .before .before .before .args .n) (c .before .before .before .args .self .at) (c .before .before .before .pre .fits) (c .if1 .taken)
+returns c =
+    let c3 = c .before .before .before in
+    limit-short (c3 .args .s .now) (c3 .args .n) (c3 .args .self .at) (c3 .pre .fits) (c .if1 .taken)
 
 add-kind : tie.Need-add-kind
 unfolding nextAt byte
@@ -26,23 +28,30 @@ shared-slice-read-if2 c = omega arith
 
 returns-2 : tie.Need-returns-2
 unfolding byte
-returns-2 c = limit-kind (c .before .before .before .before .before .args .s .now) (c .before .before .before .before .before .args .n) (c .before .before .before .before .before .args .self .at) (c .before .before .before .before .before .pre .fits) (c .before .before .if1 .left) (c .if2 .taken)
+returns-2 c =
+    let c2 = c .before .before in
+    let c5 = c2 .before .before .before in
+    limit-kind (c5 .args .s .now) (c5 .args .n) (c5 .args .self .at) (c5 .pre .fits) (c2 .if1 .left) (c .if2 .taken)
 
 limit-parts-requires : tie.Need-limit-parts-requires
 unfolding byte
 limit-parts-requires c κs = record { fits = c .before .before .before .before .before .pre .fits; long = c .before .before .if1 .left }
 
 list-requires : tie.Need-list-requires
-list-requires c κs = 
+list-requires c κs =
+    let c6 = c .before .before .before .before .before .before in
     let p = c .limit-parts .ensures in
-    record { letters = c .before .before .before .before .before .before .pre .letters; order = p .order; within = subst (λ (e : ℕ). e ≤ length (c .before .before .before .before .before .before .args .s .now)) (sym (p .end)) (c .before .before .before .before .before .before .pre .fits) }
+    record { letters = c6 .pre .letters; order = p .order; within = subst (λ (e : ℕ). e ≤ length (c6 .args .s .now)) (sym (p .end)) (c6 .pre .fits) }
 
 returns-3 : tie.Need-returns-3
 unfolding byte
-returns-3 c = 
+returns-3 c =
+    let c2 = c .before .before in
+    let c4 = c2 .before .before in
+    let c7 = c4 .before .before .before in
     c .list .ensures
-    ∙ limit-shaped (c .before .before .before .before .before .before .before .args .s .now) (c .before .before .before .before .before .before .before .args .n) (c .before .before .before .before .before .before .before .args .self .at) (c .before .before .before .before .before .before .before .pre .fits)
-      (c .before .limit-parts .result) (c .before .limit-parts .ensures) (c .before .before .before .before .if1 .left) (c .before .before .if2 .left)
+    ∙ limit-shaped (c7 .args .s .now) (c7 .args .n) (c7 .args .self .at) (c7 .pre .fits)
+    (c .before .limit-parts .result) (c .before .limit-parts .ensures) (c4 .if1 .left) (c2 .if2 .left)
 
 pub limit-spec : {M : Type 1} → statement M
 limit-spec =

@@ -24,20 +24,28 @@ names-letter-requires : tie.Need-names-letter-requires Inv-loop μ-loop
 names-letter-requires c κs = search needs
 
 returns : tie.Need-returns Inv-loop μ-loop
-returns c = 
-    let a = c .before .before .before .before .before .before .args in
-    listing-names-none (a .s .now) (a .n) (a .end) (a .self .at) (c .before .before .before .before .loop .before) (c .before .before .before .before .loop .at) (c .before .before .before .before .loop .inv)
-    (c .before .before .before .loop-test .taken) (c .before .before .before .before .before .before .pre .within) (sym (c .before .names-letter .ensures) ∙ not-true _ (c .if1 .taken))
+returns c =
+    let c3 = c .before .before .before in
+    let c4 = c3 .before in
+    let c6 = c4 .before .before in
+    let a = c6 .args in
+    listing-names-none (a .s .now) (a .n) (a .end) (a .self .at) (c4 .loop .before) (c4 .loop .at) (c4 .loop .inv)
+    (c3 .loop-test .taken) (c6 .pre .within) (sym (c .before .names-letter .ensures) ∙ not-true _ (c .if1 .taken))
 
 signed-below-requires : tie.Need-signed-below-requires Inv-loop μ-loop
 signed-below-requires c κs = search needs
 
 returns-2 : tie.Need-returns-2 Inv-loop μ-loop
-returns-2 c = 
-    let a = c .before .before .before .before .before .before .before .before .args in
-    listing-falls (a .s .now) (a .n) (a .end) (a .self .at) (c .before .before .before .before .before .before .loop .before) (c .before .before .before .before .before .before .loop .at) (c .before .before .before .before .before .before .loop .inv)
-    (c .before .before .before .before .before .loop-test .taken) (c .before .before .before .before .before .before .before .before .pre .within)
-    (sym (c .before .before .before .names-letter .ensures) ∙ not-false _ (c .before .before .if1 .left)) (sym (c .before .signed-below .ensures) ∙ not-true _ (c .if2 .taken))
+returns-2 c =
+    let c2 = c .before .before in
+    let c3 = c2 .before in
+    let c5 = c3 .before .before in
+    let c6 = c5 .before in
+    let c8 = c6 .before .before in
+    let a = c8 .args in
+    listing-falls (a .s .now) (a .n) (a .end) (a .self .at) (c6 .loop .before) (c6 .loop .at) (c6 .loop .inv)
+    (c5 .loop-test .taken) (c8 .pre .within)
+    (sym (c3 .names-letter .ensures) ∙ not-false _ (c2 .if1 .left)) (sym (c .before .signed-below .ensures) ∙ not-true _ (c .if2 .taken))
 
 add-at : tie.Need-add-at Inv-loop μ-loop
 add-at c = omega arith
@@ -46,14 +54,19 @@ loop-less : tie.Need-loop-less Inv-loop μ-loop
 loop-less c = omega arith
 
 loop-again : tie.Need-loop-again Inv-loop μ-loop
-loop-again c = 
-    let a = c .before .before .before .before .before .before .before .before .args in
-    listing-goes-on (a .s .now) (a .n) (a .end) (a .self .at) (c .before .before .before .before .before .before .loop .before) (c .before .before .before .before .before .before .loop .at) (c .before .before .before .before .before .before .loop .inv)
-    (c .before .before .before .before .before .loop-test .taken) (c .before .before .before .before .before .before .before .before .pre .within)
-    (sym (c .before .before .before .names-letter .ensures) ∙ not-false _ (c .before .before .if1 .left)) (sym (c .before .signed-below .ensures) ∙ not-false _ (c .if2 .left))
+loop-again c =
+    let c2 = c .before .before in
+    let c3 = c2 .before in
+    let c5 = c3 .before .before in
+    let c6 = c5 .before in
+    let c8 = c6 .before .before in
+    let a = c8 .args in
+    listing-goes-on (a .s .now) (a .n) (a .end) (a .self .at) (c6 .loop .before) (c6 .loop .at) (c6 .loop .inv)
+    (c5 .loop-test .taken) (c8 .pre .within)
+    (sym (c3 .names-letter .ensures) ∙ not-false _ (c2 .if1 .left)) (sym (c .before .signed-below .ensures) ∙ not-false _ (c .if2 .left))
 
 returns-3 : tie.Need-returns-3 Inv-loop μ-loop
-returns-3 c = 
+returns-3 c =
     let a = c .before .before .before .args in
     listing-done (a .s .now) (a .n) (a .end) (a .self .at) (c .before .loop .before) (c .before .loop .at) (c .before .loop .inv)
     (c .loop-test .left)

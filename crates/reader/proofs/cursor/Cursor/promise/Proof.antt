@@ -13,7 +13,9 @@ shared-slice-read-if1 c = omega arith
 
 returns : tie.Need-returns
 unfolding byte
-returns c = promise-long (c .before .before .before .args .s .now) (c .before .before .before .args .n) (c .before .before .before .args .self .at) (c .before .before .before .pre .fits) (c .if1 .taken)
+returns c =
+    let c3 = c .before .before .before in
+    promise-long (c3 .args .s .now) (c3 .args .n) (c3 .args .self .at) (c3 .pre .fits) (c .if1 .taken)
 
 add-start : tie.Need-add-start
 unfolding nextAt byte
@@ -29,7 +31,7 @@ list-requires c κs = record { letters = c .before .before .before .pre .letters
 
 returns-2 : tie.Need-returns-2
 unfolding nextAt byte
-returns-2 c = 
+returns-2 c =
     let a = c .before .before .before .before .args in
     let next : a .self .at + 2 ≡ nextAt (a .s .now) (a .self .at) = omega arith in
     c .list .ensures ∙ promise-shaped (a .s .now) (a .n) (a .self .at) (c .before .before .before .before .pre .fits) _ _ refl next (c .before .if1 .left)

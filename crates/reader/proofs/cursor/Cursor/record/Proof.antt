@@ -13,7 +13,7 @@ use Rattle.reader.proofs.cursor.Cursor.record.Tie as tie
 
 returns : tie.Need-returns
 unfolding nextAt byte
-returns c = 
+returns c =
     let a = c .before .before .args in
     let missing : length (a .s .now) < nextAt (a .s .now) (a .self .at) = omega arith in
     record-missing (kindOf (a .kind)) (a .n) (a .s .now) (a .self .at) missing
@@ -32,7 +32,7 @@ sub-if2 c = search needs
 
 returns-2 : tie.Need-returns-2
 unfolding nextAt byte
-returns-2 c = 
+returns-2 c =
     let a = c .before .before .before .before .args in
     let missing : length (a .s .now) < nextAt (a .s .now) (a .self .at) = omega arith in
     record-missing (kindOf (a .kind)) (a .n) (a .s .now) (a .self .at) missing
@@ -67,7 +67,7 @@ promise-requires c κs = record { letters = c .before .before .before .before .b
 
 returns-3 : tie.Need-returns-3
 unfolding nextAt byte
-returns-3 c = 
+returns-3 c =
     let a = c .before .before .before .before .before .before .before .args in
     let fits : nextAt (a .s .now) (a .self .at) ≤ length (a .s .now) = omega arith in
     c .limit .ensures
@@ -76,7 +76,7 @@ returns-3 c =
 
 returns-4 : tie.Need-returns-4
 unfolding nextAt byte
-returns-4 c = 
+returns-4 c =
     let a = c .before .before .before .before .before .before .before .args in
     let fits : nextAt (a .s .now) (a .self .at) ≤ length (a .s .now) = omega arith in
     c .first-rule .ensures
@@ -85,7 +85,7 @@ returns-4 c =
 
 returns-5 : tie.Need-returns-5
 unfolding nextAt byte
-returns-5 c = 
+returns-5 c =
     let a = c .before .before .before .before .before .before .before .args in
     let fits : nextAt (a .s .now) (a .self .at) ≤ length (a .s .now) = omega arith in
     c .step-rule .ensures
@@ -94,7 +94,7 @@ returns-5 c =
 
 returns-6 : tie.Need-returns-6
 unfolding nextAt byte
-returns-6 c = 
+returns-6 c =
     let a = c .before .before .before .before .before .before .before .args in
     let fits : nextAt (a .s .now) (a .self .at) ≤ length (a .s .now) = omega arith in
     c .promise .ensures

@@ -14,7 +14,9 @@ abbrev μ-loop : tie.MeasureT-loop
 μ-loop kind s n count c₀ left₀ c left = left
 
 loop-holds : tie.Need-loop-holds Inv-loop μ-loop
-loop-holds c = section-begins (kindOf (c .before .args .kind)) (c .before .args .n) (c .before .args .s .now) (c .before .args .count) (c .before .args .self .at) (c .before .pre .within)
+loop-holds c =
+    section-begins (kindOf (c .before .args .kind)) (c .before .args .n) (c .before .args .s .now) (c .before .args .count)
+    (c .before .args .self .at) (c .before .pre .within)
 
 record-requires : tie.Need-record-requires Inv-loop μ-loop
 record-requires c κs = record { letters = c .before .before .before .pre .letters; within = c .before .loop .inv .within }
@@ -29,22 +31,30 @@ loop-less : tie.Need-loop-less Inv-loop μ-loop
 loop-less c = omega arith
 
 loop-again : tie.Need-loop-again Inv-loop μ-loop
-loop-again c = 
-    let a = c .before .before .before .before .before .before .before .args in
-    section-goes-on (kindOf (a .kind)) (a .n) (a .s .now) (a .count) (a .self .at) (c .before .before .before .before .before .loop .left) (c .before .before .before .before .before .loop .c .at) (c .before .before .before .before .before .loop .inv)
-    (c .before .before .before .before .loop-test .taken) (sym (c .before .before .before .«record» .ensures) ∙ c .before .next .given .1)
+loop-again c =
+    let c3 = c .before .before .before in
+    let c4 = c3 .before in
+    let c5 = c4 .before in
+    let c7 = c5 .before .before in
+    let a = c7 .args in
+    section-goes-on (kindOf (a .kind)) (a .n) (a .s .now) (a .count) (a .self .at) (c5 .loop .left) (c5 .loop .c .at) (c5 .loop .inv)
+    (c4 .loop-test .taken) (sym (c3 .«record» .ensures) ∙ c .before .next .given .1)
 
 enum-known-f : tie.Need-enum-known-f Inv-loop μ-loop
 enum-known-f c = search needs
 
 returns : tie.Need-returns Inv-loop μ-loop
-returns c = 
-    let a = c .before .before .before .before .before .before .before .args in
-    section-refused (kindOf (a .kind)) (a .n) (a .s .now) (a .count) (a .self .at) (c .before .before .before .before .before .loop .left) (c .before .before .before .before .before .loop .c .at) (c .before .before .before .before .before .loop .inv)
-    (c .before .before .before .before .loop-test .taken) (sym (c .before .before .before .«record» .ensures) ∙ c .before .f .given .1)
+returns c =
+    let c3 = c .before .before .before in
+    let c4 = c3 .before in
+    let c5 = c4 .before in
+    let c7 = c5 .before .before in
+    let a = c7 .args in
+    section-refused (kindOf (a .kind)) (a .n) (a .s .now) (a .count) (a .self .at) (c5 .loop .left) (c5 .loop .c .at) (c5 .loop .inv)
+    (c4 .loop-test .taken) (sym (c3 .«record» .ensures) ∙ c .before .f .given .1)
 
 returns-2 : tie.Need-returns-2 Inv-loop μ-loop
-returns-2 c = 
+returns-2 c =
     let a = c .before .before .before .args in
     section-done (kindOf (a .kind)) (a .n) (a .s .now) (a .count) (a .self .at) (c .before .loop .left) (c .before .loop .c .at) (c .before .loop .inv)
     (c .loop-test .left)

@@ -9,16 +9,19 @@ use Rattle.reader.proofs.cursor.Cursor.sections.Statement.{statement}
 use Rattle.reader.proofs.cursor.Cursor.sections.Tie as tie
 
 limits-read :
-  (c : tie.After-records) → c .records .result
-  ≡ recordsStep aLimit (byte (c .before .before .before .before .args .s .now) 3) (c .before .before .before .before .args .s .now) (byte (c .before .before .before .before .args .s .now) 4) 8
+    (c : tie.After-records) → let s = c .before .before .before .before .args .s .now in
+    c .records .result ≡ recordsStep aLimit (byte s 3) s (byte s 4) 8
 unfolding byte
 limits-read c =
-    let s = c .before .before .before .before .args .s .now in
-    c .records .ensures ∙ ap (recordsStep aLimit (byte s 3) s (byte s 4)) (c .before .before .before .before .pre .behind)
+    let c4 = c .before .before .before .before in
+    let s = c4 .args .s .now in
+    c .records .ensures ∙ ap (recordsStep aLimit (byte s 3) s (byte s 4)) (c4 .pre .behind)
 
 -- each section ends within the sheet
 limits-in : (c : tie.After-records) → Within (c .before .before .before .before .args .s .now) (c .records .result)
-limits-in c = limits-within (c .before .before .before .before .args .s .now) (c .records .result) (limits-read c) (c .before .before .before .before .pre .least)
+limits-in c =
+    let c4 = c .before .before .before .before in
+    limits-within (c4 .args .s .now) (c .records .result) (limits-read c) (c4 .pre .least)
 
 firsts-in : (c : tie.After-then-records) → Within (c .before .before .before .before .before .before .args .s .now) (c .then-records .result)
 unfolding byte
@@ -42,7 +45,7 @@ shared-slice-read-records c = search needs
 
 records-requires : tie.Need-records-requires
 unfolding byte
-records-requires c κs = 
+records-requires c κs =
     let asks = c .before .before .before .pre in
     record { letters = omega (arith, asks .letters); within = omega (arith, asks .least, asks .behind) }
 
@@ -58,23 +61,31 @@ shared-slice-read-then-records-2 c = search needs
 
 then-records-requires-2 : tie.Need-then-records-requires-2
 unfolding byte
-then-records-requires-2 c κs = record { letters = omega (arith, c .before .before .before .before .before .before .before .pre .letters); within = firsts-in (c .before) }
+then-records-requires-2 c κs =
+    let c7 = c .before .before .before .before .before .before .before in
+    record { letters = omega (arith, c7 .pre .letters); within = firsts-in (c .before) }
 
 shared-slice-read-then-records-3 : tie.Need-shared-slice-read-then-records-3
 shared-slice-read-then-records-3 c = search needs
 
 then-records-requires-3 : tie.Need-then-records-requires-3
 unfolding byte
-then-records-requires-3 c κs = record { letters = omega (arith, c .before .before .before .before .before .before .before .before .before .pre .letters); within = steps-in (c .before) }
+then-records-requires-3 c κs =
+    let c9 = c .before .before .before .before .before .before .before .before .before in
+    record { letters = omega (arith, c9 .pre .letters); within = steps-in (c .before) }
 
 then-end-requires : tie.Need-then-end-requires
 then-end-requires c κs = search needs
 
 returns : tie.Need-returns
 unfolding byte
-returns c = 
-    sections-chain (c .before .before .before .before .before .before .before .before .before .before .before .args .s .now) _ _ _ _ _ (limits-read (c .before .before .before .before .before .before .before)) (c .before .before .before .before .before .then-records .ensures)
-    (c .before .before .before .then-records2 .ensures) (c .before .then-records3 .ensures) (c .then-end .ensures)
+returns c =
+    let c3 = c .before .before .before in
+    let c5 = c3 .before .before in
+    let c7 = c5 .before .before in
+    let c11 = c7 .before .before .before .before in
+    sections-chain (c11 .args .s .now) _ _ _ _ _ (limits-read (c7)) (c5 .then-records .ensures)
+    (c3 .then-records2 .ensures) (c .before .then-records3 .ensures) (c .then-end .ensures)
 
 pub sections-spec : {M : Type 1} → statement M
 sections-spec =

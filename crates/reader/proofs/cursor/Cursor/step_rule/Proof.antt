@@ -16,7 +16,9 @@ shared-slice-read-len c = omega arith
 
 returns : tie.Need-returns
 unfolding byte
-returns c = step-short (c .before .before .before .args .s .now) (c .before .before .before .args .n) (c .before .before .before .args .self .at) (c .before .before .before .pre .fits) (c .if1 .taken)
+returns c =
+    let c3 = c .before .before .before in
+    step-short (c3 .args .s .now) (c3 .args .n) (c3 .args .self .at) (c3 .pre .fits) (c .if1 .taken)
 
 add-count : tie.Need-add-count
 unfolding nextAt byte
@@ -28,11 +30,14 @@ shared-slice-read-if2 c = omega arith
 
 returns-2 : tie.Need-returns-2
 unfolding byte
-returns-2 c = step-count (c .before .before .before .before .before .args .s .now) (c .before .before .before .before .before .args .n) (c .before .before .before .before .before .args .self .at) (c .before .before .before .before .before .pre .fits) (c .before .before .if1 .left) (c .if2 .taken)
+returns-2 c =
+    let c2 = c .before .before in
+    let c5 = c2 .before .before .before in
+    step-count (c5 .args .s .now) (c5 .args .n) (c5 .args .self .at) (c5 .pre .fits) (c2 .if1 .left) (c .if2 .taken)
 
 step-parts-requires : tie.Need-step-parts-requires
 unfolding byte
-step-parts-requires c κs = 
+step-parts-requires c κs =
     let a = c .before .before .before .before .before .args in
     record {
       fits = c .before .before .before .before .before .pre .fits;
@@ -48,16 +53,21 @@ enum-known-right c = search needs
 
 list-requires-2 : tie.Need-list-requires-2
 unfolding byte
-list-requires-2 c κs = 
-    let p = c .before .before .before .before .step-parts .ensures in
+list-requires-2 c κs =
+    let c3 = c .before .before .before in
+    let c4 = c3 .before in
+    let c5 = c4 .before in
+    let c7 = c5 .before .before in
+    let c10 = c7 .before .before .before in
+    let p = c4 .step-parts .ensures in
     let m =
-        left-moved (c .before .before .before .before .before .before .before .before .before .before .args .s .now) (c .before .before .before .before .before .before .before .before .before .before .args .n) (c .before .before .before .before .before .before .before .before .before .before .args .self .at) (c .before .before .before .before .before .before .before .before .before .before .pre .fits)
-        (c .before .before .before .before .step-parts .result) (c .before .before .before .before .step-parts .ensures) (c .before .before .before .before .before .before .before .if1 .left) (c .before .before .before .before .before .if2 .left)
-        (sym (c .before .before .before .list .ensures) ∙ c .before .right .given .1) in
+    left-moved (c10 .args .s .now) (c10 .args .n) (c10 .args .self .at) (c10 .pre .fits)
+    (c4 .step-parts .result) (c4 .step-parts .ensures) (c7 .if1 .left) (c5 .if2 .left)
+    (sym (c3 .list .ensures) ∙ c .before .right .given .1) in
     record {
-      letters = c .before .before .before .before .before .before .before .before .before .before .pre .letters;
+      letters = c10 .pre .letters;
       order = omega (arith, m .0, p .order-2);
-      within = omega (arith, p .end, c .before .before .before .before .before .before .before .before .before .before .pre .fits);
+      within = omega (arith, p .end, c10 .pre .fits);
     }
 
 enum-known-f : tie.Need-enum-known-f
@@ -65,18 +75,29 @@ enum-known-f c = search needs
 
 returns-3 : tie.Need-returns-3
 unfolding byte
-returns-3 c = 
+returns-3 c =
+    let c2 = c .before .before in
+    let c4 = c2 .before .before in
+    let c5 = c4 .before in
+    let c6 = c5 .before in
+    let c8 = c6 .before .before in
+    let c11 = c8 .before .before .before in
     c .list2 .ensures
-    ∙ left-moved (c .before .before .before .before .before .before .before .before .before .before .before .args .s .now) (c .before .before .before .before .before .before .before .before .before .before .before .args .n) (c .before .before .before .before .before .before .before .before .before .before .before .args .self .at) (c .before .before .before .before .before .before .before .before .before .before .before .pre .fits)
-        (c .before .before .before .before .before .step-parts .result) (c .before .before .before .before .before .step-parts .ensures) (c .before .before .before .before .before .before .before .before .if1 .left) (c .before .before .before .before .before .before .if2 .left)
-        (sym (c .before .before .before .before .list .ensures) ∙ c .before .before .right .given .1) .1
+    ∙ left-moved (c11 .args .s .now) (c11 .args .n) (c11 .args .self .at) (c11 .pre .fits)
+    (c5 .step-parts .result) (c5 .step-parts .ensures) (c8 .if1 .left) (c6 .if2 .left)
+    (sym (c4 .list .ensures) ∙ c2 .right .given .1) .1
 
 returns-4 : tie.Need-returns-4
 unfolding byte
-returns-4 c = 
-    left-refused (c .before .before .before .before .before .before .before .before .before .before .args .s .now) (c .before .before .before .before .before .before .before .before .before .before .args .n) (c .before .before .before .before .before .before .before .before .before .before .args .self .at) (c .before .before .before .before .before .before .before .before .before .before .pre .fits)
-        (c .before .before .before .before .step-parts .result) (c .before .before .before .before .step-parts .ensures) (c .before .before .before .before .before .before .before .if1 .left) (c .before .before .before .before .before .if2 .left)
-        (sym (c .before .before .before .list .ensures) ∙ c .before .f .given .1)
+returns-4 c =
+    let c3 = c .before .before .before in
+    let c4 = c3 .before in
+    let c5 = c4 .before in
+    let c7 = c5 .before .before in
+    let c10 = c7 .before .before .before in
+    left-refused (c10 .args .s .now) (c10 .args .n) (c10 .args .self .at) (c10 .pre .fits)
+    (c4 .step-parts .result) (c4 .step-parts .ensures) (c7 .if1 .left) (c5 .if2 .left)
+    (sym (c3 .list .ensures) ∙ c .before .f .given .1)
 
 pub step-rule-spec : {M : Type 1} → statement M
 step-rule-spec =

@@ -14,12 +14,12 @@ enum-known-self-2 : tie.Need-enum-known-self-2
 enum-known-self-2 c = search needs
 
 returns : tie.Need-returns
-returns c = 
+returns c =
     at-end (c .before .before .before .before .args .s .now) (c .before .before .self .given .0 .0 .at) (c .if1 .taken)
     ∙ ap (λ (t : Step). onwards t (endStep (c .before .before .before .before .args .s .now))) (sym (c .before .before .self .given .1))
 
 returns-2 : tie.Need-returns-2
-returns-2 c = 
+returns-2 c =
     not-at-end (c .before .before .before .before .args .s .now) (c .before .before .self .given .0 .0 .at) (c .if1 .left)
     ∙ ap (λ (t : Step). onwards t (endStep (c .before .before .before .before .args .s .now))) (sym (c .before .before .self .given .1))
 

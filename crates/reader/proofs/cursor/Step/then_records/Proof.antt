@@ -10,18 +10,24 @@ enum-known-self : tie.Need-enum-known-self
 enum-known-self c = search needs
 
 records-requires : tie.Need-records-requires
-records-requires c κs = record { letters = c .before .before .before .before .pre .letters; within = subst (Within (c .before .before .before .before .args .s .now)) (c .before .self .given .1) (c .before .before .before .before .pre .within) }
+records-requires c κs =
+    let c4 = c .before .before .before .before in
+    record { letters = c4 .pre .letters; within = subst (Within (c4 .args .s .now)) (c .before .self .given .1) (c4 .pre .within) }
 
 enum-known-self-2 : tie.Need-enum-known-self-2
 enum-known-self-2 c = search needs
 
 returns : tie.Need-returns
-returns c = 
+returns c =
+    let c2 = c .before .before in
+    let c5 = c2 .before .before .before in
     c .records .ensures
-    ∙ ap (λ (t : Step). onwards t (recordsStep (kindOf (c .before .before .before .before .before .args .kind)) (c .before .before .before .before .before .args .n) (c .before .before .before .before .before .args .s .now) (c .before .before .before .before .before .args .count))) (sym (c .before .before .self .given .1))
+    ∙ ap (λ (t : Step). onwards t (recordsStep (kindOf (c5 .args .kind)) (c5 .args .n) (c5 .args .s .now) (c5 .args .count))) (sym (c2 .self .given .1))
 
 returns-2 : tie.Need-returns-2
-returns-2 c = ap (λ (t : Step). onwards t (recordsStep (kindOf (c .before .before .before .before .args .kind)) (c .before .before .before .before .args .n) (c .before .before .before .before .args .s .now) (c .before .before .before .before .args .count))) (sym (c .before .self2 .given .1))
+returns-2 c =
+    let c4 = c .before .before .before .before in
+    ap (λ (t : Step). onwards t (recordsStep (kindOf (c4 .args .kind)) (c4 .args .n) (c4 .args .s .now) (c4 .args .count))) (sym (c .before .self2 .given .1))
 
 pub then-records-spec : {M : Type 1} → statement M
 then-records-spec =

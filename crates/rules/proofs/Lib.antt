@@ -1,0 +1,11 @@
+pub mod Same
+pub mod Bit
+pub mod Masks
+pub mod Asking
+pub mod Rows
+pub mod Gathering
+pub mod Sorted
+pub mod Summing
+pub mod RowLaws
+pub mod SectionLaws
+pub mod BookLaws

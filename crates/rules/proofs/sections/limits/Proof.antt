@@ -1,0 +1,90 @@
+-- The first i rows of the section stand. Assumes nothing.
+use mathlib.Core.Path.{_≡_, sym, subst}
+use native.Mathlib.Omega.{arith}
+use Prim.Native.Nat.{ℕ, _-_, _≤_}
+use lib.ListN.{getD}
+use Rattle.meaning.specs.Sheet.{byte}
+use Rattle.reader.proofs.Good.{good-header}
+use Rattle.rules.specs.Compile.{Section, LimitRowOf, LimitSound}
+use Rattle.rules.proofs.SectionLaws.{none-written, limit-sound, limit-more}
+use Rattle.rules.proofs.sections.limits.Statement.{statement}
+use Rattle.rules.proofs.sections.limits.Tie as tie
+
+abbrev Inv-loop : tie.InvT-loop
+Inv-loop sheet book₀ count at₀ i₀ book at i = (i ≤ count) × Section LimitRowOf sheet 8 8 book₀ book i at
+
+abbrev μ-loop : tie.MeasureT-loop
+μ-loop sheet book₀ count at₀ i₀ book at i = count - i
+
+shared-slice-read-count : tie.Need-shared-slice-read-count Inv-loop μ-loop
+shared-slice-read-count c =
+    let start = c .before .before .before in
+    let h = good-header (start .args .sheet .now) (start .pre .0) .least in omega arith
+
+cast-count : tie.Need-cast-count Inv-loop μ-loop
+cast-count c = omega (arith, c .shared-slice-known2 .given 4)
+
+loop-holds : tie.Need-loop-holds Inv-loop μ-loop
+loop-holds c = (omega arith, none-written _ _ _ _ _)
+
+mul-row : tie.Need-mul-row Inv-loop μ-loop
+mul-row c = omega (arith, c .before .before .shared-slice-known2 .given 4)
+
+add-row : tie.Need-add-row Inv-loop μ-loop
+add-row c = omega (arith, c .before .before .shared-slice-known2 .given 4)
+
+limit-requires : tie.Need-limit-requires Inv-loop μ-loop
+unfolding byte
+limit-requires c κs =
+    let a = c .before .before .before .before .before .before .args in
+    let l = c .before .before .loop in
+    let good = c .before .before .before .before .before .before .pre .0 in
+    let e = l .inv .1 .keeps .long in
+    let n = c .before .before .before .before .before .before .pre .1 in
+    let few = good-header (a .sheet .now) good .few-limits in
+    let lt = c .before .loop-test .taken in
+    (subst (LimitSound (a .sheet .now)) (sym (l .inv .1 .there)) (limit-sound (a .sheet .now) good (l .i) lt), omega arith)
+
+add-i : tie.Need-add-i Inv-loop μ-loop
+add-i c = omega (arith, c .before .before .before .before .before .before .shared-slice-known2 .given 4)
+
+loop-less : tie.Need-loop-less Inv-loop μ-loop
+loop-less c = omega arith
+
+loop-again : tie.Need-loop-again Inv-loop μ-loop
+loop-again c =
+    let a = c .before .before .before .before .before .before .before .before .before .args in
+    let l = c .before .before .before .before .before .loop in
+    let w = c .before .before .limit in
+    (omega arith, limit-more (a .sheet .now) (a .book .now) (l .book) (w .last .1 .1 .0) (l .i) (l .at) (w .result) (l .inv .1) (w .ensures))
+
+same-length : tie.Need-same-length Inv-loop μ-loop
+same-length c = c .before .loop .inv .1 .keeps .long
+
+returns : tie.Need-returns Inv-loop μ-loop
+unfolding byte
+returns c =
+    let a = c .before .before .before .before .before .args in
+    let l = c .before .loop in
+    let h = c .loop-test .left in
+    let k = l .inv .0 in
+    let e : l .i ≡ getD (a .sheet .now) 4 0 = omega arith in
+    subst (λ (x : ℕ). Section LimitRowOf (a .sheet .now) 8 8 (a .book .now) (l .book) x (l .at)) e (l .inv .1)
+
+pub limits-spec : {M : Type 1} → statement M
+limits-spec =
+    tie.close
+    (tie.spec
+    Inv-loop
+    μ-loop
+    shared-slice-read-count
+    cast-count
+    loop-holds
+    mul-row
+    add-row
+    limit-requires
+    add-i
+    loop-less
+    loop-again
+    same-length
+    returns)

@@ -1,0 +1,4 @@
+pub mod Book
+pub mod Literals
+pub mod Rows
+pub mod Compile

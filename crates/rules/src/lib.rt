@@ -1,0 +1,21 @@
+// Rules: a good sheet compiled into a book (two masks for each list of literals), and the tests of states against it. What the functions
+// promise is said in specs/Book.antt; that a book's system is its sheet's is proofs/Same.antt.
+pub mod ask;
+pub mod build;
+pub mod gather;
+pub mod record;
+pub mod sections;
+pub mod tally;
+
+pub use ask::first_state;
+pub use ask::kept;
+pub use ask::lawful;
+pub use ask::letters;
+pub use ask::moves;
+pub use ask::promises;
+pub use gather::clear;
+pub use gather::fits;
+pub use gather::gather_before;
+pub use gather::gather_first;
+pub use gather::gather_next;
+pub use sections::compile;

@@ -1,0 +1,47 @@
+// Two masks against a state: how many of their literals are true in it, whether some is, whether all are.
+ghost use mathlib.Core.Path.{_≡_};
+ghost use lib.Count.{ones};
+ghost use Rattle.rules.specs.Book.{countOf, someOf, allOf};
+
+// How many bits of x are set.
+fn ones_in(x: u32) -> u32
+    ensures { λ r. ⌜ r ≡ ones x ⌝ }
+{
+    let mut left = x;
+    let mut n: u32 = 0;
+    while left > 0 {
+        let lower = left - 1;
+        left = left & lower;
+        n += 1;
+    }
+    n
+}
+
+// How many literals are true in s.
+pub fn count_true(s: u32, held: u32, unheld: u32) -> u32
+    ensures { λ r. ⌜ r ≡ countOf s held unheld ⌝ }
+{
+    let holding = ones_in(s & held);
+    let named = ones_in(unheld);
+    let broken = ones_in(s & unheld);
+    let rest = named - broken;
+    holding + rest
+}
+
+// Whether some literal is true in s.
+pub fn some_true(s: u32, held: u32, unheld: u32) -> bool
+    ensures { λ r. ⌜ r ≡ someOf s held unheld ⌝ }
+{
+    let common = s & held;
+    let broken = s & unheld;
+    common != 0 || broken != unheld
+}
+
+// Whether every literal is true in s.
+pub fn all_true(s: u32, held: u32, unheld: u32) -> bool
+    ensures { λ r. ⌜ r ≡ allOf s held unheld ⌝ }
+{
+    let common = s & held;
+    let broken = s & unheld;
+    common == held && broken == 0
+}
