@@ -28,9 +28,11 @@ loop-holds : tie.Need-loop-holds Inv-loop μ-loop
 loop-holds c =
     let start = c .before .before .before in
     let a = start .args in
-    let l = a .book .now in
-    (omega arith, subst (λ (x : ℕ). Section FirstRowOf (a .sheet .now) 136 (firstsAt (a .sheet .now)) l l 0 x)
-      (sym (start .pre .2)) (none-written _ _ _ _ _))
+    let l = a .book .now in (
+      omega arith,
+      subst (λ (x : ℕ). Section FirstRowOf (a .sheet .now) 136 (firstsAt (a .sheet .now)) l l 0 x)
+          (sym (start .pre .2)) (none-written _ _ _ _ _),
+    )
 
 mul-row : tie.Need-mul-row Inv-loop μ-loop
 mul-row c = omega (arith, c .before .before .shared-slice-known2 .given 5)

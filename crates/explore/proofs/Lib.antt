@@ -1,0 +1,4 @@
+pub mod Places
+pub mod Adding
+pub mod Covering
+pub mod Going
