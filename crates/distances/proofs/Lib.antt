@@ -1,0 +1,6 @@
+pub mod Totals
+pub mod Moves
+pub mod Spreads
+pub mod Closed
+pub mod Turns
+pub mod Exact

@@ -1,0 +1,102 @@
+-- What the functions below `distances` promise one another: how a place begins, what one spread does, and what the values say while a
+-- layer is being spread. Assumes nothing.
+use mathlib.Core.Path.{_≡_}
+use mathlib.Core.Bool.{true}
+use mathlib.Core.Logic.{_⊎_}
+use mathlib.Core.List.{List}
+use Prim.Native.Nat.{ℕ, zero, suc, _+_, _-_, _≤_, _<_}
+use lib.ListN.{length, getD}
+use Rattle.meaning.specs.System.{System}
+use Rattle.meaning.specs.Strike.{Way}
+use Rattle.rules.specs.Book.{Shaped, promisesOf, bookLawful, bookKept, packClear, bookSystem}
+use Rattle.distances.specs.Far.{Live, far, gone, Place}
+
+-- what `distances` asks of the sheet and the table
+pub record Measurable (book : List ℕ) (k : ℕ) (table words : List ℕ) (r : ℕ) : Type 0 where
+  pub shaped : Shaped book
+  pub promise : k < promisesOf book
+  pub in-table : r ≤ length table
+  pub in-words : r ≤ length words
+  pub few : r ≤ 16384
+  pub lawful : (i : ℕ) → i < r → bookLawful book (getD table i 0) ≡ true
+
+-- promise k is kept in s
+abbrev pub keptIn : (book : List ℕ) (k s : ℕ) → Type 0
+keptIn book k s = bookKept book k s ≡ true
+
+-- a move leads from place i to the pack's state
+abbrev pub clearOf : (table pack : List ℕ) (count i : ℕ) → Type 0
+clearOf table pack count i = packClear pack count (getD table i 0) ≡ true
+
+-- what a place begins with
+pub data Begun (Goal : Type 0) (word : ℕ) : ℕ → Type 0 where
+  out : (word ≡ 0 → ⊥) → Begun Goal word gone
+  there : word ≡ 0 → Goal → Begun Goal word 0
+  waits : word ≡ 0 → (Goal → ⊥) → Begun Goal word far
+
+-- the sum of w over the first n places
+abbrev pub total : (ℕ → ℕ) → ℕ → ℕ
+total w zero = 0
+total w (suc n) = total w n + w n
+
+-- 1 where a place is not reached yet, 0 elsewhere; how many of the first n are not
+abbrev pub farAt : List ℕ → ℕ → ℕ
+farAt near i = getD near i 0 - gone
+
+abbrev pub fars : List ℕ → ℕ → ℕ
+fars near n = total (farAt near) n
+
+-- what one spread does to a place: it was far and P holds there, and it has d now; or it is as it was
+pub data Reaches (P : Type 0) (d old new : ℕ) : Type 0 where
+  as-was : new ≡ old → (old ≡ far → P → ⊥) → Reaches P d old new
+  reached : old ≡ far → P → new ≡ d → Reaches P d old new
+
+-- one spread over the first n places, which gives d to `got` of them
+pub record Spread (P : ℕ → Type 0) (d n : ℕ) (old new : List ℕ) (got : ℕ) : Type 0 where
+  pub long : length new ≡ length old
+  pub each : (i : ℕ) → i < n → Reaches (P i) d (getD old i 0) (getD new i 0)
+  pub rest : (i : ℕ) → n ≤ i → getD new i 0 ≡ getD old i 0
+  pub counted : got + fars new n ≡ fars old n
+
+-- the moves to place m are known: it stands in a layer before d, or in layer d below place j
+abbrev pub Done : (d j m x : ℕ) → Type 0
+Done d j m x = (x < d) ⊎ ((x ≡ d) × (m < j))
+
+-- what the values say while layer d is spread: its first j places are, and `got` places were added
+pub record Layered (S : System) (G : ℕ → Type 0) (table words : List ℕ) (r d j got : ℕ) (near : List ℕ) : Type 0 where
+  pub long : length near ≡ r
+  pub struck : (i : ℕ) → i < r → (getD words i 0 ≡ 0 → ⊥) → getD near i 0 ≡ gone
+  pub each : (i : ℕ) → i < r → getD words i 0 ≡ 0 → (getD near i 0 ≡ far)
+      ⊎ ((getD near i 0 ≤ suc d) × (getD near i 0 ≤ d + got) × Way S (Live table words r) G (getD near i 0) (getD table i 0))
+  pub base : (i : ℕ) → i < r → getD words i 0 ≡ 0 → G (getD table i 0) → getD near i 0 ≡ 0
+  pub steps : (i m : ℕ) → i < r → m < r → getD words i 0 ≡ 0 → getD words m 0 ≡ 0 → S .Move (getD table i 0) (getD table m 0)
+      → Done d j m (getD near m 0) → getD near i 0 ≤ suc (getD near m 0)
+
+-- the first layer, and how many places are not reached yet
+pub record Opening (book : List ℕ) (k : ℕ) (table words : List ℕ) (r left : ℕ) (near : List ℕ) : Type 0 where
+  pub first : Layered (bookSystem book) (bookSystem book .Kept k) table words r 0 0 0 near
+  pub left-is : left ≡ fars near r
+  pub few : left ≤ r
+
+-- the distances of the first r places, from place 0 on
+pub record Near (S : System) (G : ℕ → Type 0) (table words : List ℕ) (r : ℕ) (near : List ℕ) : Type 0 where
+  pub long : length near ≡ r
+  pub places : (i : ℕ) → i < r → Place S (Live table words r) G (getD table i 0) (getD words i 0) (getD near i 0)
+
+-- layer d may be spread: `left` places are not reached yet, and there is room for the numbers
+pub record Spreadable (book table : List ℕ) (r d left : ℕ) (near : List ℕ) : Type 0 where
+  pub shaped : Shaped book
+  pub in-table : r ≤ length table
+  pub long : length near ≡ r
+  pub small : d < 16384
+  pub left-is : left ≡ fars near r
+  pub room : left ≤ 16384
+
+-- layer d is spread, and `got` places are reached by it: whatever the promise and the words are that the values before it speak of, the
+-- values now speak of them too
+pub record LayerDone (book table : List ℕ) (r d got : ℕ) (old near : List ℕ) : Type 0 where
+  pub long : length near ≡ r
+  pub counted : got + fars near r ≡ fars old r
+  pub spread-all : (k : ℕ) (words : List ℕ) → Measurable book k table words r
+      → Layered (bookSystem book) (bookSystem book .Kept k) table words r d 0 0 old
+      → Layered (bookSystem book) (bookSystem book .Kept k) table words r d r got near

@@ -1,0 +1,27 @@
+-- `front`: the part that is lent has n bytes. Assumes nothing.
+use mathlib.Core.Path.{sym}
+use Prim.Native.Nat.{_≤_}
+use native.Mathlib.Omega.{arith}
+use lib.ListN.{length}
+use lib.Seq.{length-take-le}
+use borrow.Author.Needs.{needs}
+use Rattle.reader_cases.proofs.built.front.Statement.{statement}
+use Rattle.reader_cases.proofs.built.front.Tie as tie
+
+slice-aggregate-show : tie.Need-slice-aggregate-show
+slice-aggregate-show c =
+    let s = c .before .before .before .before .args in
+    let within : s .n ≤ length (s .sheet .now) = omega arith in
+    sym (length-take-le (s .n) (s .sheet .now) within)
+
+show-requires : tie.Need-show-requires
+show-requires c κs = search needs
+
+returns : tie.Need-returns
+returns c = search needs
+
+returns-2 : tie.Need-returns-2
+returns-2 c = search needs
+
+pub front-spec : {M : Type 1} → statement M
+front-spec = tie.close (tie.spec slice-aggregate-show show-requires returns returns-2)

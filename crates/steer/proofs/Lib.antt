@@ -1,0 +1,8 @@
+pub mod Marks
+pub mod Books
+pub mod Places
+pub mod Distances
+pub mod Nexts
+pub mod Trails
+pub mod Writings
+pub mod Papers

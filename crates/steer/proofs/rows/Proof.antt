@@ -1,0 +1,56 @@
+-- `steer::rows` meets its contract: zeros where there are no promises, else the promises' rows. Assumes nothing.
+use mathlib.Core.Path.{subst}
+use Prim.Native.Nat.{ℕ, _*_, _≤_}
+use native.Mathlib.Omega.{arith}
+use borrow.Author.Needs.{needs}
+use lib.ListN.{length}
+use Rattle.steer.proofs.Books.{promises-are}
+use Rattle.steer.proofs.Distances.{rowed-of-none}
+use Rattle.steer.proofs.rows.Statement.{statement}
+use Rattle.steer.proofs.rows.Tie as tie
+
+promises-requires : tie.Need-promises-requires
+promises-requires c κs = search needs
+
+no-distances-requires : tie.Need-no-distances-requires
+no-distances-requires c κs = search needs
+
+promise-rows-requires : tie.Need-promise-rows-requires
+promise-rows-requires c κs =
+    let start = c .before .before .before .before .before .before .before in (
+      start .pre .0,
+      c .before .before .promises .ensures,
+      omega arith,
+      subst (λ (y : ℕ). y * start .args .k ≤ length (start .args .dist .now)) (omega (arith, promises-are (start .args .book .now))) (start .pre .1),
+    )
+
+same-length : tie.Need-same-length
+same-length c = search needs
+
+returns : tie.Need-returns
+returns c =
+    let at-no-distances = c .before .before in
+    let start = at-no-distances .before .before .before .before .before .before .before .before in
+    record {
+      rowed = rowed-of-none (start .pre .0 .livables) (omega (arith, promises-are (start .args .book .now)))
+          (at-no-distances .no-distances .ensures .zero-below);
+      long = at-no-distances .no-distances .ensures .long;
+    }
+
+same-length-2 : tie.Need-same-length-2
+same-length-2 c = search needs
+
+returns-2 : tie.Need-returns-2
+returns-2 c = search needs
+
+pub rows-spec : {M : Type 1} → statement M
+rows-spec =
+    tie.close
+    (tie.spec
+    promises-requires
+    no-distances-requires
+    promise-rows-requires
+    same-length
+    returns
+    same-length-2
+    returns-2)

@@ -1,0 +1,67 @@
+-- `steer::step` meets its contract: the aim passes, and what the scan picks is the best next state. Assumes nothing.
+use native.Mathlib.Omega.{arith}
+use borrow.Author.Needs.{needs}
+use lib.ListN.{getD}
+use Rattle.steer.proofs.Distances.{row-within}
+use Rattle.steer.proofs.Nexts.{best-picked}
+use Rattle.steer.proofs.step.Statement.{statement}
+use Rattle.steer.proofs.step.Tie as tie
+
+mul-s : tie.Need-mul-s
+mul-s c = search needs
+
+shared-slice-read-s : tie.Need-shared-slice-read-s
+shared-slice-read-s c = search needs
+
+passed-requires : tie.Need-passed-requires
+passed-requires c κs = search needs
+
+slice-aggregate-gather-next : tie.Need-slice-aggregate-gather-next
+slice-aggregate-gather-next c = search needs
+
+gather-next-requires : tie.Need-gather-next-requires
+gather-next-requires c κs = search needs
+
+mul-from : tie.Need-mul-from
+mul-from c =
+    let at-passed = c .before .before .before in
+    let start = at-passed .before .before .before .before .before in
+    omega (arith, row-within (start .pre .0) (at-passed .passed .result) (at-passed .passed .ensures .1))
+
+slice-aggregate-nearest : tie.Need-slice-aggregate-nearest
+slice-aggregate-nearest c = search needs
+
+nearest-requires : tie.Need-nearest-requires
+nearest-requires c κs =
+    let at-gather-next = c .before .before in
+    let at-passed = at-gather-next .before .before in
+    let start = at-passed .before .before .before .before .before in (
+      start .pre .0 .in-table,
+      row-within (start .pre .0) (at-passed .passed .result) (at-passed .passed .ensures .1),
+      at-gather-next .gather-next .ensures .1,
+      at-gather-next .gather-next .ensures .0 .gathered .few,
+    )
+
+returns : tie.Need-returns
+returns c =
+    let at-gather-next = c .before .before .before in
+    let at-passed = at-gather-next .before .before in
+    let start = at-passed .before .before .before .before .before in
+    let best = best-picked (start .pre .0) (at-passed .passed .result) (getD (start .args .table .now) (start .args .place) 0) (at-passed .passed .ensures .1)
+    (start .pre .0 .livables .sound (start .args .place) (start .pre .1)) (at-gather-next .gather-next .last .1 .1 .0) (at-gather-next .gather-next .result)
+    (at-gather-next .gather-next .ensures .0) (c .nearest .result) (c .nearest .ensures) in
+    record { passes = at-passed .passed .ensures .0; aimed = at-passed .passed .ensures .1; best = best .1; inside = best .0 }
+
+pub step-spec : {M : Type 1} → statement M
+step-spec =
+    tie.close
+    (tie.spec
+    mul-s
+    shared-slice-read-s
+    passed-requires
+    slice-aggregate-gather-next
+    gather-next-requires
+    mul-from
+    slice-aggregate-nearest
+    nearest-requires
+    returns)

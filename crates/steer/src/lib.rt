@@ -1,0 +1,325 @@
+// Walks the sample run: document 01, "The judge's two papers", first paragraph. The distances to every promise are computed once; a first
+// walk finds the moment b at which a pair of state and aim comes again, a second one writes the b states, if they fit.
+
+ghost use mathlib.Core.Path.{_≡_};
+ghost use mathlib.Core.Bool.{_&&_};
+ghost use Prim.Native.Nat.{_+_, _*_, _^_, _≤_, _<_};
+ghost use lib.Bits.{bitOr};
+ghost use lib.Dec.{ltb, eqb};
+ghost use lib.ListN.{length};
+ghost use Rattle.meaning.specs.Sample.{Passes};
+ghost use Rattle.rules.specs.Book.{Shaped, bookSystem, clausesOk, promisesOf, gatherSize};
+ghost use Rattle.steer.specs.Walk.{Ready, Told, aimsOf, Zero, Wiped, Ground, Rows, Laid, FirstPlace, passesAt, rowAt, Picked, Stepped};
+ghost use Rattle.steer.specs.Walk.{bit, Ended, Known, BackFrom, Written};
+
+// a, the moment that the run goes back to, and b, how many states it has.
+pub struct Steps {
+    pub a: u32,
+    pub b: u32,
+}
+
+// A moment of the walk: the state's place in the table, and the aim on arriving there.
+pub struct Moment {
+    pub place: usize,
+    pub aim: usize,
+}
+
+// Moment b, whose pair was met before.
+pub struct End {
+    pub b: usize,
+    pub place: usize,
+    pub aim: usize,
+}
+
+// ---- marks: bit `aim` of a place's word says that the pair was met
+
+// Whether the pair was met.
+fn met(word: u32, aim: usize) -> bool
+    requires { ⌜ aim < 32 ⌝ }
+    ensures { λ r. ⌜ r ≡ eqb (bit aim word) 1 ⌝ }
+{
+    (word >> (aim as u32)) % 2 == 1
+}
+
+// The word with the pair marked.
+fn mark(word: u32, aim: usize) -> u32
+    requires { ⌜ aim < 32 ⌝ }
+    ensures { λ r. ⌜ r ≡ bitOr word (2 ^ aim) ⌝ }
+{
+    word | (1u32 << (aim as u32))
+}
+
+// Takes all marks away.
+fn wipe(words: &mut [u32], k: usize)
+    requires { ⌜ k ≤ length (now words) ⌝ }
+    ensures { λ _. ⌜ Wiped k (now (words .entry)) (now (words .exit)) ⌝ }
+{
+    let mut x = 0;
+    while x < k {
+        words[x] = 0;
+        x += 1;
+    }
+}
+
+// ---- distances, once for the whole walk
+
+// With no promises the aim asks nothing, and every distance is 0.
+fn no_distances(dist: &mut [u16], k: usize)
+    requires { ⌜ k ≤ length (now dist) ⌝ }
+    ensures { λ _. ⌜ Wiped k (now (dist .entry)) (now (dist .exit)) ⌝ }
+{
+    let mut x = 0;
+    while x < k {
+        dist[x] = 0;
+        x += 1;
+    }
+}
+
+// How many aims there are: the promises, or one aim that asks nothing.
+fn count_aims(book: &[u32]) -> usize
+    requires { ⌜ Shaped (now book) ⌝ }
+    ensures { λ r. ⌜ r ≡ aimsOf (bookSystem (now (book .entry))) ⌝ }
+{
+    let p = rules::promises(book);
+    if p == 0 { 1 } else { p }
+}
+
+// Row q, for each promise q.
+fn promise_rows(book: &[u32], table: &[u32], words: &[u32], dist: &mut [u16], k: usize, p: usize)
+    requires { ⌜ Ground (now book) (now table) (now words) k × (p ≡ promisesOf (now book)) × (1 ≤ p) × (p * k ≤ length (now dist)) ⌝ }
+    ensures { λ _. ⌜ Rows (now (book .entry)) (now (table .entry)) k (now (dist .entry)) (now (dist .exit)) ⌝ }
+{
+    let mut q = 0;
+    while q < p {
+        let from = q * k;
+        distances::distances(book, q, table, words, k, dist, from);
+        q += 1;
+    }
+}
+
+// All rows: row q has the distances from the first k places to aim q.
+fn rows(book: &[u32], table: &[u32], words: &[u32], dist: &mut [u16], k: usize)
+    requires { ⌜ Ground (now book) (now table) (now words) k × (aimsOf (bookSystem (now book)) * k ≤ length (now dist)) ⌝ }
+    ensures { λ _. ⌜ Rows (now (book .entry)) (now (table .entry)) k (now (dist .entry)) (now (dist .exit)) ⌝ }
+{
+    let p = rules::promises(book);
+    if p == 0 {
+        no_distances(dist, k);
+    } else {
+        promise_rows(book, table, words, dist, k, p);
+    }
+}
+
+// ---- one step
+
+// The first place that holds a first state, or k.
+fn first_place(book: &[u32], table: &[u32], k: usize) -> usize
+    requires { ⌜ Shaped (now book) × (k ≤ length (now table)) ⌝ }
+    ensures { λ r. ⌜ FirstPlace (now (book .entry)) (now (table .entry)) k r ⌝ }
+{
+    let mut place = 0;
+    while place < k {
+        if rules::first_state(book, table[place]) {
+            return place;
+        }
+        place += 1;
+    }
+    place
+}
+
+// The aim after state s.
+fn passed(book: &[u32], aim: usize, s: u32) -> usize
+    requires { ⌜ Shaped (now book) × (aim < aimsOf (bookSystem (now book))) ⌝ }
+    ensures { λ r. ⌜ Passes (bookSystem (now (book .entry))) aim s r × (r < aimsOf (bookSystem (now (book .entry)))) ⌝ }
+{
+    let p = rules::promises(book);
+    if p == 0 {
+        return 0;
+    }
+    if rules::kept(book, aim, s) {
+        let next = aim + 1;
+        if next < p {
+            return next;
+        }
+        return 0;
+    }
+    aim
+}
+
+// Whether a state at distance d is a next state nearer than the nearest so far.
+fn nearer(d: u16, least: u16, clauses: &[u32], count: usize, t: u32) -> bool
+    requires { ⌜ (length (now clauses) ≡ gatherSize) × (count ≤ 255) ⌝ }
+    ensures { λ r. ⌜ r ≡ (ltb d least && clausesOk (now (clauses .entry)) count t) ⌝ }
+{
+    if d < least {
+        rules::fits(clauses, count, t)
+    } else {
+        false
+    }
+}
+
+// The first of the nearest next states.
+fn nearest(
+    table: &[u32],
+    dist: &[u16],
+    clauses: &[u32],
+    count: usize,
+    from: usize,
+    k: usize,
+) -> usize
+    requires { ⌜ (k ≤ length (now table)) × (from + k ≤ length (now dist)) × (length (now clauses) ≡ gatherSize) × (count ≤ 255) ⌝ }
+    ensures { λ r. ⌜ Picked (passesAt (now (clauses .entry)) count (now (table .entry))) (rowAt (now (dist .entry)) from) k r ⌝ }
+{
+    let mut best: usize = 0;
+    let mut least: u16 = 65535;
+    let mut x: usize = 0;
+    while x < k {
+        let at = from + x;
+        let d = dist[at];
+        let t = table[x];
+        if nearer(d, least, clauses, count, t) {
+            best = x;
+            least = d;
+            x += 1;
+        } else {
+            x += 1;
+        }
+    }
+    best
+}
+
+// From one moment to the next.
+fn step(book: &[u32], table: &[u32], dist: &[u16], k: usize, place: usize, aim: usize) -> Moment
+    requires { ⌜ Laid (now book) (now table) (now dist) k × (place < k) × (aim < aimsOf (bookSystem (now book))) ⌝ }
+    ensures { λ r. ⌜ Stepped (bookSystem (now (book .entry))) (now (table .entry)) k place aim (r .place) (r .aim) ⌝ }
+{
+    let s = table[place];
+    let next = passed(book, aim, s);
+    let mut clauses = [0u32; 510];
+    let count = rules::gather_next(book, s, &mut clauses);
+    let from = next * k;
+    let best = nearest(table, dist, &clauses, count, from, k);
+    Moment {
+        place: best,
+        aim: next,
+    }
+}
+
+// ---- the two walks
+
+// Walks to the first moment whose pair of state and aim was met before.
+fn find_end(book: &[u32], table: &[u32], words: &mut [u32], dist: &[u16], k: usize) -> End
+    requires { ⌜ Laid (now book) (now table) (now dist) k × (k ≤ length (now words)) × Zero k (now words) ⌝ }
+    ensures { λ r. ⌜ Ended (now (book .entry)) (now (table .entry)) (now (words .entry)) (now (words .exit)) k (r .b) (r .place) (r .aim) ⌝ }
+{
+    let mut place = first_place(book, table, k);
+    let mut aim: usize = 0;
+    let mut b: usize = 0;
+    while !met(words[place], aim) {
+        let next = step(book, table, dist, k, place, aim);
+        words[place] = mark(words[place], aim);
+        place = next.place;
+        aim = next.aim;
+        b += 1;
+    }
+    End { b, place, aim }
+}
+
+// i where the pair at moment i is that of `last` and `goal`, else a.
+fn back_from(a: usize, i: usize, place: usize, last: usize, aim: usize, goal: usize) -> usize
+    ensures { λ r. ⌜ BackFrom place last aim goal i a r ⌝ }
+{
+    if place == last {
+        if aim == goal {
+            return i;
+        }
+    }
+    a
+}
+
+// Walks again and writes the b states; the moment that the pair of `last` and `goal` was first met.
+fn write_run(
+    book: &[u32],
+    table: &[u32],
+    run: &mut [u32],
+    dist: &[u16],
+    k: usize,
+    b: usize,
+    last: usize,
+    goal: usize,
+) -> usize
+    requires { ⌜ Known (now book) (now table) (now dist) (now run) k b last goal ⌝ }
+    ensures { λ r. ⌜ Written (bookSystem (now (book .entry))) (now (table .entry)) b last goal (now (run .entry)) (now (run .exit)) r ⌝ }
+{
+    let mut place = first_place(book, table, k);
+    let mut aim: usize = 0;
+    let mut a: usize = 0;
+    let mut i: usize = 0;
+    while i < b {
+        run[i] = table[place];
+        a = back_from(a, i, place, last, aim, goal);
+        let next = step(book, table, dist, k, place, aim);
+        place = next.place;
+        aim = next.aim;
+        i += 1;
+    }
+    a
+}
+
+// The whole work, with room for the rows.
+fn walk(
+    book: &[u32],
+    table: &[u32],
+    words: &mut [u32],
+    run: &mut [u32],
+    dist: &mut [u16],
+    k: usize,
+) -> Steps
+    requires { ⌜ Ready (now book) (now table) (now words) k × (aimsOf (bookSystem (now book)) * k ≤ length (now dist)) ⌝ }
+    ensures { λ r. ⌜ Told (now (book .entry)) (now (words .entry)) (now (words .exit)) (now (run .entry)) (now (run .exit)) (r .a) (r .b) ⌝ }
+{
+    wipe(words, k);
+    rows(book, table, words, dist, k);
+    let end = find_end(book, table, words, dist, k);
+    let b = end.b;
+    let last = end.place;
+    let goal = end.aim;
+    let long = b as u32;
+    if b <= run.len() {
+        let a = write_run(book, table, run, dist, k, b, last, goal);
+        let back = a as u32;
+        return Steps { a: back, b: long };
+    }
+    Steps { a: 0, b: long }
+}
+
+// With room for few distances, so that small sheets stay quick.
+fn walk_small(book: &[u32], table: &[u32], words: &mut [u32], run: &mut [u32], k: usize) -> Steps
+    requires { ⌜ Ready (now book) (now table) (now words) k × (aimsOf (bookSystem (now book)) * k ≤ 8192) ⌝ }
+    ensures { λ r. ⌜ Told (now (book .entry)) (now (words .entry)) (now (words .exit)) (now (run .entry)) (now (run .exit)) (r .a) (r .b) ⌝ }
+{
+    let mut dist = [0u16; 8192];
+    walk(book, table, words, run, &mut dist, k)
+}
+
+// With room for as many distances as there can be: 16 rows of 16,384.
+fn walk_large(book: &[u32], table: &[u32], words: &mut [u32], run: &mut [u32], k: usize) -> Steps
+    requires { ⌜ Ready (now book) (now table) (now words) k ⌝ }
+    ensures { λ r. ⌜ Told (now (book .entry)) (now (words .entry)) (now (words .exit)) (now (run .entry)) (now (run .exit)) (r .a) (r .b) ⌝ }
+{
+    let mut dist = [0u16; 262144];
+    walk(book, table, words, run, &mut dist, k)
+}
+
+// Writes the sample run's states into `run` if they fit; a and b. The first k places of the table list the livable states.
+pub fn steer(book: &[u32], table: &[u32], words: &mut [u32], run: &mut [u32], k: usize) -> Steps
+    requires { ⌜ Ready (now book) (now table) (now words) k ⌝ }
+    ensures { λ r. ⌜ Told (now (book .entry)) (now (words .entry)) (now (words .exit)) (now (run .entry)) (now (run .exit)) (r .a) (r .b) ⌝ }
+{
+    let aims = count_aims(book);
+    let room = aims * k;
+    if room <= 8192 {
+        return walk_small(book, table, words, run, k);
+    }
+    walk_large(book, table, words, run, k)
+}

@@ -1,0 +1,173 @@
+-- A later reason's phase: the places without a distance fall, and no others. Assumes nothing.
+use mathlib.Core.Path.{_≡_, refl, sym, ap, subst, _∙_}
+use mathlib.Core.List.{List}
+use Prim.Native.Nat.{ℕ, suc, _+_, _-_, _<_}
+use native.Mathlib.Decide.{ℕ-discrete}
+use native.Mathlib.Nat.{zero-add}
+use native.Mathlib.Omega.{arith}
+use lib.ListN.{length, getD, set, length-set}
+use lib.Seq.{getD-set-same, getD-set-other}
+use Rattle.meaning.specs.System.{System}
+use Rattle.meaning.specs.Strike.{SavedBy}
+use Rattle.rules.specs.Book.{bookSystem, promisesOf}
+use Rattle.distances.specs.Far.{Live, far, Place, near, never, struck, Measured}
+use Rattle.distances.specs.Layers.{Measurable}
+use Rattle.distances.proofs.Totals.{total-set}
+use Rattle.strike.specs.Phases.{free, Unphased, FarFree, Fell, Falls, was, stays, falls, Phased, Told, Points, fresh, target}
+use Rattle.strike.specs.Phases.{Pointers, Wiped, Striking, PhaseDone}
+
+-- Setting an unstruck place's word takes one from the unstruck.
+pub free-set : (words : List ℕ) (i v r : ℕ) → i < r → i < length words → getD words i 0 ≡ 0 → 0 < v → suc (free (set words i v) r) ≡ free words r
+free-set words i v r h k z s =
+    let a : free (set words i v) r + (1 - getD words i 0) ≡ free words r + (1 - v) = total-set (λ x. 1 - x) words i v r h k in
+    let b : 1 - getD words i 0 ≡ 1 = ap (λ (x : ℕ). 1 - x) z in
+    let c : 1 - v ≡ 0 = omega arith in
+    omega arith
+
+-- ---- the loop
+
+-- Before the first turn nothing fell.
+pub fell-none : (dist : List ℕ) (v r : ℕ) (words : List ℕ) → Fell dist v r 0 words words 0
+fell-none dist v r words = record {
+  long = refl;
+  fell = λ i h. absurd (omega arith);
+  missed = λ i h. absurd (omega arith);
+  rest = λ i h. refl;
+  counted = omega arith;
+}
+
+-- A place with a distance is passed by.
+pub fell-past : (dist : List ℕ) (v r m : ℕ) (old new : List ℕ) (n : ℕ) → Fell dist v r m old new n → (getD dist m 0 ≡ far → ⊥)
+    → Fell dist v r (m + 1) old new n
+fell-past dist v r m old new n f other = record {
+  long = f .long;
+  counted = f .counted;
+  rest = λ i h. f .rest i (omega arith);
+  fell = λ i h e. f .fell i (let q : i ≡ m → ⊥ = λ q. other (subst (λ (x : ℕ). getD dist x 0 ≡ far) q e) in omega arith) e;
+  missed = λ i h e. at i h e (ℕ-discrete i m);
+}
+  where
+    at : (i : ℕ) → i < m + 1 → (getD dist i 0 ≡ far → ⊥) → Dec (i ≡ m) → getD new i 0 ≡ getD old i 0
+    at i h e (yes q) = f .rest i (omega arith)
+    at i h e (no q) = f .missed i (omega arith) e
+
+-- A place without a distance falls.
+pub fell-more : (dist : List ℕ) (v r m : ℕ) (old new : List ℕ) (n : ℕ) → Fell dist v r m old new n → Unphased old r v → FarFree dist old r
+    → m < r → getD dist m 0 ≡ far → Fell dist v r (m + 1) old (set new m v) (n + 1)
+fell-more dist v r m old new n f u free-ones h isfar = record {
+  long = length-set new m v ∙ f .long;
+  rest = λ i k. getD-set-other new m i v 0 (λ q. omega arith) ∙ f .rest i (omega arith);
+  fell = λ i k e. hit i k e (ℕ-discrete i m);
+  missed = λ i k e. let q : i ≡ m → ⊥ = λ q. e (subst (λ (x : ℕ). getD dist x 0 ≡ far) (sym q) isfar) in
+      getD-set-other new m i v 0 q ∙ f .missed i (omega arith) e;
+  counted =
+      let a = f .counted in
+      let b = free-set new m v r h within (f .rest m (omega arith) ∙ free-ones m h isfar) (u .some) in
+      omega arith;
+}
+  where
+    within : m < length new
+    within = let a = f .long in let b = u .in-words in omega arith
+
+    hit : (i : ℕ) → i < m + 1 → getD dist i 0 ≡ far → Dec (i ≡ m) → getD (set new m v) i 0 ≡ v
+    hit i k e (yes q) = subst (λ (x : ℕ). getD (set new m v) x 0 ≡ v) (sym q) (getD-set-same new m v 0 within)
+    hit i k e (no q) = getD-set-other new m i v 0 q ∙ f .fell i (omega arith) e
+
+-- All places are judged.
+pub fell-all : (dist : List ℕ) (v r m : ℕ) (old new : List ℕ) (n : ℕ) → Fell dist v r m old new n → m ≡ r → Fell dist v r r old new n
+fell-all dist v r m old new n f e = subst (λ (x : ℕ). Fell dist v r x old new n) e f
+
+-- ---- the phase
+
+module _ (S : System) (table words : List ℕ) (r k : ℕ) (before dist : List ℕ) (M : Measured S (S .Kept k) table words r 0 before dist) where
+  place-at : (i : ℕ) → i < r → Place S (Live table words r) (S .Kept k) (getD table i 0) (getD words i 0) (getD dist i 0)
+  place-at i h = subst (λ (x : ℕ). Place S (Live table words r) (S .Kept k) (getD table i 0) (getD words i 0) (getD dist x 0)) (zero-add i) (M .places i h)
+
+  -- The places without a distance are unstruck.
+  pub measured-far-free : FarFree dist words r
+  measured-far-free i h e = by (place-at i h)
+    where
+      by : Place S (Live table words r) (S .Kept k) (getD table i 0) (getD words i 0) (getD dist i 0) → getD words i 0 ≡ 0
+      by (near z _ _ _) = z
+      by (never z _ _) = z
+      by (struck n g) = absurd (omega arith)
+
+  -- What falls is what its reason does not save.
+  pub fell-phased : (v : ℕ) (new : List ℕ) (n : ℕ) → Fell dist v r r words new n → Phased S table r (suc k) v words new n
+  fell-phased v new n f = record { long = f .long; counted = f .counted; each = λ i h. by i h (place-at i h) }
+    where
+      by : (i : ℕ) → i < r → Place S (Live table words r) (S .Kept k) (getD table i 0) (getD words i 0) (getD dist i 0)
+          → Falls (SavedBy S (Live table words r) (suc k) (getD table i 0)) v (getD words i 0) (getD new i 0)
+      by i h (near z d w l) = stays z (f .missed i h (λ e. omega arith) ∙ z) (getD dist i 0, w)
+      by i h (never z d w) = falls z (f .fell i h d) (λ s. w (s .0) (s .1))
+      by i h (struck n g) = was n (f .missed i h (λ e. omega arith))
+
+-- ---- pointers
+
+-- What is unstruck after a phase was unstruck before it.
+pub phased-free : {S : System} {table : List ℕ} {r reason v : ℕ} {old new : List ℕ} {n : ℕ} → Phased S table r reason v old new n → 0 < v
+    → (i : ℕ) → i < r → getD new i 0 ≡ 0 → getD old i 0 ≡ 0
+phased-free {S} {table} {r} {reason} {v} {old} {new} p s i h z = by (p .each i h)
+  where
+    by : Falls (SavedBy S (Live table old r) reason (getD table i 0)) v (getD old i 0) (getD new i 0) → getD old i 0 ≡ 0
+    by (was a e) = sym e ∙ z
+    by (stays a b c) = a
+    by (falls a b c) = a
+
+-- A pointer stays right where fewer places are unstruck.
+pub points-fewer : (book table old new : List ℕ) (r i q : ℕ) → ((m : ℕ) → m < r → getD new m 0 ≡ 0 → getD old m 0 ≡ 0)
+    → Points book table old r i q → Points book table new r i q
+points-fewer book table old new r i q fewer (fresh e) = fresh e
+points-fewer book table old new r i q fewer (target j e h t low) = target j e h t (λ m l z. low m l (fewer m (omega arith) z))
+
+-- So do all pointers.
+pub pointers-fewer : (book table old new scratch : List ℕ) (r : ℕ) → ((m : ℕ) → m < r → getD new m 0 ≡ 0 → getD old m 0 ≡ 0)
+    → Pointers book table old scratch r → Pointers book table new scratch r
+pointers-fewer book table old new scratch r fewer p i h z =
+    points-fewer book table old new r i (getD scratch i 0) fewer (p i h (fewer i h z))
+
+-- what `distances` asks
+pub told-measurable : (book table words : List ℕ) (r v k : ℕ) → Told book table r → Unphased words r v → k < promisesOf book
+    → Measurable book k table words r
+told-measurable book table words r v k t u h = record {
+  shaped = t .shaped;
+  promise = h;
+  in-table = t .in-table;
+  in-words = u .in-words;
+  few = t .few;
+  lawful = t .lawful;
+}
+
+-- What fell for want of a distance makes the phase.
+pub later-phase : (book table words scratch : List ℕ) (r v k reason : ℕ) (before dist new : List ℕ) (n : ℕ)
+    → Striking book table words scratch r v → Measured (bookSystem book) (bookSystem book .Kept k) table words r 0 before dist
+    → Fell dist v r r words new n → suc k ≡ reason → PhaseDone book table r reason v words new scratch scratch n
+later-phase book table words scratch r v k reason before dist new n s m f e = record {
+  phased = subst (λ (x : ℕ). Phased (bookSystem book) table r x v words new n) e phased;
+  scratch-long = refl;
+  pointers = pointers-fewer book table words new scratch r (phased-free phased (s .unphased .some)) (s .pointers);
+}
+  where
+    phased : Phased (bookSystem book) table r (suc k) v words new n
+    phased = fell-phased (bookSystem book) table words r k before dist m v new n f
+
+-- a phase for a reason is one for an equal reason
+pub phase-of-reason : (book table : List ℕ) (r a b v : ℕ) (old new before after : List ℕ) (n : ℕ)
+    → PhaseDone book table r a v old new before after n → a ≡ b → PhaseDone book table r b v old new before after n
+phase-of-reason book table r a b v old new before after n p e = subst (λ (x : ℕ). PhaseDone book table r x v old new before after n) e p
+
+-- ---- wiping
+
+-- Before the first turn nothing is wiped; a turn wipes one place more; the last turn leaves all wiped.
+pub wiped-none : (l : List ℕ) → Wiped 0 l l
+wiped-none l = record { long = refl; zeros = λ m h. absurd (omega arith) }
+
+pub wiped-all : (i r : ℕ) (old new : List ℕ) → Wiped i old new → i ≡ r → Wiped r old new
+wiped-all i r old new w e = subst (λ (x : ℕ). Wiped x old new) e w
+
+pub wiped-more : (i : ℕ) (old new : List ℕ) → Wiped i old new → i < length new → Wiped (i + 1) old (set new i 0)
+wiped-more i old new w h = record { long = length-set new i 0 ∙ w .long; zeros = λ m k. at m k (ℕ-discrete m i) }
+  where
+    at : (m : ℕ) → m < i + 1 → Dec (m ≡ i) → getD (set new i 0) m 0 ≡ 0
+    at m k (yes q) = subst (λ (x : ℕ). getD (set new i 0) x 0 ≡ 0) (sym q) (getD-set-same new i 0 0 h)
+    at m k (no q) = getD-set-other new i m 0 0 q ∙ w .zeros m (omega arith)

@@ -1,0 +1,5 @@
+pub mod Answers
+pub mod Passes
+pub mod Fallen
+pub mod Marks
+pub mod Running

@@ -1,0 +1,260 @@
+// Striking: the words of the strike list's rounds and reasons, for every reachable state. Phase by phase, reason 0 and then each promise,
+// round after round, until as many phases as there are reasons have struck nothing.
+
+ghost use mathlib.Core.Path.{_≡_};
+ghost use mathlib.Core.Bool.{true};
+ghost use mathlib.Core.Logic.{_⊎_};
+ghost use Prim.Native.Nat.{_+_, _-_, _<_, _≤_, suc};
+ghost use lib.ListN.{length, getD};
+ghost use Rattle.rules.specs.Book.{gatherSize, clausesOk, bookLawful, promisesOf};
+ghost use Rattle.strike.specs.Phases.{Strikable, Stricken, Striking, PhaseDone, Told, Unphased, Zeros, Wiped};
+ghost use Rattle.strike.specs.Phases.{Says, Counts, Sought, Pointing, Pending, FarFree, Fell};
+
+// Whether a word counts as unstruck in the phase that gives `word`: what fell in this very phase still does.
+fn counts(x: u32, word: u32) -> bool
+    ensures { λ b. ⌜ Says (Counts word x) b ⌝ }
+{
+    if x == 0 {
+        return true;
+    }
+    x == word
+}
+
+// Whether a place counts and its state t makes the gathered clauses true.
+fn goes(clauses: &[u32], count: usize, t: u32, x: u32, word: u32) -> bool
+    requires { ⌜ (length (now clauses) ≡ gatherSize) × (count ≤ 255) ⌝ }
+    ensures { λ b. ⌜ Says (Counts word x × (clausesOk (now (clauses .entry)) count t ≡ true)) b ⌝ }
+{
+    if counts(x, word) {
+        return rules::fits(clauses, count, t);
+    }
+    false
+}
+
+// The place after the first one from `lo` on that counts and that s moves to; 0 if there is none.
+fn seek(
+    book: &[u32],
+    s: u32,
+    table: &[u32],
+    words: &[u32],
+    r: usize,
+    word: u32,
+    lo: usize,
+    clauses: &mut [u32],
+) -> usize
+    requires { ⌜ Told (now book) (now table) r × (r ≤ length (now words)) × (bookLawful (now book) s ≡ true) × (length (now clauses) ≡ gatherSize) ⌝ }
+    ensures { λ q. ⌜ Sought (now (book .entry)) (now (table .entry)) (now (words .entry)) word r s lo q × (length (now (clauses .exit)) ≡ gatherSize) ⌝ }
+{
+    let count = rules::gather_next(book, s, clauses);
+    let mut j = lo;
+    while j < r {
+        if goes(clauses, count, table[j], words[j], word) {
+            return j + 1;
+        }
+        j += 1;
+    }
+    0
+}
+
+// Whether the place that a pointer names still counts.
+fn points(words: &[u32], q: usize, word: u32) -> bool
+    requires { ⌜ q ≤ length (now words) ⌝ }
+    ensures { λ b. ⌜ Says (Pointing (now (words .entry)) q word) b ⌝ }
+{
+    if q == 0 {
+        return false;
+    }
+    let at = q - 1;
+    counts(words[at], word)
+}
+
+// Whether place i is unstruck and its pointer, q, must move.
+fn pending(words: &[u32], i: usize, q: usize, word: u32) -> bool
+    requires { ⌜ (i < length (now words)) × (getD (now words) i 0 ≡ 0 → q ≤ length (now words)) ⌝ }
+    ensures { λ b. ⌜ Pending (now (words .entry)) i q word b ⌝ }
+{
+    if words[i] != 0 {
+        return false;
+    }
+    if points(words, q, word) {
+        return false;
+    }
+    true
+}
+
+// Reason 0: strikes together the states with no move to an unstruck state; how many fall.
+fn dead_ends(
+    book: &[u32],
+    table: &[u32],
+    words: &mut [u32],
+    scratch: &mut [u32],
+    r: usize,
+    word: u32,
+    clauses: &mut [u32],
+) -> usize
+    requires { ⌜ Striking (now book) (now table) (now words) (now scratch) r word × (length (now clauses) ≡ gatherSize) ⌝ }
+    ensures { λ n. ⌜ PhaseDone (now (book .entry)) (now (table .entry)) r 0 word (now (words .entry)) (now (words .exit)) (now (scratch .entry))
+        (now (scratch .exit)) n × (length (now (clauses .exit)) ≡ gatherSize) ⌝ }
+{
+    let mut n: usize = 0;
+    let mut i: usize = 0;
+    while i < r {
+        let lo = scratch[i] as usize;
+        if pending(words, i, lo, word) {
+            let s = table[i];
+            let q = seek(book, s, table, words, r, word, lo, clauses);
+            if q == 0 {
+                words[i] = word;
+                n += 1;
+                i += 1;
+            } else {
+                scratch[i] = q as u32;
+                i += 1;
+            }
+        } else {
+            i += 1;
+        }
+    }
+    n
+}
+
+// Strikes together the places without a distance; how many fall.
+fn fall(words: &mut [u32], dist: &[u16], r: usize, word: u32) -> usize
+    requires { ⌜ Unphased (now words) r word × (r ≤ length (now dist)) × FarFree (now dist) (now words) r ⌝ }
+    ensures { λ n. ⌜ Fell (now (dist .entry)) word r r (now (words .entry)) (now (words .exit)) n ⌝ }
+{
+    let mut n: usize = 0;
+    let mut i: usize = 0;
+    while i < r {
+        if dist[i] == 65535 {
+            words[i] = word;
+            n += 1;
+            i += 1;
+        } else {
+            i += 1;
+        }
+    }
+    n
+}
+
+// One phase: strikes together, for one reason, the states that it does not save; how many fall.
+fn phase(
+    book: &[u32],
+    table: &[u32],
+    words: &mut [u32],
+    scratch: &mut [u32],
+    r: usize,
+    reason: usize,
+    word: u32,
+    clauses: &mut [u32],
+    dist: &mut [u16],
+) -> usize
+    requires { ⌜ Striking (now book) (now table) (now words) (now scratch) r word × (length (now clauses) ≡ gatherSize)
+        × (length (now dist) ≡ 16384) × (reason ≤ promisesOf (now book)) ⌝ }
+    ensures { λ n. ⌜ PhaseDone (now (book .entry)) (now (table .entry)) r reason word (now (words .entry)) (now (words .exit)) (now (scratch .entry))
+        (now (scratch .exit)) n × (length (now (clauses .exit)) ≡ gatherSize) × (length (now (dist .exit)) ≡ 16384) ⌝ }
+{
+    if reason == 0 {
+        return dead_ends(book, table, words, scratch, r, word, clauses);
+    }
+    let k = reason - 1;
+    distances::distances(book, k, table, words, r, dist, 0);
+    fall(words, dist, r, word)
+}
+
+// Sets the first r numbers to 0.
+fn wipe(l: &mut [u32], r: usize)
+    requires { ⌜ r ≤ length (now l) ⌝ }
+    ensures { λ _. ⌜ Wiped r (now (l .entry)) (now (l .exit)) ⌝ }
+{
+    let mut i: usize = 0;
+    while i < r {
+        l[i] = 0;
+        i += 1;
+    }
+}
+
+// How many phases in a row have struck nothing, after one that struck n.
+fn rested(quiet: usize, n: usize) -> usize
+    requires { ⌜ quiet ≤ 16 ⌝ }
+    ensures { λ q. ⌜ ((n ≡ 0) × (q ≡ suc quiet)) ⊎ ((n ≡ 0 → ⊥) × (q ≡ 0)) ⌝ }
+{
+    if n == 0 {
+        return quiet + 1;
+    }
+    0
+}
+
+// The reason of the next phase.
+fn reason_after(reason: usize, p: usize) -> usize
+    requires { ⌜ (reason ≤ p) × (p ≤ 16) ⌝ }
+    ensures { λ q. ⌜ ((reason < p) × (q ≡ suc reason)) ⊎ ((reason ≡ p) × (q ≡ 0)) ⌝ }
+{
+    if reason < p {
+        return reason + 1;
+    }
+    0
+}
+
+// 32 times the round of the next phase.
+fn base_after(base: u32, reason: usize, p: usize) -> u32
+    requires { ⌜ (base < 1000000) × (reason ≤ p) ⌝ }
+    ensures { λ q. ⌜ ((reason < p) × (q ≡ base)) ⊎ ((reason ≡ p) × (q ≡ base + 32)) ⌝ }
+{
+    if reason < p {
+        return base;
+    }
+    base + 32
+}
+
+// The rounds, from words and pointers that are all 0; how many states are left. Stops when as many phases as there are reasons have struck
+// nothing in a row.
+fn rounds(
+    book: &[u32],
+    table: &[u32],
+    words: &mut [u32],
+    scratch: &mut [u32],
+    r: usize,
+    clauses: &mut [u32],
+    dist: &mut [u16],
+) -> usize
+    requires { ⌜ Strikable (now book) (now table) (now words) (now scratch) r × Zeros (now words) r × Zeros (now scratch) r
+        × (length (now clauses) ≡ gatherSize) × (length (now dist) ≡ 16384) ⌝ }
+    ensures { λ left. ⌜ Stricken (now (book .entry)) (now (table .entry)) r (now (words .entry)) (now (words .exit)) (now (scratch .entry))
+        (now (scratch .exit)) left ⌝ }
+{
+    let p = rules::promises(book);
+    let mut left = r;
+    let mut base: u32 = 32;
+    let mut reason: usize = 0;
+    let mut quiet: usize = 0;
+    while quiet <= p {
+        let word = base + (reason as u32);
+        let n = phase(book, table, words, scratch, r, reason, word, clauses, dist);
+        left -= n;
+        quiet = rested(quiet, n);
+        base = base_after(base, reason, p);
+        reason = reason_after(reason, p);
+    }
+    left
+}
+
+// Gives each of the table's first r states, which are all reachable states, its word: 0 if it is livable, or else 32 times the round plus
+// the reason for which it is struck; how many are left.
+pub fn strike(
+    book: &[u32],
+    table: &[u32],
+    words: &mut [u32],
+    scratch: &mut [u32],
+    r: usize,
+) -> usize
+    requires { ⌜ Strikable (now book) (now table) (now words) (now scratch) r ⌝ }
+    ensures { λ left. ⌜ Stricken (now (book .entry)) (now (table .entry)) r (now (words .entry)) (now (words .exit)) (now (scratch .entry))
+        (now (scratch .exit)) left ⌝ }
+{
+    let mut clauses = [0u32; 510];
+    let mut dist = [0u16; 16384];
+    wipe(words, r);
+    wipe(scratch, r);
+    rounds(book, table, words, scratch, r, &mut clauses, &mut dist)
+}
