@@ -1,0 +1,4 @@
+pub mod Fronts
+pub mod Keeping
+pub mod Counting
+pub mod Ordering
