@@ -1,0 +1,122 @@
+-- Each finding of the judge, from what its parts told and left: the promise over the system of a book. Assumes nothing.
+use mathlib.Core.Path.{_≡_, refl, sym, ap, subst, _∙_}
+use mathlib.Core.List.{List}
+use Prim.Native.Nat.{ℕ, _≤_, _<_}
+use native.Mathlib.Omega.{arith}
+use lib.ListN.{length, take}
+use lib.Seq.{length-take-le}
+use Rattle.meaning.specs.System.{System, Reachable, Livable, Lists, IsR, CanBeKept}
+use Rattle.meaning.specs.Strike.{StrikeList}
+use Rattle.meaning.specs.Promises.{Lent, crowded, short, can, cannot, capacity, over, cleared, outcome}
+use Rattle.meaning.proofs.Judging.{lists-number, livable-kept}
+use Rattle.meaning.proofs.Rounds.{strike-list-no-run}
+use Rattle.strike.specs.Marked.{Marked}
+use Rattle.steer.specs.Steered.{Steered}
+use Rattle.judge.specs.Judging.{lentOf, outcomeOf, RoomFor, JudgedBy, LeftOver, StrikesWritten}
+use Rattle.judge.proofs.Wiping.{wiped-whole, zeros-same}
+use Rattle.judge.proofs.Rooms.{Places, capacity-places}
+use Rattle.judge.proofs.Livables.{strikes-listed}
+
+-- The reachable states listed in r places at most C have room.
+pub listed-room : {S : System} (lent : Lent) (r : ℕ) → Lists (Reachable S) (take r (lent .table)) → r ≤ capacity lent → RoomFor S lent
+listed-room lent r lists room =
+    let long : length (take r (lent .table)) ≡ r = length-take-le r (lent .table) (capacity-places lent r room .in-table) in
+    record { reached = length (take r (lent .table)); number = lists-number lists; room = subst (λ n. n ≤ capacity lent) (sym long) room }
+
+-- 11: R is above C.
+pub crowded-judged : {S : System} {table words scratch table′ words′ scratch′ : List ℕ} (run : List ℕ)
+    → ((r : ℕ) → IsR S r → capacity (lentOf table words scratch run) < r) → LeftOver 0 0 table words scratch table′ words′ scratch′
+    → JudgedBy S (lentOf table words scratch run) (outcomeOf (record { answer = 11; count = 0; a = 0; b = 0 }) (lentOf table′ words′ scratch′ run))
+unfolding outcome cleared
+crowded-judged {table = table} {words} {table′ = table′} {words′} run many L = record {
+  finding = crowded;
+  found = many;
+  returned = λ i. record {
+    answer = 11;
+    count = 0;
+    a = 0;
+    b = 0;
+    leaves = record {
+      table = wiped-whole table′ table (L .table-is) i;
+      words = wiped-whole words′ words (L .words-is) i;
+      scratch = L .scratch-is i;
+      run = run;
+    };
+  };
+}
+
+-- 12: it can be kept, but the run needs b places.
+pub short-judged : {S : System} {table words scratch run words₁ run₁ table′ words′ scratch′ : List ℕ} {a b : ℕ}
+    → RoomFor S (lentOf table words scratch run) → CanBeKept S → Steered S run run₁ a b → length words₁ ≡ length words → length run < b
+    → LeftOver 0 0 table words₁ scratch table′ words′ scratch′
+    → JudgedBy S (lentOf table words scratch run) (outcomeOf (record { answer = 12; count = 0; a = 0; b = b }) (lentOf table′ words′ scratch′ run₁))
+unfolding outcome cleared
+short-judged {table = table} {words} {words₁ = words₁} {table′ = table′} {words′} {b = b} room kept steered long few L = record {
+  finding = short b;
+  found = (room, kept, (steered .states, steered .back, steered .paper, steered .long), few);
+  returned = λ i. record {
+    answer = 12;
+    count = 0;
+    a = 0;
+    b = b;
+    leaves = record {
+      table = wiped-whole table′ table (L .table-is) i;
+      words = (wiped-whole words′ words₁ (L .words-is) ∙ zeros-same words₁ words long) i;
+      scratch = L .scratch-is i;
+      run = steered .short few i;
+    };
+  };
+}
+
+-- 0: it can be kept, and the run fits.
+pub kept-judged : {S : System} {table words scratch run words₁ run₁ table′ words′ scratch′ : List ℕ} {k a b : ℕ}
+    → RoomFor S (lentOf table words scratch run) → CanBeKept S → Lists (Livable S) (take k table) → k ≤ length table
+    → Steered S run run₁ a b → length words₁ ≡ length words → b ≤ length run → LeftOver k 0 table words₁ scratch table′ words′ scratch′
+    → JudgedBy S (lentOf table words scratch run) (outcomeOf (record { answer = 0; count = k; a = a; b = b }) (lentOf table′ words′ scratch′ run₁))
+unfolding outcome
+kept-judged {table = table} {words} {run = run} {words₁ = words₁} {words′ = words′} {k = k} room kept lists fits steered long enough L = record {
+  finding = can (take k table) (steered .states) (steered .back);
+  found = (room, kept, lists, steered .paper, subst (λ n. n ≤ length run) (sym (steered .long)) enough);
+  returned = λ i. record {
+    answer = 0;
+    count = sym (length-take-le k table fits) i;
+    a = steered .fits enough .1 i;
+    b = sym (steered .long) i;
+    leaves = record {
+      table = L .table-is i;
+      words = (wiped-whole words′ words₁ (L .words-is) ∙ zeros-same words₁ words long) i;
+      scratch = L .scratch-is i;
+      run = steered .fits enough .0 i;
+    };
+  };
+}
+
+-- 13: it cannot be kept.
+pub cannot-judged : {S : System} {table words scratch words₁ scratch₁ table′ words′ scratch′ : List ℕ} {r : ℕ} (run : List ℕ)
+    → r ≤ capacity (lentOf table words scratch run) → Lists (Reachable S) (take r table) → Marked S table words₁ r 0
+    → length words₁ ≡ length words → length scratch₁ ≡ length scratch
+    → StrikesWritten table words₁ scratch₁ r table′ words′ scratch′
+    → JudgedBy S (lentOf table words scratch run) (outcomeOf (record { answer = 13; count = r; a = 0; b = 0 }) (lentOf table′ words′ scratch′ run))
+unfolding outcome
+cannot-judged {S} {table} {words} {scratch} {words₁} {scratch₁} {r = r} run room lists marked words-long scratch-long W = record {
+  finding = cannot (take r (W .states)) (take r (W .marks));
+  found = (listed-room (lentOf table words scratch run) r lists room, strike-list-no-run strikes, strikes);
+  returned = λ i. record {
+    answer = 13;
+    count = sym (length-take-le r (W .states) (omega (arith, places .in-table, W .in-order .long-table))) i;
+    a = 0;
+    b = 0;
+    leaves = record {
+      table = W .table-is i;
+      words = (W .words-is ∙ ap (over (take r (W .marks))) (zeros-same words₁ words words-long)) i;
+      scratch = (W .scratch-is ∙ zeros-same scratch₁ scratch scratch-long) i;
+      run = run;
+    };
+  };
+}
+  where
+    places : Places (lentOf table words scratch run) r
+    places = capacity-places (lentOf table words scratch run) r room
+
+    strikes : StrikeList S (take r (W .states)) (take r (W .marks))
+    strikes = strikes-listed table words₁ (W .states) (W .marks) r (places .in-table) (omega (arith, places .in-words)) lists marked (W .in-order)

@@ -1,0 +1,77 @@
+-- From a book to its sheet: what is promised over the book's system is promised of the sheet; and a bad sheet's promise. Assumes nothing.
+use mathlib.Core.Path.{_≡_, refl, sym, ap, subst, _∙_}
+use mathlib.Core.Option.{Option, none, some}
+use mathlib.Core.List.{List}
+use Prim.Native.Nat.{ℕ}
+use native.Mathlib.Omega.{arith}
+use Rattle.meaning.specs.Sheet.{Fault, numberOf, firstFault, decode}
+use Rattle.meaning.specs.Rules.{systemOf}
+use Rattle.meaning.specs.Promises.{
+  systemIn,
+  readNumber,
+  ReadSays,
+  Lent,
+  Outcome,
+  Finding,
+  bad,
+  crowded,
+  short,
+  can,
+  cannot,
+  Roomy,
+  Found,
+  outcome,
+  Judged,
+}
+use Rattle.meaning.proofs.SheetSystem.{finite-in}
+use Rattle.meaning.proofs.Judging.{number-of-reachable}
+use Rattle.meaning.proofs.Demands.{fault-number}
+use Rattle.rules.specs.Book.{BookOf, bookSystem}
+use Rattle.rules.proofs.Same.{book-system}
+use Rattle.judge.specs.Judging.{outcomeOf, RoomFor, FoundBy, JudgedBy}
+
+-- The reader's 0 says that the sheet is good.
+pub read-good : (sheet : List ℕ) (n : ℕ) → ReadSays sheet n → n ≡ 0 → firstFault sheet ≡ none
+unfolding ReadSays readNumber
+read-good sheet n says zero = by (firstFault sheet) refl
+  where
+    by : (x : Option Fault) → firstFault sheet ≡ x → firstFault sheet ≡ none
+    by none e = e
+    by (some f) e =
+        let number : n ≡ numberOf (f .why) = says ∙ ap readNumber e in
+        absurd (omega (arith, fault-number (f .why) .0))
+
+-- Another number is that of its first fault: nothing is changed.
+pub bad-judged : (sheet : List ℕ) (n : ℕ) (lent : Lent) → ReadSays sheet n → (n ≡ 0 → ⊥)
+    → Judged sheet lent (outcomeOf (record { answer = n; count = 0; a = 0; b = 0 }) lent)
+unfolding ReadSays readNumber outcome
+bad-judged sheet n lent says fault = by (firstFault sheet) refl
+  where
+    by : (x : Option Fault) → firstFault sheet ≡ x → Judged sheet lent (outcomeOf (record { answer = n; count = 0; a = 0; b = 0 }) lent)
+    by none e = absurd (fault (says ∙ ap readNumber e))
+    by (some f) e = record {
+      finding = bad f;
+      found = e;
+      returned = λ i. record { answer = (says ∙ ap readNumber e) i; count = 0; a = 0; b = 0; leaves = lent };
+    }
+
+roomy : {sheet : List ℕ} {lent : Lent} → firstFault sheet ≡ none → RoomFor (systemIn sheet) lent → Roomy sheet lent
+roomy good room = record { good = good; reached = room .reached; number = room .number; room = room .room }
+
+-- For a good sheet the promise over its system is the promise of the sheet.
+found-in : (sheet : List ℕ) (lent : Lent) → firstFault sheet ≡ none → (x : Finding) → FoundBy (systemIn sheet) lent x → Found sheet lent x
+found-in sheet lent good (bad f) never = absurd never
+found-in sheet lent good crowded many =
+    let (r, number) = number-of-reachable (finite-in sheet) in
+    (good, (r, number, many r number))
+found-in sheet lent good (short b) (room, kept, paper, long) = (roomy good room, kept, paper, long)
+found-in sheet lent good (can livable states a) (room, kept, lists, paper, fits) = (roomy good room, kept, lists, paper, fits)
+found-in sheet lent good (cannot states words) (room, never, list) = (roomy good room, never, list)
+
+-- So the promise over the system of its book is.
+pub good-judged : {sheet book : List ℕ} {lent : Lent} {o : Outcome} → firstFault sheet ≡ none → BookOf (decode sheet) book
+    → JudgedBy (bookSystem book) lent o → Judged sheet lent o
+unfolding systemIn
+good-judged {sheet} {book} {lent} {o} good book-of judged =
+    let j : JudgedBy (systemOf (decode sheet)) lent o = subst (λ S. JudgedBy S lent o) (book-system book-of) judged in
+    record { finding = j .finding; found = found-in sheet lent good (j .finding) (j .found); returned = j .returned }

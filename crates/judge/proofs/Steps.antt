@@ -1,0 +1,150 @@
+-- What each part of the judge hands to the next: what striking, ordering, keeping and steering ask, from what was told before. Assumes nothing.
+use mathlib.Core.Path.{_≡_, refl, sym, subst, _∙_}
+use mathlib.Core.List.{List}
+use Prim.Native.Nat.{ℕ, _/_, _≤_, _<_, min}
+use native.Mathlib.Omega.{arith}
+use lib.ListN.{length}
+use Rattle.meaning.specs.System.{System, CanBeKept, IsR}
+use Rattle.meaning.specs.Promises.{Lent, capacity}
+use Rattle.meaning.proofs.Judging.{livable-kept}
+use Rattle.rules.specs.Book.{Shaped, bookSystem}
+use Rattle.explore.specs.Explored.{Explored, all, more}
+use Rattle.explore.specs.Adding.{Returned}
+use Rattle.strike.specs.Marked.{Marked}
+use Rattle.strike.specs.Phases.{Strikable}
+use Rattle.arrange.specs.Arranged.{InFront}
+use Rattle.arrange.specs.Placing.{Keepable, Orderable}
+use Rattle.arrange.proofs.Fronts.{front-rises, front-sound}
+use Rattle.steer.specs.Walk.{Ready}
+use Rattle.judge.specs.Judging.{lentOf, outcomeOf, JudgedBy, Reached, Kept, LeftOver}
+use Rattle.judge.proofs.Rooms.{Places, capacity-places, capacity-is, Alike, capacity-same, room-same, judged-alike}
+use Rattle.judge.proofs.Livables.{livables-listed, some-kept}
+use Rattle.judge.proofs.Findings.{listed-room, crowded-judged}
+
+-- ---- after exploring
+
+-- Exploring keeps every length.
+pub returned-alike : {S : System} {cap r : ℕ} {table table′ words words′ scratch scratch′ : List ℕ} (run : List ℕ)
+    → Returned S cap table table′ words words′ scratch scratch′ r → Alike (lentOf table′ words′ scratch′ run) (lentOf table words scratch run)
+returned-alike run t = record { table-long = t .table-long; words-long = t .words-long; scratch-long = t .scratch-long; run-same = refl }
+
+-- Above cap states were found, so R is above C.
+pub returned-crowded : {S : System} {cap r : ℕ} {table table₁ table′ words words₁ words′ scratch scratch₁ scratch′ : List ℕ} (run : List ℕ)
+    → cap ≡ min (min (length table) (length words)) (min (length scratch / 2) 16384)
+    → Returned S cap table table₁ words words₁ scratch scratch₁ r → cap < r → LeftOver 0 0 table₁ words₁ scratch₁ table′ words′ scratch′
+    → JudgedBy S (lentOf table words scratch run) (outcomeOf (record { answer = 11; count = 0; a = 0; b = 0 }) (lentOf table′ words′ scratch′ run))
+returned-crowded {S} {cap} {r} {table} {table₁} {words = words} {words₁} {scratch = scratch} {scratch₁} run is t above L =
+    judged-alike alike (crowded-judged run (many (t .explored)) L)
+  where
+    alike : Alike (lentOf table₁ words₁ scratch₁ run) (lentOf table words scratch run)
+    alike = returned-alike run t
+
+    room : cap ≡ capacity (lentOf table₁ words₁ scratch₁ run)
+    room = is ∙ capacity-is table words scratch run ∙ sym (capacity-same alike)
+
+    many : Explored S cap table₁ r → (n : ℕ) → IsR S n → capacity (lentOf table₁ words₁ scratch₁ run) < n
+    many (all few lists) n number = absurd (omega arith)
+    many (more e high) n number = subst (λ c. c < n) room (high n number)
+
+-- At most cap states were found: they are listed.
+pub returned-reached : {book : List ℕ} {cap r : ℕ} {table table₁ words words₁ scratch scratch₁ : List ℕ} (run : List ℕ) → Shaped book
+    → cap ≡ min (min (length table) (length words)) (min (length scratch / 2) 16384)
+    → Returned (bookSystem book) cap table table₁ words words₁ scratch scratch₁ r → r ≤ cap → Reached book (lentOf table₁ words₁ scratch₁ run) r
+returned-reached {book} {cap} {r} {table} {table₁} {words} {words₁} {scratch} {scratch₁} run shaped is t few = by (t .explored)
+  where
+    room : cap ≡ capacity (lentOf table₁ words₁ scratch₁ run)
+    room = is ∙ capacity-is table words scratch run ∙ sym (capacity-same (returned-alike run t))
+
+    by : Explored (bookSystem book) cap table₁ r → Reached book (lentOf table₁ words₁ scratch₁ run) r
+    by (all l lists) = record { shaped = shaped; lists = lists; room = subst (λ c. r ≤ c) room few }
+    by (more e high) = absurd (omega arith)
+
+-- ---- with the reachable states listed
+
+reached-places : {book : List ℕ} {lent : Lent} {r : ℕ} → Reached book lent r → Places lent r
+reached-places {lent = lent} {r} h = capacity-places lent r (h .room)
+
+pub reached-small : {book : List ℕ} {lent : Lent} {r : ℕ} → Reached book lent r → r ≤ 16384
+reached-small h = reached-places h .small
+
+pub reached-strikable : {book : List ℕ} {lent : Lent} {r : ℕ} → Reached book lent r
+    → Strikable book (lent .table) (lent .words) (lent .scratch) r
+reached-strikable h = let p = reached-places h in record {
+  shaped = h .shaped;
+  lists = h .lists;
+  in-table = p .in-table;
+  in-words = p .in-words;
+  in-scratch = omega (arith, p .in-scratch);
+  few = p .small;
+}
+
+-- Words and scratch may change as long as they keep their length.
+pub reached-orderable : {book table words scratch run words₁ scratch₁ : List ℕ} {r : ℕ} → Reached book (lentOf table words scratch run) r
+    → length words₁ ≡ length words → length scratch₁ ≡ length scratch → Orderable table words₁ scratch₁ r
+reached-orderable {table = table} {r = r} h words-long scratch-long = let p = reached-places h in record {
+  in-table = p .in-table;
+  in-words = omega (arith, p .in-words);
+  in-scratch = omega (arith, p .in-scratch);
+  small = p .small;
+  rises = front-rises table r (p .in-table) (h .lists);
+}
+
+pub reached-keepable : {book table words scratch run words₁ : List ℕ} {r : ℕ} → Reached book (lentOf table words scratch run) r
+    → length words₁ ≡ length words → Keepable table words₁ r
+reached-keepable {table = table} {r = r} h words-long = let p = reached-places h in record {
+  in-table = p .in-table;
+  in-words = omega (arith, p .in-words);
+  rises = front-rises table r (p .in-table) (h .lists);
+}
+
+-- What keeping leaves is as long.
+pub kept-alike : {table words scratch run table₁ words₁ scratch₁ : List ℕ} {r k : ℕ} → length words₁ ≡ length words
+    → length scratch₁ ≡ length scratch → InFront table words₁ r table₁ k
+    → Alike (lentOf table₁ words₁ scratch₁ run) (lentOf table words scratch run)
+kept-alike words-long scratch-long front =
+    record { table-long = front .long; words-long = words-long; scratch-long = scratch-long; run-same = refl }
+
+-- Some left, the kept states are the livable ones.
+pub reached-kept : {book table words scratch run table₁ words₁ scratch₁ : List ℕ} {r left k : ℕ} → Reached book (lentOf table words scratch run) r
+    → Marked (bookSystem book) table words₁ r left → length words₁ ≡ length words → length scratch₁ ≡ length scratch → (left ≡ 0 → ⊥)
+    → InFront table words₁ r table₁ k → Kept book (lentOf table₁ words₁ scratch₁ run) k
+reached-kept {book} {table} {words} {scratch} {run} {table₁} {words₁} {scratch₁} {r} {left} {k} h marked words-long scratch-long some front =
+    record {
+      shaped = h .shaped;
+      lists = livables-listed table words₁ table₁ r left k (p .in-table) (h .lists) marked front;
+      some = some-kept table words₁ table₁ r left k (p .in-table) marked some front;
+      room = room-same back (listed-room (lentOf table words scratch run) r (h .lists) (h .room));
+      within = subst (λ c. k ≤ c) (capacity-same back) (omega (arith, h .room, front .few));
+    }
+  where
+    p : Places (lentOf table words scratch run) r
+    p = reached-places h
+
+    back : Alike (lentOf table words scratch run) (lentOf table₁ words₁ scratch₁ run)
+    back =
+        record { table-long = sym (front .long); words-long = sym words-long; scratch-long = sym scratch-long; run-same = refl }
+
+-- ---- with the livable states listed
+
+kept-places : {book : List ℕ} {lent : Lent} {k : ℕ} → Kept book lent k → Places lent k
+kept-places {lent = lent} {k} h = capacity-places lent k (h .within)
+
+pub kept-small : {book : List ℕ} {lent : Lent} {k : ℕ} → Kept book lent k → k ≤ 16384
+kept-small h = kept-places h .small
+
+pub kept-in-table : {book : List ℕ} {lent : Lent} {k : ℕ} → Kept book lent k → k ≤ length (lent .table)
+kept-in-table h = kept-places h .in-table
+
+pub kept-ready : {book : List ℕ} {lent : Lent} {k : ℕ} → Kept book lent k → Ready book (lent .table) (lent .words) k
+kept-ready h = let p = kept-places h in record {
+  shaped = h .shaped;
+  some = h .some;
+  few = p .small;
+  in-table = p .in-table;
+  in-words = p .in-words;
+  livable = h .lists;
+}
+
+-- A livable state's run keeps the sheet.
+pub kept-can : {book : List ℕ} {lent : Lent} {k : ℕ} → Kept book lent k → CanBeKept (bookSystem book)
+kept-can {lent = lent} {k} h = livable-kept (front-sound (lent .table) k (kept-in-table h) (h .lists) 0 (h .some))

@@ -1,0 +1,206 @@
+// The judge: reads a sheet, lists its reachable states, strikes those that nobody could keep, and hands over a sample run or a strike list
+// in the slices that it was lent. Its promise is `Judged` of the meaning; it asks nothing.
+ghost use mathlib.Core.Path.{_≡_};
+ghost use Prim.Native.Nat.{_≤_, _/_, min};
+ghost use lib.ListN.{length, take};
+ghost use Rattle.meaning.specs.Promises.{Judged, JudgedOut, over, zeros};
+ghost use Rattle.rules.specs.Book.{Shaped, bookSystem};
+ghost use Rattle.arrange.specs.Placing.{Orderable};
+ghost use Rattle.judge.specs.Judging.{lentOf, outcomeOf, JudgedBy, Reached, Kept, LeftOver, StrikesWritten};
+
+// What the judge returns: document 01's answer, count, a and b.
+pub struct Judgement {
+    pub answer: u32,
+    pub count: u32,
+    pub a: u32,
+    pub b: u32,
+}
+
+// How many numbers a book has.
+const BOOK: usize = 1698;
+
+// Zeros from a place on.
+fn wipe(s: &mut [u32], from: usize)
+    requires { ⌜ from ≤ length (now s) ⌝ }
+    ensures { λ _. ⌜ now (s .exit) ≡ over (take from (now (s .entry))) (zeros (now (s .entry))) ⌝ }
+{
+    let mut i = from;
+    while i < s.len() {
+        s[i] = 0;
+        i += 1;
+    }
+}
+
+// Leaves the first t places of the table and the first w of the words; zeros everywhere else.
+fn leave(table: &mut [u32], words: &mut [u32], scratch: &mut [u32], t: usize, w: usize)
+    requires { ⌜ (t ≤ length (now table)) × (w ≤ length (now words)) ⌝ }
+    ensures { λ _.
+        ⌜ LeftOver t w (now (table .entry)) (now (words .entry)) (now (scratch .entry)) (now (table .exit)) (now (words .exit)) (now (scratch .exit)) ⌝ }
+{
+    wipe(table, t);
+    wipe(words, w);
+    wipe(scratch, 0);
+}
+
+// The lesser of two numbers.
+fn lesser(a: usize, b: usize) -> usize
+    ensures { λ r. ⌜ r ≡ min a b ⌝ }
+{
+    if a < b { a } else { b }
+}
+
+// C: the least of the table's length, the words' length, half the scratch length rounded down, and 16,384.
+fn room(table: usize, words: usize, scratch: usize) -> usize
+    ensures { λ r. ⌜ r ≡ min (min table words) (min (scratch / 2) 16384) ⌝ }
+{
+    lesser(lesser(table, words), lesser(scratch / 2, 16384))
+}
+
+// Leaves the strike list of r struck states: in order, then zeros.
+fn write_strikes(table: &mut [u32], words: &mut [u32], scratch: &mut [u32], r: usize)
+    requires { ⌜ Orderable (now table) (now words) (now scratch) r ⌝ }
+    ensures { λ _.
+        ⌜ StrikesWritten (now (table .entry)) (now (words .entry)) (now (scratch .entry)) r
+        (now (table .exit)) (now (words .exit)) (now (scratch .exit)) ⌝ }
+{
+    arrange::order(table, words, scratch, r);
+    leave(table, words, scratch, r, r);
+}
+
+// For a sheet that can be kept, by k livable states: the sample run if it fits.
+fn judge_kept(
+    book: &[u32],
+    table: &mut [u32],
+    words: &mut [u32],
+    scratch: &mut [u32],
+    run: &mut [u32],
+    k: usize,
+) -> Judgement
+    requires { ⌜ Kept (now book) (lentOf (now table) (now words) (now scratch) (now run)) k ⌝ }
+    ensures { λ r. ⌜ JudgedBy (bookSystem (now (book .entry)))
+        (lentOf (now (table .entry)) (now (words .entry)) (now (scratch .entry)) (now (run .entry)))
+        (outcomeOf r (lentOf (now (table .exit)) (now (words .exit)) (now (scratch .exit)) (now (run .exit)))) ⌝ }
+{
+    let steps = steer::steer(book, table, words, run, k);
+    let a = steps.a;
+    let b = steps.b;
+    let needed = b as usize;
+    if run.len() < needed {
+        leave(table, words, scratch, 0, 0);
+        return Judgement {
+            answer: 12,
+            count: 0,
+            a: 0,
+            b,
+        };
+    }
+    leave(table, words, scratch, k, 0);
+    let count = k as u32;
+    Judgement {
+        answer: 0,
+        count,
+        a,
+        b,
+    }
+}
+
+// With the r reachable states listed in the table.
+fn judge_reached(
+    book: &[u32],
+    table: &mut [u32],
+    words: &mut [u32],
+    scratch: &mut [u32],
+    run: &mut [u32],
+    r: usize,
+) -> Judgement
+    requires { ⌜ Reached (now book) (lentOf (now table) (now words) (now scratch) (now run)) r ⌝ }
+    ensures { λ j. ⌜ JudgedBy (bookSystem (now (book .entry)))
+        (lentOf (now (table .entry)) (now (words .entry)) (now (scratch .entry)) (now (run .entry)))
+        (outcomeOf j (lentOf (now (table .exit)) (now (words .exit)) (now (scratch .exit)) (now (run .exit)))) ⌝ }
+{
+    let left = strike::strike(book, table, words, scratch, r);
+    if left == 0 {
+        write_strikes(table, words, scratch, r);
+        let count = r as u32;
+        return Judgement {
+            answer: 13,
+            count,
+            a: 0,
+            b: 0,
+        };
+    }
+    let k = arrange::keep(table, words, r);
+    judge_kept(book, table, words, scratch, run, k)
+}
+
+// For a good sheet, compiled into its book.
+fn judge_book(
+    book: &[u32],
+    table: &mut [u32],
+    words: &mut [u32],
+    scratch: &mut [u32],
+    run: &mut [u32],
+) -> Judgement
+    requires { ⌜ Shaped (now book) ⌝ }
+    ensures { λ j. ⌜ JudgedBy (bookSystem (now (book .entry)))
+        (lentOf (now (table .entry)) (now (words .entry)) (now (scratch .entry)) (now (run .entry)))
+        (outcomeOf j (lentOf (now (table .exit)) (now (words .exit)) (now (scratch .exit)) (now (run .exit)))) ⌝ }
+{
+    let cap = room(table.len(), words.len(), scratch.len());
+    let r = explore::explore(book, table, words, scratch, cap);
+    if cap < r {
+        leave(table, words, scratch, 0, 0);
+        return Judgement {
+            answer: 11,
+            count: 0,
+            a: 0,
+            b: 0,
+        };
+    }
+    judge_reached(book, table, words, scratch, run, r)
+}
+
+// Judges a sheet.
+pub fn judge(
+    sheet: &[u8],
+    table: &mut [u32],
+    words: &mut [u32],
+    scratch: &mut [u32],
+    run: &mut [u32],
+) -> Judgement
+    ensures { λ r. ⌜ Judged (now (sheet .entry))
+        (lentOf (now (table .entry)) (now (words .entry)) (now (scratch .entry)) (now (run .entry)))
+        (outcomeOf r (lentOf (now (table .exit)) (now (words .exit)) (now (scratch .exit)) (now (run .exit)))) ⌝ }
+{
+    let fault = reader::naxxurbi_read(sheet);
+    if fault != 0 {
+        return Judgement {
+            answer: fault,
+            count: 0,
+            a: 0,
+            b: 0,
+        };
+    }
+    let mut book = [0u32; BOOK];
+    rules::compile(sheet, &mut book);
+    judge_book(&book, table, words, scratch, run)
+}
+
+// The same for callers in C: the four numbers go into `out`.
+#[no_mangle]
+pub extern "C" fn naxxurbi_judge(
+    sheet: &[u8],
+    table: &mut [u32],
+    words: &mut [u32],
+    scratch: &mut [u32],
+    run: &mut [u32],
+    out: &mut [u32; 4],
+)
+    ensures { λ _. ⌜ JudgedOut (now (sheet .entry))
+        (lentOf (now (table .entry)) (now (words .entry)) (now (scratch .entry)) (now (run .entry)))
+        (now (out .exit))
+        (lentOf (now (table .exit)) (now (words .exit)) (now (scratch .exit)) (now (run .exit))) ⌝ }
+{
+    let r = judge(sheet, table, words, scratch, run);
+    *out = [r.answer, r.count, r.a, r.b];
+}
