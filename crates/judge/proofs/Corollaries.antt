@@ -1,7 +1,7 @@
 -- What the judge's promise alone gives whoever calls it, said of the numbers that it returns and of the slices as it leaves them: demand 2 in
 -- both directions; that the run checker's rule accepts the run and the strike checker's the strike list; demand 3; and that the
 -- count is K or R and b the length of the sample run. Each holds of every outcome that meets the promise. Assumes nothing.
-use mathlib.Core.Path.{_≡_, sym, ap, subst, subst₂, _∙_}
+use mathlib.Core.Path.{_≡_, sym, ap, subst, subst₂}
 use mathlib.Core.Logic.{_↔_, _⊎_}
 use mathlib.Core.List.{List}
 use Prim.Native.Nat.{ℕ, _≤_}
@@ -10,7 +10,7 @@ use Rattle.meaning.specs.System.{CanBeKept, Livable, Lists, IsK, IsR}
 use Rattle.meaning.specs.Strike.{StrikeList}
 use Rattle.meaning.specs.Sample.{RunPaper}
 use Rattle.meaning.specs.Papers.{RunAccepted, StrikesAccepted}
-use Rattle.meaning.specs.Promises.{systemIn, Lent, Outcome, Roomy, short, outcome, Judged}
+use Rattle.meaning.specs.Promises.{systemIn, Lent, Outcome, Roomy, outcome, Judged}
 use Rattle.meaning.proofs.Demands.{
   RunFits,
   KeepsInTime,

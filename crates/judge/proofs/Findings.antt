@@ -1,5 +1,5 @@
 -- Each finding of the judge, from what its parts told and left: the promise over the system of a book. Assumes nothing.
-use mathlib.Core.Path.{_≡_, refl, sym, ap, subst, _∙_}
+use mathlib.Core.Path.{_≡_, sym, ap, subst, _∙_}
 use mathlib.Core.List.{List}
 use Prim.Native.Nat.{ℕ, _≤_, _<_}
 use native.Mathlib.Omega.{arith}
@@ -8,11 +8,12 @@ use lib.Seq.{length-take-le}
 use Rattle.meaning.specs.System.{System, Reachable, Livable, Lists, IsR, CanBeKept}
 use Rattle.meaning.specs.Strike.{StrikeList}
 use Rattle.meaning.specs.Promises.{Lent, crowded, short, can, cannot, capacity, over, cleared, outcome}
-use Rattle.meaning.proofs.Judging.{lists-number, livable-kept}
+use Rattle.meaning.proofs.Judging.{lists-number}
 use Rattle.meaning.proofs.Rounds.{strike-list-no-run}
 use Rattle.strike.specs.Marked.{Marked}
 use Rattle.steer.specs.Steered.{Steered}
-use Rattle.judge.specs.Judging.{lentOf, outcomeOf, RoomFor, JudgedBy, LeftOver, StrikesWritten}
+use Rattle.judge.specs.declared.Judgement.{Judgement}
+use Rattle.judge.specs.Judging.{lentOf, outcomeOf, refused, RoomFor, JudgedBy, LeftOver, StrikesWritten}
 use Rattle.judge.proofs.Wiping.{wiped-whole, zeros-same}
 use Rattle.judge.proofs.Rooms.{Places, capacity-places}
 use Rattle.judge.proofs.Livables.{strikes-listed}
@@ -24,18 +25,18 @@ listed-room lent r lists room =
     record { reached = length (take r (lent .table)); number = lists-number lists; room = subst (λ n. n ≤ capacity lent) (sym long) room }
 
 -- 11: R is above C.
-pub crowded-judged : {S : System} {table words scratch table′ words′ scratch′ : List ℕ} (run : List ℕ)
+pub crowded-judged : {S : System} {table words scratch table′ words′ scratch′ : List ℕ} {j : Judgement} (run : List ℕ) → j ≡ refused 11 0
     → ((r : ℕ) → IsR S r → capacity (lentOf table words scratch run) < r) → LeftOver 0 0 table words scratch table′ words′ scratch′
-    → JudgedBy S (lentOf table words scratch run) (outcomeOf (record { answer = 11; count = 0; a = 0; b = 0 }) (lentOf table′ words′ scratch′ run))
+    → JudgedBy S (lentOf table words scratch run) (outcomeOf j (lentOf table′ words′ scratch′ run))
 unfolding outcome cleared
-crowded-judged {table = table} {words} {table′ = table′} {words′} run many L = record {
+crowded-judged {table = table} {words} {table′ = table′} {words′} run is many L = record {
   finding = crowded;
   found = many;
   returned = λ i. record {
-    answer = 11;
-    count = 0;
-    a = 0;
-    b = 0;
+    answer = is i .answer;
+    count = is i .count;
+    a = is i .a;
+    b = is i .b;
     leaves = record {
       table = wiped-whole table′ table (L .table-is) i;
       words = wiped-whole words′ words (L .words-is) i;
@@ -46,19 +47,19 @@ crowded-judged {table = table} {words} {table′ = table′} {words′} run many
 }
 
 -- 12: it can be kept, but the run needs b places.
-pub short-judged : {S : System} {table words scratch run words₁ run₁ table′ words′ scratch′ : List ℕ} {a b : ℕ}
+pub short-judged : {S : System} {table words scratch run words₁ run₁ table′ words′ scratch′ : List ℕ} {a b : ℕ} {j : Judgement} → j ≡ refused 12 b
     → RoomFor S (lentOf table words scratch run) → CanBeKept S → Steered S run run₁ a b → length words₁ ≡ length words → length run < b
     → LeftOver 0 0 table words₁ scratch table′ words′ scratch′
-    → JudgedBy S (lentOf table words scratch run) (outcomeOf (record { answer = 12; count = 0; a = 0; b = b }) (lentOf table′ words′ scratch′ run₁))
+    → JudgedBy S (lentOf table words scratch run) (outcomeOf j (lentOf table′ words′ scratch′ run₁))
 unfolding outcome cleared
-short-judged {table = table} {words} {words₁ = words₁} {table′ = table′} {words′} {b = b} room kept steered long few L = record {
+short-judged {table = table} {words} {words₁ = words₁} {table′ = table′} {words′} {b = b} is room kept steered long few L = record {
   finding = short b;
   found = (room, kept, (steered .states, steered .back, steered .paper, steered .long), few);
   returned = λ i. record {
-    answer = 12;
-    count = 0;
-    a = 0;
-    b = b;
+    answer = is i .answer;
+    count = is i .count;
+    a = is i .a;
+    b = is i .b;
     leaves = record {
       table = wiped-whole table′ table (L .table-is) i;
       words = (wiped-whole words′ words₁ (L .words-is) ∙ zeros-same words₁ words long) i;

@@ -1,26 +1,25 @@
 -- What the words say once striking is over: where no word is 0 the ordered table is the strike list; where some word is 0 the states kept in
 -- front are the livable ones. Assumes nothing.
-use mathlib.Core.Path.{_≡_, refl, sym, ap, subst, subst₂, _∙_}
+use mathlib.Core.Path.{_≡_, refl, sym, ap, subst, _∙_}
 use mathlib.Core.Bool.{cond}
-use mathlib.Core.Logic.{_⊎_, inl, inr, ⊎-elim}
+use mathlib.Core.Logic.{⊎-elim}
 use mathlib.Core.List.{List}
-use Prim.Native.Nat.{ℕ, zero, suc, _+_, _≤_, _<_}
+use Prim.Native.Nat.{ℕ, zero, suc, _≤_, _<_}
 use native.Mathlib.Decide.{ℕ-discrete}
 use native.Mathlib.Omega.{arith}
 use borrow.Author.Tests.{eq-eqb, ne-eqb}
-use lib.Dec.{eqb}
 use lib.ListN.{length, getD, take}
 use lib.Seq.{length-take-le, getD-take}
-use Rattle.meaning.specs.System.{System, Reachable, Livable, Lists, In}
+use Rattle.meaning.specs.System.{System, Reachable, Livable, Lists}
 use Rattle.meaning.specs.Strike.{StrikeList, Struck, wordOf}
 use Rattle.meaning.proofs.Lists.{lists-same}
 use Rattle.meaning.proofs.Decide.{livable-reachable}
 use Rattle.meaning.proofs.Rounds.{struck-not-livable}
-use Rattle.strike.specs.Marked.{Word, Marked, unstruck}
+use Rattle.strike.specs.Marked.{Marked, unstruck}
 use Rattle.arrange.specs.Arranged.{Unstruck, InFront, InOrder}
 use Rattle.arrange.proofs.Fronts.{front-whole}
 
--- Where none is unstruck no word is 0.
+-- where none is unstruck no word is 0.
 none-zero : (words : List ℕ) (r : ℕ) → unstruck words r ≡ 0 → (j : ℕ) → j < r → getD words j 0 ≡ 0 → ⊥
 none-zero words zero e j h z = omega arith
 none-zero words (suc r) e j h z = by (ℕ-discrete j r) (λ none l. none-zero words r none j l z)
@@ -34,7 +33,7 @@ none-zero words (suc r) e j h z = by (ℕ-discrete j r) (λ none l. none-zero wo
         omega (arith, ap (λ t. cond {A = ℕ} t 1 0) (eq-eqb (getD words r 0) 0 here))
     by (no q) f = f none-before (omega arith)
 
--- Where some are unstruck one word is 0.
+-- where some are unstruck one word is 0.
 some-zero : (words : List ℕ) (r : ℕ) → (unstruck words r ≡ 0 → ⊥) → (j : ℕ) × (j < r) × (getD words j 0 ≡ 0)
 some-zero words zero some = absurd (some refl)
 some-zero words (suc r) some = by (ℕ-discrete (getD words r 0) 0) (λ h. some-zero words r h)
@@ -46,7 +45,7 @@ some-zero words (suc r) some = by (ℕ-discrete (getD words r 0) 0) (λ h. some-
         let (j, h, e) = f (λ none. some (omega (arith, ap (λ t. cond {A = ℕ} t 1 0) (ne-eqb (getD words r 0) 0 z)))) in
         (j, omega arith, e)
 
--- A phase's word is not 0.
+-- a phase's word is not 0.
 word-not-0 : (S : System) (n : ℕ) → wordOf S n ≡ 0 → ⊥
 word-not-0 S n e = omega arith
 
@@ -83,7 +82,7 @@ strikes-listed {S} table words table′ words′ r in-table in-words lists marke
         ⊎-elim (λ z. absurd (none-zero words r (sym (marked .left-is)) j l (z .0)))
         (λ t. (t .0, subst (Struck S (t .0)) state (t .1), sym word ∙ t .2)) (marked .word j l)
 
--- The states whose word is 0 are the livable ones.
+-- the states whose word is 0 are the livable ones.
 unstruck-livable : {S : System} (table words : List ℕ) (r left : ℕ) → r ≤ length table → Lists (Reachable S) (take r table)
     → Marked S table words r left → (s : ℕ) → (Unstruck table words r s → Livable S s) × (Livable S s → Unstruck table words r s)
 unstruck-livable {S} table words r left in-table lists marked s = (there, back)

@@ -1,12 +1,12 @@
 -- The room for states: what C bounds; and that the promise over a book's system asks of the lent slices only how long they are and what
 -- the run slice holds. Assumes nothing.
-use mathlib.Core.Path.{_≡_, refl, sym, subst, _∙_}
+use mathlib.Core.Path.{_≡_, refl, subst, _∙_}
 use mathlib.Core.List.{List}
 use Prim.Native.Nat.{ℕ, _*_, _/_, _≤_, _<_, min}
 use native.Mathlib.Omega.{arith}
 use lib.ListN.{length}
 use Rattle.meaning.specs.System.{System}
-use Rattle.meaning.specs.Promises.{Lent, Outcome, Finding, bad, crowded, short, can, cannot, capacity, mostStates, over, zeros, cleared, outcome}
+use Rattle.meaning.specs.Promises.{Lent, Outcome, Finding, bad, crowded, short, can, cannot, capacity, mostStates, over, cleared, outcome}
 use Rattle.judge.specs.Judging.{RoomFor, FoundBy, JudgedBy, lentOf}
 use Rattle.judge.proofs.Wiping.{zeros-same}
 
@@ -40,6 +40,7 @@ pub capacity-same : {lent lent′ : Lent} → Alike lent lent′ → capacity le
 unfolding capacity
 capacity-same s = λ i. min (min (s .table-long i) (s .words-long i)) (min (s .scratch-long i / 2) mostStates)
 
+-- They have room for the same states.
 pub room-same : {S : System} {lent lent′ : Lent} → Alike lent lent′ → RoomFor S lent → RoomFor S lent′
 room-same s r = record { reached = r .reached; number = r .number; room = subst (λ c. r .reached ≤ c) (capacity-same s) (r .room) }
 

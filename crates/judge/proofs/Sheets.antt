@@ -1,5 +1,5 @@
 -- From a book to its sheet: what is promised over the book's system is promised of the sheet; and a bad sheet's promise. Assumes nothing.
-use mathlib.Core.Path.{_≡_, refl, sym, ap, subst, _∙_}
+use mathlib.Core.Path.{_≡_, refl, ap, subst, _∙_}
 use mathlib.Core.Option.{Option, none, some}
 use mathlib.Core.List.{List}
 use Prim.Native.Nat.{ℕ}
@@ -28,7 +28,8 @@ use Rattle.meaning.proofs.Judging.{number-of-reachable}
 use Rattle.meaning.proofs.Demands.{fault-number}
 use Rattle.rules.specs.Book.{BookOf, bookSystem}
 use Rattle.rules.proofs.Same.{book-system}
-use Rattle.judge.specs.Judging.{outcomeOf, RoomFor, FoundBy, JudgedBy}
+use Rattle.judge.specs.declared.Judgement.{Judgement}
+use Rattle.judge.specs.Judging.{outcomeOf, refused, RoomFor, FoundBy, JudgedBy}
 
 -- The reader's 0 says that the sheet is good.
 pub read-good : (sheet : List ℕ) (n : ℕ) → ReadSays sheet n → n ≡ 0 → firstFault sheet ≡ none
@@ -42,17 +43,23 @@ read-good sheet n says zero = by (firstFault sheet) refl
         absurd (omega (arith, fault-number (f .why) .0))
 
 -- Another number is that of its first fault: nothing is changed.
-pub bad-judged : (sheet : List ℕ) (n : ℕ) (lent : Lent) → ReadSays sheet n → (n ≡ 0 → ⊥)
-    → Judged sheet lent (outcomeOf (record { answer = n; count = 0; a = 0; b = 0 }) lent)
+pub bad-judged : (sheet : List ℕ) (n : ℕ) {j : Judgement} (lent : Lent) → j ≡ refused n 0 → ReadSays sheet n → (n ≡ 0 → ⊥)
+    → Judged sheet lent (outcomeOf j lent)
 unfolding ReadSays readNumber outcome
-bad-judged sheet n lent says fault = by (firstFault sheet) refl
+bad-judged sheet n {j} lent is says fault = by (firstFault sheet) refl
   where
-    by : (x : Option Fault) → firstFault sheet ≡ x → Judged sheet lent (outcomeOf (record { answer = n; count = 0; a = 0; b = 0 }) lent)
+    by : (x : Option Fault) → firstFault sheet ≡ x → Judged sheet lent (outcomeOf j lent)
     by none e = absurd (fault (says ∙ ap readNumber e))
     by (some f) e = record {
       finding = bad f;
       found = e;
-      returned = λ i. record { answer = (says ∙ ap readNumber e) i; count = 0; a = 0; b = 0; leaves = lent };
+      returned = λ i. record {
+        answer = (ap (λ (k : Judgement). k .answer) is ∙ says ∙ ap readNumber e) i;
+        count = is i .count;
+        a = is i .a;
+        b = is i .b;
+        leaves = lent;
+      };
     }
 
 roomy : {sheet : List ℕ} {lent : Lent} → firstFault sheet ≡ none → RoomFor (systemIn sheet) lent → Roomy sheet lent

@@ -16,7 +16,8 @@ use Rattle.arrange.specs.Arranged.{InFront}
 use Rattle.arrange.specs.Placing.{Keepable, Orderable}
 use Rattle.arrange.proofs.Fronts.{front-rises, front-sound}
 use Rattle.steer.specs.Walk.{Ready}
-use Rattle.judge.specs.Judging.{lentOf, outcomeOf, JudgedBy, Reached, Kept, LeftOver}
+use Rattle.judge.specs.declared.Judgement.{Judgement}
+use Rattle.judge.specs.Judging.{lentOf, outcomeOf, refused, JudgedBy, Reached, Kept, LeftOver}
 use Rattle.judge.proofs.Rooms.{Places, capacity-places, capacity-is, Alike, capacity-same, room-same, judged-alike}
 use Rattle.judge.proofs.Livables.{livables-listed, some-kept}
 use Rattle.judge.proofs.Findings.{listed-room, crowded-judged}
@@ -29,12 +30,12 @@ pub returned-alike : {S : System} {cap r : ℕ} {table table′ words words′ s
 returned-alike run t = record { table-long = t .table-long; words-long = t .words-long; scratch-long = t .scratch-long; run-same = refl }
 
 -- Above cap states were found, so R is above C.
-pub returned-crowded : {S : System} {cap r : ℕ} {table table₁ table′ words words₁ words′ scratch scratch₁ scratch′ : List ℕ} (run : List ℕ)
-    → cap ≡ min (min (length table) (length words)) (min (length scratch / 2) 16384)
+pub returned-crowded : {S : System} {cap r : ℕ} {table table₁ table′ words words₁ words′ scratch scratch₁ scratch′ : List ℕ} {j : Judgement} (run : List ℕ)
+    → j ≡ refused 11 0 → cap ≡ min (min (length table) (length words)) (min (length scratch / 2) 16384)
     → Returned S cap table table₁ words words₁ scratch scratch₁ r → cap < r → LeftOver 0 0 table₁ words₁ scratch₁ table′ words′ scratch′
-    → JudgedBy S (lentOf table words scratch run) (outcomeOf (record { answer = 11; count = 0; a = 0; b = 0 }) (lentOf table′ words′ scratch′ run))
-returned-crowded {S} {cap} {r} {table} {table₁} {words = words} {words₁} {scratch = scratch} {scratch₁} run is t above L =
-    judged-alike alike (crowded-judged run (many (t .explored)) L)
+    → JudgedBy S (lentOf table words scratch run) (outcomeOf j (lentOf table′ words′ scratch′ run))
+returned-crowded {S} {cap} {r} {table} {table₁} {words = words} {words₁} {scratch = scratch} {scratch₁} run numbers is t above L =
+    judged-alike alike (crowded-judged run numbers (many (t .explored)) L)
   where
     alike : Alike (lentOf table₁ words₁ scratch₁ run) (lentOf table words scratch run)
     alike = returned-alike run t
@@ -64,9 +65,11 @@ returned-reached {book} {cap} {r} {table} {table₁} {words} {words₁} {scratch
 reached-places : {book : List ℕ} {lent : Lent} {r : ℕ} → Reached book lent r → Places lent r
 reached-places {lent = lent} {r} h = capacity-places lent r (h .room)
 
+-- There are at most 16,384.
 pub reached-small : {book : List ℕ} {lent : Lent} {r : ℕ} → Reached book lent r → r ≤ 16384
 reached-small h = reached-places h .small
 
+-- What striking asks.
 pub reached-strikable : {book : List ℕ} {lent : Lent} {r : ℕ} → Reached book lent r
     → Strikable book (lent .table) (lent .words) (lent .scratch) r
 reached-strikable h = let p = reached-places h in record {
@@ -78,7 +81,7 @@ reached-strikable h = let p = reached-places h in record {
   few = p .small;
 }
 
--- Words and scratch may change as long as they keep their length.
+-- What ordering asks; words and scratch may have changed, as long as they kept their length.
 pub reached-orderable : {book table words scratch run words₁ scratch₁ : List ℕ} {r : ℕ} → Reached book (lentOf table words scratch run) r
     → length words₁ ≡ length words → length scratch₁ ≡ length scratch → Orderable table words₁ scratch₁ r
 reached-orderable {table = table} {r = r} h words-long scratch-long = let p = reached-places h in record {
@@ -89,6 +92,7 @@ reached-orderable {table = table} {r = r} h words-long scratch-long = let p = re
   rises = front-rises table r (p .in-table) (h .lists);
 }
 
+-- What keeping asks.
 pub reached-keepable : {book table words scratch run words₁ : List ℕ} {r : ℕ} → Reached book (lentOf table words scratch run) r
     → length words₁ ≡ length words → Keepable table words₁ r
 reached-keepable {table = table} {r = r} h words-long = let p = reached-places h in record {
@@ -129,12 +133,15 @@ reached-kept {book} {table} {words} {scratch} {run} {table₁} {words₁} {scrat
 kept-places : {book : List ℕ} {lent : Lent} {k : ℕ} → Kept book lent k → Places lent k
 kept-places {lent = lent} {k} h = capacity-places lent k (h .within)
 
+-- There are at most 16,384.
 pub kept-small : {book : List ℕ} {lent : Lent} {k : ℕ} → Kept book lent k → k ≤ 16384
 kept-small h = kept-places h .small
 
+-- They stand in the table.
 pub kept-in-table : {book : List ℕ} {lent : Lent} {k : ℕ} → Kept book lent k → k ≤ length (lent .table)
 kept-in-table h = kept-places h .in-table
 
+-- What steering asks.
 pub kept-ready : {book : List ℕ} {lent : Lent} {k : ℕ} → Kept book lent k → Ready book (lent .table) (lent .words) k
 kept-ready h = let p = kept-places h in record {
   shaped = h .shaped;

@@ -1,7 +1,7 @@
 -- Zeros from a place on, stored one by one; and what the wipings that end each answer leave. Assumes nothing.
 use mathlib.Core.Path.{_≡_, refl, sym, ap, _∙_}
 use mathlib.Core.List.{List, _++_}
-use Prim.Native.Nat.{ℕ, zero, suc, _+_, _-_, _≤_, _<_}
+use Prim.Native.Nat.{ℕ, zero, _+_, _-_, _≤_, _<_}
 use native.Mathlib.Decide.{decLt}
 use native.Mathlib.Omega.{arith}
 use lib.ListN.{length, getD, take, drop, set, replicate, length-set, length-append, length-drop, length-replicate, getD-replicate, List·getD-append}
@@ -18,9 +18,11 @@ pub record WipedUpTo (old : List ℕ) (from i : ℕ) (new : List ℕ) : Type 0 w
   pub as-was : (j : ℕ) → j < from → getD new j 0 ≡ getD old j 0
   pub zero-there : (j : ℕ) → from ≤ j → j < i → getD new j 0 ≡ 0
 
+-- Before the first store nothing is changed.
 pub wiped-none : (old : List ℕ) (from : ℕ) → WipedUpTo old from from old
 wiped-none old from = record { long = refl; reached = omega arith; as-was = λ j h. refl; zero-there = λ j h l. absurd (omega arith) }
 
+-- One zero more.
 pub wiped-more : (old : List ℕ) (from i : ℕ) (new : List ℕ) → WipedUpTo old from i new → i < length new
     → WipedUpTo old from (i + 1) (set new i 0)
 wiped-more old from i new W inside = record {

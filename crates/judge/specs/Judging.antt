@@ -19,6 +19,10 @@ lentOf table words scratch run = record { table = table; words = words; scratch 
 abbrev pub outcomeOf : Judgement → Lent → Outcome
 outcomeOf r leaves = record { answer = r .answer; count = r .count; a = r .a; b = r .b; leaves = leaves }
 
+-- "fields not named below are 0": the four numbers of a refusal, and of 11 and 12
+abbrev pub refused : (answer b : ℕ) → Judgement
+refused answer b = record { answer = answer; count = 0; a = 0; b = b }
+
 -- all reachable states have room
 pub record RoomFor (S : System) (lent : Lent) : Type 0 where
   pub reached : ℕ

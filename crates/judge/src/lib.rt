@@ -6,7 +6,7 @@ ghost use lib.ListN.{length, take};
 ghost use Rattle.meaning.specs.Promises.{Judged, JudgedOut, over, zeros};
 ghost use Rattle.rules.specs.Book.{Shaped, bookSystem};
 ghost use Rattle.arrange.specs.Placing.{Orderable};
-ghost use Rattle.judge.specs.Judging.{lentOf, outcomeOf, JudgedBy, Reached, Kept, LeftOver, StrikesWritten};
+ghost use Rattle.judge.specs.Judging.{lentOf, outcomeOf, refused, JudgedBy, Reached, Kept, LeftOver, StrikesWritten};
 
 // What the judge returns: document 01's answer, count, a and b.
 pub struct Judgement {
@@ -14,6 +14,18 @@ pub struct Judgement {
     pub count: u32,
     pub a: u32,
     pub b: u32,
+}
+
+// An answer that counts nothing and hands over no run.
+fn refusal(answer: u32, b: u32) -> Judgement
+    ensures { λ r. ⌜ r ≡ refused answer b ⌝ }
+{
+    Judgement {
+        answer,
+        count: 0,
+        a: 0,
+        b,
+    }
 }
 
 // How many numbers a book has.
@@ -87,18 +99,13 @@ fn judge_kept(
     let needed = b as usize;
     if run.len() < needed {
         leave(table, words, scratch, 0, 0);
-        return Judgement {
-            answer: 12,
-            count: 0,
-            a: 0,
-            b,
-        };
+        return refusal(12, b);
     }
     leave(table, words, scratch, k, 0);
-    let count = k as u32;
+    let kept = k as u32;
     Judgement {
         answer: 0,
-        count,
+        count: kept,
         a,
         b,
     }
@@ -121,10 +128,10 @@ fn judge_reached(
     let left = strike::strike(book, table, words, scratch, r);
     if left == 0 {
         write_strikes(table, words, scratch, r);
-        let count = r as u32;
+        let reached = r as u32;
         return Judgement {
             answer: 13,
-            count,
+            count: reached,
             a: 0,
             b: 0,
         };
@@ -150,12 +157,7 @@ fn judge_book(
     let r = explore::explore(book, table, words, scratch, cap);
     if cap < r {
         leave(table, words, scratch, 0, 0);
-        return Judgement {
-            answer: 11,
-            count: 0,
-            a: 0,
-            b: 0,
-        };
+        return refusal(11, 0);
     }
     judge_reached(book, table, words, scratch, run, r)
 }
@@ -174,12 +176,7 @@ pub fn judge(
 {
     let fault = reader::naxxurbi_read(sheet);
     if fault != 0 {
-        return Judgement {
-            answer: fault,
-            count: 0,
-            a: 0,
-            b: 0,
-        };
+        return refusal(fault, 0);
     }
     let mut book = [0u32; BOOK];
     rules::compile(sheet, &mut book);

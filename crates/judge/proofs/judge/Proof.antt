@@ -9,14 +9,18 @@ use Rattle.judge.proofs.judge.Tie as tie
 naxxurbi-read-requires : tie.Need-naxxurbi-read-requires
 naxxurbi-read-requires c κs = search needs
 
+refusal-requires : tie.Need-refusal-requires
+refusal-requires c κs = search needs
+
 returns : tie.Need-returns
 returns c =
-    let known = c .before in
+    let test = c .before in
+    let known = test .before in
     let start = known .before .before .before .before .before .before in
     let a = start .args in
     let read = known .naxxurbi-read in
-    bad-judged (a .sheet .now) (read .result) (lentOf (a .table .now) (a .words .now) (a .scratch .now) (a .run .now)) (read .ensures)
-    (c .if1 .taken)
+    let lent = lentOf (a .table .now) (a .words .now) (a .scratch .now) (a .run .now) in
+    bad-judged (a .sheet .now) (read .result) lent (c .refusal .ensures) (read .ensures) (test .if1 .taken)
 
 slice-aggregate-compile : tie.Need-slice-aggregate-compile
 slice-aggregate-compile c = search needs
@@ -63,6 +67,7 @@ judge-spec =
     tie.close
     (tie.spec
     naxxurbi-read-requires
+    refusal-requires
     returns
     slice-aggregate-compile
     compile-requires

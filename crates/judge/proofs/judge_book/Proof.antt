@@ -14,6 +14,9 @@ explore-requires c κs = search needs
 leave-requires : tie.Need-leave-requires
 leave-requires c κs = search needs
 
+refusal-requires : tie.Need-refusal-requires
+refusal-requires c κs = search needs
+
 same-length : tie.Need-same-length
 same-length c = search needs
 
@@ -25,12 +28,13 @@ same-length-3 c = search needs
 
 returns : tie.Need-returns
 returns c =
-    let left = c .before .before .before .before .before .before in
+    let left = c .before .before .before .before .before .before .before in
     let test = left .before .before .before .before in
     let explored = test .before .before .before .before .before .before .before in
     let measured = explored .before .before .before .before in
     let start = measured .before .before .before .before .before .before in
-    returned-crowded (start .args .run .now) (measured .room .ensures) (explored .explore .ensures) (test .if1 .taken) (left .leave .ensures)
+    returned-crowded (start .args .run .now) (c .refusal .ensures) (measured .room .ensures) (explored .explore .ensures) (test .if1 .taken)
+    (left .leave .ensures)
 
 judge-reached-requires : tie.Need-judge-reached-requires
 judge-reached-requires c κs =
@@ -66,6 +70,7 @@ judge-book-spec =
     room-requires
     explore-requires
     leave-requires
+    refusal-requires
     same-length
     same-length-2
     same-length-3

@@ -19,6 +19,9 @@ cast-needed c = search needs
 leave-requires : tie.Need-leave-requires
 leave-requires c κs = search needs
 
+refusal-requires : tie.Need-refusal-requires
+refusal-requires c κs = search needs
+
 same-length : tie.Need-same-length
 same-length c = search needs
 
@@ -33,13 +36,14 @@ same-length-4 c = search needs
 
 returns : tie.Need-returns
 returns c =
-    let left = c .before .before .before .before .before .before in
+    let left = c .before .before .before .before .before .before .before in
     let test = left .before .before .before .before in
     let steered = test .before .before .before .before .before in
     let start = steered .before .before .before .before .before .before .before .before .before in
     let told = steered .steer in
+    let kept = start .pre in
     let few : length (start .args .run .now) < told .result .b = omega (arith, test .if1 .taken, told .kept) in
-    short-judged (start .pre .room) (kept-can (start .pre)) (told .ensures .steered) (told .ensures .long) few (left .leave .ensures)
+    short-judged (c .refusal .ensures) (kept .room) (kept-can kept) (told .ensures .steered) (told .ensures .long) few (left .leave .ensures)
 
 leave-requires-2 : tie.Need-leave-requires-2
 leave-requires-2 c κs =
@@ -47,8 +51,8 @@ leave-requires-2 c κs =
     let start = test .before .before .before .before .before .before .before .before .before .before .before .before .before .before in
     omega (arith, kept-in-table (start .pre))
 
-cast-count : tie.Need-cast-count
-cast-count c =
+cast-kept : tie.Need-cast-kept
+cast-kept c =
     let left = c .before .before .before .before .before .before in
     let test = left .before .before .before .before in
     let start = test .before .before .before .before .before .before .before .before .before .before .before .before .before .before in
@@ -85,13 +89,14 @@ judge-kept-spec =
     steer-requires
     cast-needed
     leave-requires
+    refusal-requires
     same-length
     same-length-2
     same-length-3
     same-length-4
     returns
     leave-requires-2
-    cast-count
+    cast-kept
     same-length-5
     same-length-6
     same-length-7

@@ -23,8 +23,8 @@ write-strikes-requires c κs =
     let told = struck .strike .ensures in
     reached-orderable (start .pre) (told .words-long) (told .scratch-long)
 
-cast-count : tie.Need-cast-count
-cast-count c =
+cast-reached : tie.Need-cast-reached
+cast-reached c =
     let written = c .before .before .before .before .before .before in
     let struck = written .before .before .before .before .before .before .before .before .before in
     let start = struck .before .before .before .before .before .before .before .before .before in
@@ -94,7 +94,7 @@ judge-reached-spec =
     (tie.spec
     strike-requires
     write-strikes-requires
-    cast-count
+    cast-reached
     same-length
     same-length-2
     same-length-3
