@@ -1,0 +1,4 @@
+pub mod Counting
+pub mod Covering
+pub mod Tallying
+pub mod Trying

@@ -1,0 +1,4 @@
+pub mod Numbers
+pub mod Verdict
+pub mod Tests
+pub mod Loops

@@ -1,0 +1,98 @@
+-- How a checker comes to its number: what a test says (says-yes, says-no, says-test, and of two tests in turn), the reader's number first
+-- (read-good, read-bad), then 0 or 14 for the paper (accepts, refuses), and that what a checker accepts may be said in another way
+-- (checked-as). Assumes nothing.
+use mathlib.Core.Path.{_≡_, refl, sym, _∙_, ap, subst}
+use mathlib.Core.Logic.{_↔_}
+use mathlib.Core.Bool.{Bool, true, false}
+use mathlib.Core.Option.{Option, none, some}
+use mathlib.Core.List.{List}
+use Prim.Native.Nat.{ℕ, _≤_, _<_}
+use native.Mathlib.Omega.{arith}
+use lib.Dec.{T}
+use Rattle.meaning.specs.System.{System}
+use Rattle.meaning.specs.Sheet.{Fault, numberOf, firstFault, decode}
+use Rattle.meaning.specs.Rules.{systemOf}
+use Rattle.meaning.specs.Promises.{ReadSays, readNumber, systemIn, Checked, faulty, accepted, refused}
+use Rattle.meaning.proofs.Demands.{fault-number}
+use Rattle.meaning.proofs.Promised.{bad-not-good}
+use Rattle.papers.specs.Paper.{Says}
+
+-- ---- what a test says
+
+-- True is not false.
+pub clash : {b : Bool} → b ≡ true → b ≡ false → ⊥
+clash p q = let z : _≡_ {A = ℕ} 0 1 = cc in omega arith
+
+-- What holds is said by true, what does not by false.
+pub says-yes : {P : Type 0} → P → Says P true
+says-yes p = record { yes = λ e. p; never = λ e _. clash refl e }
+
+pub says-no : {P : Type 0} → (P → ⊥) → Says P false
+says-no n = record { yes = λ e. absurd (clash e refl); never = λ e. n }
+
+-- A test that came out true holds, one that came out false does not, and one that holds is true.
+pub true-holds : {b : Bool} → b ≡ true → T b
+true-holds {b} e = subst T (sym e) tt
+
+pub false-fails : {b : Bool} → b ≡ false → T b → ⊥
+false-fails {b} e t = subst T e t
+
+pub holds-true : (b : Bool) → T b → b ≡ true
+holds-true true t = refl
+holds-true false t = absurd t
+
+-- A test's own value says whether it holds.
+pub says-test : {r : Bool} (b : Bool) → r ≡ b → Says (T b) r
+says-test b e = record { yes = λ t. true-holds (sym e ∙ t); never = λ f. false-fails (sym e ∙ f) }
+
+-- A test says as much of what holds exactly if it does.
+pub says-as : {P Q : Type 0} {r : Bool} → (P → Q) → (Q → P) → Says P r → Says Q r
+says-as there back s = record { yes = λ t. there (s .yes t); never = λ f q. s .never f (back q) }
+
+-- ---- the sheet first
+
+-- The reader's 0 is that of a good sheet.
+pub read-good : (sheet : List ℕ) {n : ℕ} → ReadSays sheet n → n ≡ 0 → firstFault sheet ≡ none
+unfolding ReadSays readNumber
+read-good sheet {n} says zero-read = by (firstFault sheet) refl
+  where
+    by : (o : Option Fault) → firstFault sheet ≡ o → firstFault sheet ≡ none
+    by none e = e
+    by (some f) e = absurd (omega (arith, sym zero-read ∙ says ∙ ap readNumber e, fault-number (f .why)))
+
+-- Any other number of the reader is the checker's.
+pub read-bad : (sheet : List ℕ) {Ok : System → Type 0} {n : ℕ} → ReadSays sheet n → (n ≡ 0 → ⊥) → Checked sheet Ok n
+unfolding ReadSays readNumber
+read-bad sheet {Ok} {n} says more = by (firstFault sheet) refl
+  where
+    by : (o : Option Fault) → firstFault sheet ≡ o → Checked sheet Ok n
+    by none e = absurd (more (says ∙ ap readNumber e))
+    by (some f) e = faulty f e (says ∙ ap readNumber e)
+
+-- ---- then the paper, judged in a system that is the sheet's
+
+pub accepts : {sheet : List ℕ} {Ok : System → Type 0} {S : System} → firstFault sheet ≡ none → S ≡ systemOf (decode sheet) → Ok S → Checked sheet Ok 0
+unfolding systemIn
+accepts {Ok} good same ok = accepted good (subst Ok same ok) refl
+
+pub refuses : {sheet : List ℕ} {Ok : System → Type 0} {S : System} → firstFault sheet ≡ none → S ≡ systemOf (decode sheet) → (Ok S → ⊥)
+    → Checked sheet Ok 14
+unfolding systemIn
+refuses {Ok} good same none-ok = refused good (λ ok. none-ok (subst Ok (sym same) ok)) refl
+
+-- A paper that is refused in every system is refused on a good sheet.
+pub refuses-always : {sheet : List ℕ} {Ok : System → Type 0} → firstFault sheet ≡ none → ((S : System) → Ok S → ⊥) → Checked sheet Ok 14
+refuses-always {sheet} good none-ok = refused good (none-ok (systemIn sheet)) refl
+
+-- What a checker accepts may be said in another way.
+pub checked-as : {sheet : List ℕ} {Ok Ok′ : System → Type 0} {n : ℕ} → ((S : System) → Ok S → Ok′ S) → ((S : System) → Ok′ S → Ok S)
+    → Checked sheet Ok n → Checked sheet Ok′ n
+checked-as there back (faulty f e p) = faulty f e p
+checked-as there back (accepted e ok p) = accepted e (there _ ok) p
+checked-as there back (refused e no-ok p) = refused e (λ ok. no-ok (back _ ok)) p
+
+-- A checker says 0 exactly if the sheet is good and the paper is accepted.
+pub zero-exactly : {sheet : List ℕ} {Ok : System → Type 0} {n : ℕ} → Checked sheet Ok n → (n ≡ 0) ↔ ((firstFault sheet ≡ none) × Ok (systemIn sheet))
+zero-exactly (faulty f e p) = (λ z. absurd (omega (arith, fault-number (f .why))), λ h. absurd (bad-not-good e (h .0)))
+zero-exactly (accepted e ok p) = (λ z. (e, ok), λ h. p)
+zero-exactly (refused e no-ok p) = (λ z. absurd (omega arith), λ h. absurd (no-ok (h .1)))

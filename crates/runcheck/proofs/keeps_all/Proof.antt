@@ -1,0 +1,60 @@
+-- `runcheck::keeps_all` meets its contract. The loop's invariant: the first k promises are kept. Assumes nothing.
+use Prim.Native.Nat.{_-_}
+use native.Mathlib.Omega.{arith}
+use borrow.Author.Tests.{not-true, not-false}
+use Rattle.rules.specs.Book.{bookSystem}
+use Rattle.papers.proofs.Loops.{Passed, passed-none, passed-more, passed-all, failed-not-all}
+use Rattle.papers.proofs.Verdict.{says-yes, says-no}
+use Rattle.papers.specs.Paper.{paper}
+use Rattle.runcheck.specs.Run.{KeptFrom}
+use Rattle.runcheck.proofs.keeps_all.Statement.{statement}
+use Rattle.runcheck.proofs.keeps_all.Tie as tie
+
+abbrev Inv-loop : tie.InvT-loop
+Inv-loop book bytes numbers a promises k₀ k = Passed (KeptFrom (bookSystem book) (paper bytes numbers) a) (bookSystem book .promises) promises k
+
+abbrev μ-loop : tie.MeasureT-loop
+μ-loop book bytes numbers a promises k₀ k = promises - k
+
+promises-requires : tie.Need-promises-requires Inv-loop μ-loop
+promises-requires c κs = c .before .before .before .pre .0
+
+loop-holds : tie.Need-loop-holds Inv-loop μ-loop
+unfolding bookSystem
+loop-holds c = passed-none (c .promises .ensures)
+
+keeps-requires : tie.Need-keeps-requires Inv-loop μ-loop
+keeps-requires c κs = c .before .before .before .before .before .before .pre
+
+returns : tie.Need-returns Inv-loop μ-loop
+returns c =
+    says-no (failed-not-all (c .before .before .before .loop .inv) (c .before .before .loop-test .taken)
+    (c .before .keeps .ensures .never (not-true _ (c .if1 .taken))))
+
+add-k : tie.Need-add-k Inv-loop μ-loop
+add-k c = omega arith
+
+loop-less : tie.Need-loop-less Inv-loop μ-loop
+loop-less c = omega arith
+
+loop-again : tie.Need-loop-again Inv-loop μ-loop
+loop-again c =
+    passed-more (c .before .before .before .loop .inv) (c .before .before .loop-test .taken) (c .before .keeps .ensures .yes (not-false _ (c .if1 .left)))
+
+returns-2 : tie.Need-returns-2 Inv-loop μ-loop
+returns-2 c = says-yes (passed-all (c .before .loop .inv) (c .loop-test .left))
+
+pub keeps-all-spec : {M : Type 1} → statement M
+keeps-all-spec =
+    tie.close
+    (tie.spec
+    Inv-loop
+    μ-loop
+    promises-requires
+    loop-holds
+    keeps-requires
+    returns
+    add-k
+    loop-less
+    loop-again
+    returns-2)

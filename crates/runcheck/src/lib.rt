@@ -1,0 +1,127 @@
+// The run checker: whether a proposed run (b states and a number a) is one that obeys the sheet, read on from b - 1 back to a for ever.
+// It stands on the sheet reader and the compiled rules alone, and changes nothing.
+//
+// The theorem: each call returns the fault's number, 1 to 10, of a bad sheet; else 0 exactly if document 01 accepts the paper, else 14.
+// (`check_run` and `check_run_bytes` below; what 0 then means is said in proofs/Exactly.antt.)
+use papers::count_of;
+use papers::number_at;
+ghost use mathlib.Core.Path.{_≡_};
+ghost use Prim.Native.Nat.{_≤_, _<_};
+ghost use Rattle.meaning.specs.Papers.{RunAccepted};
+ghost use Rattle.meaning.specs.Promises.{RunChecked, RunBytesChecked};
+ghost use Rattle.papers.specs.Paper.{paper, countOf, Says};
+ghost use Rattle.rules.specs.Book.{Shaped, bookSystem};
+ghost use Rattle.runcheck.specs.Run.{MovesOn, KeptFrom, AllKept, PaperChecked};
+
+// The states as numbers.
+pub fn check_run(sheet: &[u8], states: &[u32], a: u32) -> u32
+    ensures { λ r. ⌜ RunChecked (now (sheet .entry)) (now (states .entry)) a r ⌝ }
+{
+    check(sheet, &sheet[..0], states, a)
+}
+
+// The states as bytes, four each, big-endian.
+pub fn check_run_bytes(sheet: &[u8], states: &[u8], a: u32) -> u32
+    ensures { λ r. ⌜ RunBytesChecked (now (sheet .entry)) (now (states .entry)) a r ⌝ }
+{
+    let none = [0u32; 1];
+    check(sheet, states, &none[..0], a)
+}
+
+// The sheet first, then the bytes' length, then the run.
+fn check(sheet: &[u8], bytes: &[u8], numbers: &[u32], a: u32) -> u32
+    ensures { λ r. ⌜ PaperChecked (now (sheet .entry)) (now (bytes .entry)) (now (numbers .entry)) a r ⌝ }
+{
+    let fault = reader::naxxurbi_read(sheet);
+    if fault != 0 {
+        return fault;
+    }
+    if bytes.len() % 4 != 0 {
+        return 14;
+    }
+    let mut book = [0u32; 1698];
+    rules::compile(sheet, &mut book);
+    if accepted(&book, bytes, numbers, a as usize) {
+        0
+    } else {
+        14
+    }
+}
+
+// Whether the run is accepted.
+fn accepted(book: &[u32], bytes: &[u8], numbers: &[u32], a: usize) -> bool
+    requires { ⌜ Shaped (now book) ⌝ }
+    ensures { λ r. ⌜ Says (RunAccepted (bookSystem (now (book .entry))) (paper (now (bytes .entry)) (now (numbers .entry))) a) r ⌝ }
+{
+    let count = count_of(bytes, numbers);
+    if count <= a {
+        return false;
+    }
+    let first = number_at(bytes, numbers, 0);
+    if !rules::first_state(book, first) {
+        return false;
+    }
+    if !moves_on(book, bytes, numbers) {
+        return false;
+    }
+    let end = count - 1;
+    let last = number_at(bytes, numbers, end);
+    let back = number_at(bytes, numbers, a);
+    if !rules::moves(book, last, back) {
+        return false;
+    }
+    keeps_all(book, bytes, numbers, a)
+}
+
+// Whether each state moves to the following one.
+fn moves_on(book: &[u32], bytes: &[u8], numbers: &[u32]) -> bool
+    requires { ⌜ Shaped (now book) × (0 < countOf (now bytes) (now numbers)) ⌝ }
+    ensures { λ r. ⌜ Says (MovesOn (bookSystem (now (book .entry))) (paper (now (bytes .entry)) (now (numbers .entry)))) r ⌝ }
+{
+    let count = count_of(bytes, numbers);
+    let end = count - 1;
+    let mut i = 0;
+    while i < end {
+        let next = i + 1;
+        let s = number_at(bytes, numbers, i);
+        let t = number_at(bytes, numbers, next);
+        if !rules::moves(book, s, t) {
+            return false;
+        }
+        i += 1;
+    }
+    true
+}
+
+// Whether each promise is true in some state from a on.
+fn keeps_all(book: &[u32], bytes: &[u8], numbers: &[u32], a: usize) -> bool
+    requires { ⌜ Shaped (now book) × (a < countOf (now bytes) (now numbers)) ⌝ }
+    ensures { λ r. ⌜ Says (AllKept (bookSystem (now (book .entry))) (paper (now (bytes .entry)) (now (numbers .entry))) a) r ⌝ }
+{
+    let promises = rules::promises(book);
+    let mut k = 0;
+    while k < promises {
+        if !keeps(book, bytes, numbers, a, k) {
+            return false;
+        }
+        k += 1;
+    }
+    true
+}
+
+// Whether promise k is.
+fn keeps(book: &[u32], bytes: &[u8], numbers: &[u32], a: usize, k: usize) -> bool
+    requires { ⌜ Shaped (now book) × (a < countOf (now bytes) (now numbers)) ⌝ }
+    ensures { λ r. ⌜ Says (KeptFrom (bookSystem (now (book .entry))) (paper (now (bytes .entry)) (now (numbers .entry))) a k) r ⌝ }
+{
+    let count = count_of(bytes, numbers);
+    let mut i = a;
+    while i < count {
+        let s = number_at(bytes, numbers, i);
+        if rules::kept(book, k, s) {
+            return true;
+        }
+        i += 1;
+    }
+    false
+}

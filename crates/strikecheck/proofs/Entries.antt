@@ -1,0 +1,210 @@
+-- What an entry must show, by the words: the words never fall, so the states listed with words below a limit are those at the first
+-- places, as many as have such words (among-listed, listed-among); and an entry is right if no promise of its reason is kept and its next
+-- states are there (entry-says). Assumes nothing.
+use mathlib.Core.Path.{_≡_, refl, sym, _∙_, ap, subst}
+use mathlib.Core.Bool.{Bool, true, false}
+use mathlib.Core.List.{List}
+use Prim.Native.Nat.{ℕ, zero, suc, _+_, _-_, _%_, _≤_, _<_}
+use native.Mathlib.Decide.{decLt}
+use native.Mathlib.Omega.{arith}
+use borrow.Author.Count.{below-more}
+use lib.ListN.{length, getD}
+use Rattle.meaning.specs.System.{System}
+use Rattle.meaning.specs.Papers.{Listed, EntryRight, StrikesAccepted}
+use Rattle.rules.specs.Book.{bookSystem}
+use Rattle.papers.specs.Paper.{Says}
+use Rattle.papers.proofs.Verdict.{says-no, says-as}
+use Rattle.papers.proofs.Loops.{Passed, passed-none, passed-more}
+use Rattle.covers.specs.Counts.{Among}
+use Rattle.covers.specs.Asks.{AllLawful, FirstsListed, NextsWithin, StatesAsk}
+use Rattle.strikecheck.specs.Strikes.{Rising, ReasonsFit, EntryOk, EntriesOk, KeptBy, StateOk, placesOf, Under, Reach, EntriesAsk}
+
+-- ---- words that never fall
+
+-- a step at a time, up to place i
+pub record Risen (words : List ℕ) (count i : ℕ) : Type 0 where
+  pub counted : count ≡ length words
+  pub begun : 1 ≤ i
+  pub risen : (j : ℕ) → suc j < i → getD words j 0 ≤ getD words (suc j) 0
+
+pub risen-begins : {words : List ℕ} {count : ℕ} → count ≡ length words → Risen words count 1
+risen-begins e = record { counted = e; begun = omega arith; risen = λ j h. absurd (omega arith) }
+
+pub risen-more : {words : List ℕ} {count i : ℕ} → Risen words count i → getD words (i - 1) 0 ≤ getD words i 0 → Risen words count (i + 1)
+risen-more {words} {count} {i} m here = record { counted = m .counted; begun = omega arith; risen = λ j h. by j h (decLt (suc j) i) }
+  where
+    by : (j : ℕ) → suc j < i + 1 → Dec (suc j < i) → getD words j 0 ≤ getD words (suc j) 0
+    by j h (yes q) = m .risen j q
+    by j h (no q) =
+        let e : i - 1 ≡ j = omega arith in
+        let f : i ≡ suc j = omega arith in
+        subst (λ (k : ℕ). getD words j 0 ≤ getD words k 0) f (subst (λ (k : ℕ). getD words k 0 ≤ getD words i 0) e here)
+
+pub risen-all : {words : List ℕ} {count i : ℕ} → Risen words count i → count ≤ i → Rising words
+risen-all m h j below = m .risen j (omega (arith, m .counted))
+
+pub fall-not-rising : {words : List ℕ} {count i : ℕ} → Risen words count i → i < count → getD words i 0 < getD words (i - 1) 0 → Rising words → ⊥
+fall-not-rising {words} {count} {i} m h fall all =
+    let e : suc (i - 1) ≡ i = omega (arith, m .begun) in
+    let up : getD words (i - 1) 0 ≤ getD words i 0 =
+    subst (λ (k : ℕ). getD words (i - 1) 0 ≤ getD words k 0) e (all (i - 1) (omega (arith, m .counted, m .begun))) in
+    omega arith
+
+-- A later word is no smaller.
+later-no-smaller : (words : List ℕ) → Rising words → (m j : ℕ) → m ≤ j → j < length words → getD words m 0 ≤ getD words j 0
+later-no-smaller words rising m zero h below = let e : m ≡ 0 = omega arith in subst (λ (k : ℕ). getD words k 0 ≤ getD words 0 0) (sym e) (omega arith)
+later-no-smaller words rising m (suc j) h below = by (decLt m (suc j)) (λ q. later-no-smaller words rising m j (omega arith) (omega arith))
+  where
+    by : Dec (m < suc j) → (m < suc j → getD words m 0 ≤ getD words j 0) → getD words m 0 ≤ getD words (suc j) 0
+    by (yes q) earlier = omega (arith, earlier q, rising j below)
+    by (no q) earlier = let e : suc j ≡ m = omega arith in subst (λ (k : ℕ). getD words m 0 ≤ getD words k 0) (sym e) (omega arith)
+
+-- ---- the first m words are those below the limit
+
+pub under-more : {words : List ℕ} {limit m : ℕ} → Under words limit m → m < length words → getD words m 0 < limit → Under words limit (m + 1)
+under-more {words} {limit} {m} u h here = record { within = omega arith; below = below-more (λ j. getD words j 0 < limit) m (u .below) here }
+
+pub under-stops : {words : List ℕ} {limit m : ℕ} → Under words limit m → limit ≤ getD words m 0 → Reach words limit m
+under-stops u stop = record { under = u; above = λ h. stop }
+
+pub under-ends : {words : List ℕ} {limit m : ℕ} → Under words limit m → length words ≤ m → Reach words limit m
+under-ends u h = record { under = u; above = λ q. absurd (omega arith) }
+
+-- A higher limit.
+under-higher : {words : List ℕ} {limit higher m : ℕ} → limit ≤ higher → Under words limit m → Under words higher m
+under-higher up u = record { within = u .within; below = λ j h. omega (arith, u .below j h) }
+
+-- So a state at the first m places is listed with such a word, and a state listed with such a word is at the first m places.
+among-listed : (states words : List ℕ) {limit m : ℕ} → length words ≡ length states → Reach words limit m → (t : ℕ)
+    → Among states m t → Listed states words (λ w. w < limit) t
+among-listed states words as-many r t (j, h, e) = (j, omega (arith, r .under .within), e, r .under .below j h)
+
+listed-among : (states words : List ℕ) {limit m : ℕ} → length words ≡ length states → Rising words → Reach words limit m → (t : ℕ)
+    → Listed states words (λ w. w < limit) t → Among states m t
+listed-among states words {limit} {m} as-many rising r t (j, h, e, small) = by (decLt j m)
+  where
+    by : Dec (j < m) → Among states m t
+    by (yes q) = (j, q, e)
+    by (no q) = absurd (omega (arith, r .above (omega arith), later-no-smaller words rising m j (omega arith) (omega arith)))
+
+-- ---- an entry
+
+pub near-places : (reason near far : ℕ) → reason ≡ 0 → near ≡ placesOf reason near far
+near-places reason near far e = sym (ap (λ (r : ℕ). placesOf r near far) e)
+
+pub far-places : (reason near far : ℕ) → (reason ≡ 0 → ⊥) → far ≡ placesOf reason near far
+far-places zero near far more = absurd (more refl)
+far-places (suc k) near far more = refl
+
+-- Reason 0 keeps nothing; another keeps the promise before it.
+pub zero-keeps-none : (S : System) (reason s : ℕ) → reason ≡ 0 → KeptBy S reason s → ⊥
+zero-keeps-none S zero s e k = k
+zero-keeps-none S (suc r) s e k = absurd (omega arith)
+
+pub kept-by-says : (S : System) (reason s : ℕ) {r : Bool} → (reason ≡ 0 → ⊥) → Says (S .Kept (reason - 1) s) r → Says (KeptBy S reason s) r
+kept-by-says S zero s more says = absurd (more refl)
+kept-by-says S (suc k) s {r} more says = let e : suc k - 1 ≡ k = omega arith in subst (λ (i : ℕ). Says (S .Kept i s) r) e says
+
+module _ (S : System) (states words : List ℕ) (as-many : length words ≡ length states) (rising : Rising words) where
+  -- What the code looks at, reason by reason, is what an entry must show.
+  looked-right : (reason word s near far : ℕ) → Reach words word near → Reach words (word + 1) far → StateOk S reason s states (placesOf reason near far)
+      → EntryRight S states words reason word s
+  looked-right zero word s near far n f ok = λ t move. among-listed states words as-many n t (ok .1 t move)
+  looked-right (suc k) word s near far n f ok =
+      (ok .0, λ t move. let l = among-listed states words as-many f t (ok .1 t move) in (l .0, l .1, l .2, omega (arith, l .3)))
+
+  right-looked : (reason word s near far : ℕ) → Reach words word near → Reach words (word + 1) far → EntryRight S states words reason word s
+      → StateOk S reason s states (placesOf reason near far)
+  right-looked zero word s near far n f ok = (λ k. k, λ t move. listed-among states words as-many rising n t (ok t move))
+  right-looked (suc k) word s near far n f ok =
+      (ok .0, λ t move. let l = ok .1 t move in listed-among states words as-many rising f t (l .0, l .1, l .2, omega (arith, l .3)))
+
+  pub entry-says : (i : ℕ) {s word m near far : ℕ} {r : Bool} → s ≡ getD states i 0 → word ≡ getD words i 0 → Reach words word near
+      → Reach words (word + 1) far → m ≡ placesOf (word % 32) near far → Says (StateOk S (word % 32) s states m) r → Says (EntryOk S states words i) r
+  entry-says i {s} {word} {m} {near} {far} {r} s-is word-is n f m-is says =
+      subst (λ (w : ℕ). Says (EntryRight S states words (w % 32) w (getD states i 0)) r) word-is
+      (subst (λ (x : ℕ). Says (EntryRight S states words (word % 32) word x) r) s-is
+      (says-as (looked-right (word % 32) word s near far n f) (right-looked (word % 32) word s near far n f)
+      (subst (λ (k : ℕ). Says (StateOk S (word % 32) s states k) r) m-is says)))
+
+-- What the next states are looked for in, and that the entry's state is lawful.
+pub entry-asks : {book states words : List ℕ} {distinct : Bool} → EntriesAsk book states words distinct → {word near far m : ℕ} → Reach words word near
+    → Reach words (word + 1) far → (reason : ℕ) → m ≡ placesOf reason near far → (i : ℕ) {s : ℕ} → i < length states → s ≡ getD states i 0
+    → StatesAsk book states m distinct × bookSystem book .Lawful s
+entry-asks {book} {states} {words} asks {word} {near} {far} {m} n f reason m-is i h s-is = (
+  record {
+    shaped = asks .states-ask .shaped;
+    lawful = asks .states-ask .lawful;
+    within = subst (λ (k : ℕ). k ≤ length states) (sym m-is) (by reason);
+    different = asks .states-ask .different;
+  },
+  subst (λ (x : ℕ). bookSystem book .Lawful x) (sym s-is) (asks .states-ask .lawful i h),
+)
+  where
+    by : (reason : ℕ) → placesOf reason near far ≤ length states
+    by zero = omega (arith, n .under .within, asks .as-many)
+    by (suc k) = omega (arith, f .under .within, asks .as-many)
+
+-- ---- all entries
+
+-- The first i entries are right, and the two counts of places are no farther than entry i allows.
+pub record Entered (S : System) (states words : List ℕ) (count i near far : ℕ) : Type 0 where
+  pub entered : Passed (EntryOk S states words) (length states) count i
+  pub near-under : i < length words → Under words (getD words i 0) near
+  pub far-under : i < length words → Under words (getD words i 0 + 1) far
+
+pub entered-none : {S : System} {states words : List ℕ} {count : ℕ} → count ≡ length states → Entered S states words count 0 0 0
+entered-none {words} e = record { entered = passed-none e; near-under = λ h. nothing _; far-under = λ h. nothing _ }
+  where
+    nothing : (limit : ℕ) → Under words limit 0
+    nothing limit = record { within = omega arith; below = λ j h. absurd (omega arith) }
+
+-- Where the two counts of places go on from.
+pub near-start : {book states words : List ℕ} {distinct : Bool} → EntriesAsk book states words distinct → {S : System} {count i near far word : ℕ}
+    → Entered S states words count i near far → i < count → word ≡ getD words i 0 → Under words word near
+near-start {words = words} asks {near = near} so-far h word-is =
+    subst (λ (w : ℕ). Under words w near) (sym word-is) (so-far .near-under (omega (arith, so-far .entered .counted, asks .as-many)))
+
+pub far-start : {book states words : List ℕ} {distinct : Bool} → EntriesAsk book states words distinct → {S : System} {count i near far word : ℕ}
+    → Entered S states words count i near far → i < count → word ≡ getD words i 0 → Under words (word + 1) far
+far-start {words = words} asks {far = far} so-far h word-is =
+    subst (λ (w : ℕ). Under words (w + 1) far) (sym word-is) (so-far .far-under (omega (arith, so-far .entered .counted, asks .as-many)))
+
+pub entered-more : {S : System} {states words : List ℕ} {count i near near′ far far′ word : ℕ} → Rising words → Entered S states words count i near far
+    → i < count → word ≡ getD words i 0 → Reach words word near′ → Reach words (word + 1) far′ → EntryOk S states words i
+    → Entered S states words count (i + 1) near′ far′
+entered-more {S} {states} {words} {count} {i} {near} {near′} {far} {far′} {word} rising so-far h word-is n f ok = record {
+  entered = passed-more (so-far .entered) h ok;
+  near-under = λ q. under-higher (up q) (n .under);
+  far-under = λ q. under-higher (up-one q) (f .under);
+}
+  where
+    up : i + 1 < length words → word ≤ getD words (i + 1) 0
+    up q =
+        let e : suc i ≡ i + 1 = omega arith in
+        subst (λ (k : ℕ). word ≤ getD words k 0) e (omega (arith, rising i (omega arith), word-is))
+
+    up-one : i + 1 < length words → word + 1 ≤ getD words (i + 1) 0 + 1
+    up-one q = omega (arith, up q)
+
+-- Where all but the entries is in order, the entries decide.
+pub entries-decide : (S : System) (states words : List ℕ) {r : Bool} → length words ≡ length states → Rising words → ReasonsFit S words → AllLawful S states
+    → FirstsListed S states → Says (EntriesOk S states words) r → Says (StrikesAccepted S states words) r
+entries-decide S states words as-many rising fit lawful firsts = says-as there (λ h. h .entries)
+  where
+    there : EntriesOk S states words → StrikesAccepted S states words
+    there entries = record {
+      as-many = as-many;
+      rising = λ i h. rising i (omega arith);
+      lawful = lawful;
+      reasons = λ i h. fit i (omega arith);
+      firsts = firsts;
+      entries = entries;
+    }
+
+-- An accepted list's words never fall and have fitting reasons, as the code counts the words.
+pub accepted-rising : {S : System} {states words : List ℕ} → length words ≡ length states → StrikesAccepted S states words → Rising words
+accepted-rising as-many h i below = h .rising i (omega arith)
+
+pub accepted-fit : {S : System} {states words : List ℕ} → length words ≡ length states → StrikesAccepted S states words → ReasonsFit S words
+accepted-fit as-many h i below = h .reasons i (omega arith)

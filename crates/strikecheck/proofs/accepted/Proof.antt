@@ -1,0 +1,101 @@
+-- `strikecheck::accepted` meets its contract: each refusal names the condition that fails, and the entries decide the rest. Assumes nothing.
+use mathlib.Core.Path.{sym, _∙_}
+use native.Mathlib.Omega.{arith}
+use borrow.Author.Needs.{needs}
+use borrow.Author.Tests.{not-true, not-false}
+use Rattle.papers.proofs.Verdict.{says-no}
+use Rattle.strikecheck.proofs.Entries.{entries-decide, accepted-rising, accepted-fit}
+use Rattle.strikecheck.proofs.accepted.Statement.{statement}
+use Rattle.strikecheck.proofs.accepted.Tie as tie
+
+count-of-requires : tie.Need-count-of-requires
+count-of-requires c κs = search needs
+
+count-of-requires-2 : tie.Need-count-of-requires-2
+count-of-requires-2 c κs = search needs
+
+returns : tie.Need-returns
+returns c = says-no (λ h. c .if1 .taken (c .before .count-of2 .ensures ∙ h .as-many ∙ sym (c .before .before .count-of .ensures)))
+
+words-rise-requires : tie.Need-words-rise-requires
+words-rise-requires c κs = search needs
+
+returns-2 : tie.Need-returns-2
+returns-2 c =
+    let as-many = sym (c .before .before .before .count-of2 .ensures) ∙ c .before .before .if1 .left ∙ c .before .before .before .before .count-of .ensures in
+    says-no (λ h. c .before .words-rise .ensures .never (not-true _ (c .if2 .taken)) (accepted-rising as-many h))
+
+reasons-fit-requires : tie.Need-reasons-fit-requires
+reasons-fit-requires c κs = search needs
+
+returns-3 : tie.Need-returns-3
+returns-3 c =
+    let counted = c .before .before .before .before in
+    let as-many = sym (counted .before .count-of2 .ensures) ∙ counted .if1 .left ∙ counted .before .before .count-of .ensures in
+    says-no (λ h. c .before .reasons-fit .ensures .never (not-true _ (c .if3 .taken)) (accepted-fit as-many h))
+
+all-lawful-requires : tie.Need-all-lawful-requires
+all-lawful-requires c κs = search needs
+
+returns-4 : tie.Need-returns-4
+returns-4 c = says-no (λ h. c .before .all-lawful .ensures .never (not-true _ (c .if4 .taken)) (h .lawful))
+
+all-different-requires : tie.Need-all-different-requires
+all-different-requires c κs = search needs
+
+firsts-listed-requires : tie.Need-firsts-listed-requires
+firsts-listed-requires c κs =
+    record {
+      shaped = c .before .before .before .before .before .before .before .before .before .before .before .before .before .before .before .pre;
+      lawful = c .before .before .all-lawful .ensures .yes (not-false _ (c .before .if4 .left));
+      within = omega arith;
+      different = c .all-different .ensures;
+    }
+
+returns-5 : tie.Need-returns-5
+returns-5 c = says-no (λ h. c .before .firsts-listed .ensures .never (not-true _ (c .if5 .taken)) (h .firsts))
+
+entries-right-requires : tie.Need-entries-right-requires
+entries-right-requires c κs =
+    let lawful = c .before .before .before in
+    let counted = lawful .before .before .before .before .before .before in
+    record {
+      states-ask = record {
+        shaped = counted .before .before .before .before .before .before .before .before .pre;
+        lawful = lawful .before .all-lawful .ensures .yes (not-false _ (lawful .if4 .left));
+        within = omega arith;
+        different = c .before .before .all-different .ensures;
+      };
+      as-many = sym (counted .before .count-of2 .ensures) ∙ counted .if1 .left ∙ counted .before .before .count-of .ensures;
+      rising = lawful .before .before .before .before .before .words-rise .ensures .yes (not-false _ (lawful .before .before .before .before .if2 .left));
+    }
+
+returns-6 : tie.Need-returns-6
+returns-6 c =
+    let lawful = c .before .before .before .before in
+    let counted = lawful .before .before .before .before .before .before in
+    entries-decide _ _ _ (sym (counted .before .count-of2 .ensures) ∙ counted .if1 .left ∙ counted .before .before .count-of .ensures)
+    (lawful .before .before .before .before .before .words-rise .ensures .yes (not-false _ (lawful .before .before .before .before .if2 .left)))
+    (lawful .before .before .before .reasons-fit .ensures .yes (not-false _ (lawful .before .before .if3 .left)))
+    (lawful .before .all-lawful .ensures .yes (not-false _ (lawful .if4 .left)))
+    (c .before .before .firsts-listed .ensures .yes (not-false _ (c .before .if5 .left)))
+    (c .entries-right .ensures)
+
+pub accepted-spec : {M : Type 1} → statement M
+accepted-spec =
+    tie.close
+    (tie.spec
+    count-of-requires
+    count-of-requires-2
+    returns
+    words-rise-requires
+    returns-2
+    reasons-fit-requires
+    returns-3
+    all-lawful-requires
+    returns-4
+    all-different-requires
+    firsts-listed-requires
+    returns-5
+    entries-right-requires
+    returns-6)

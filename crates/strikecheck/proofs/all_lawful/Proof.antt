@@ -1,0 +1,66 @@
+-- `strikecheck::all_lawful` meets its contract. The loop's invariant: the first i states are lawful. Assumes nothing.
+use Prim.Native.Nat.{_-_}
+use native.Mathlib.Omega.{arith}
+use borrow.Author.Needs.{needs}
+use borrow.Author.Tests.{not-true, not-false}
+use lib.ListN.{length, getD}
+use Rattle.rules.specs.Book.{bookSystem}
+use Rattle.papers.proofs.Loops.{Passed, passed-none, passed-more, passed-all, failed-not-all}
+use Rattle.papers.proofs.Tests.{lawful-says}
+use Rattle.papers.proofs.Verdict.{says-yes, says-no}
+use Rattle.papers.specs.Paper.{paper}
+use Rattle.strikecheck.proofs.all_lawful.Statement.{statement}
+use Rattle.strikecheck.proofs.all_lawful.Tie as tie
+
+abbrev Inv-loop : tie.InvT-loop
+Inv-loop book sb sn states i₀ i = Passed (λ j. bookSystem book .Lawful (getD (paper sb sn) j 0)) (length (paper sb sn)) states i
+
+abbrev μ-loop : tie.MeasureT-loop
+μ-loop book sb sn states i₀ i = states - i
+
+count-of-requires : tie.Need-count-of-requires Inv-loop μ-loop
+count-of-requires c κs = search needs
+
+loop-holds : tie.Need-loop-holds Inv-loop μ-loop
+loop-holds c = passed-none (c .count-of .ensures)
+
+number-at-requires : tie.Need-number-at-requires Inv-loop μ-loop
+number-at-requires c κs = omega (arith, c .before .loop .inv .counted)
+
+lawful-requires : tie.Need-lawful-requires Inv-loop μ-loop
+lawful-requires c κs = c .before .before .before .before .before .before .before .pre
+
+returns : tie.Need-returns Inv-loop μ-loop
+returns c =
+    says-no (failed-not-all (c .before .before .before .before .loop .inv) (c .before .before .before .loop-test .taken)
+    (lawful-says _ (c .before .before .number-at .ensures) (c .before .lawful .ensures) .never (not-true _ (c .if1 .taken))))
+
+add-i : tie.Need-add-i Inv-loop μ-loop
+add-i c = omega arith
+
+loop-less : tie.Need-loop-less Inv-loop μ-loop
+loop-less c = omega arith
+
+loop-again : tie.Need-loop-again Inv-loop μ-loop
+loop-again c =
+    passed-more (c .before .before .before .before .loop .inv) (c .before .before .before .loop-test .taken)
+    (lawful-says _ (c .before .before .number-at .ensures) (c .before .lawful .ensures) .yes (not-false _ (c .if1 .left)))
+
+returns-2 : tie.Need-returns-2 Inv-loop μ-loop
+returns-2 c = says-yes (passed-all (c .before .loop .inv) (c .loop-test .left))
+
+pub all-lawful-spec : {M : Type 1} → statement M
+all-lawful-spec =
+    tie.close
+    (tie.spec
+    Inv-loop
+    μ-loop
+    count-of-requires
+    loop-holds
+    number-at-requires
+    lawful-requires
+    returns
+    add-i
+    loop-less
+    loop-again
+    returns-2)

@@ -1,0 +1,22 @@
+-- `strikecheck::entry_right` meets its contract: a kept promise is wrong, else the next states decide. Assumes nothing.
+use borrow.Author.Needs.{needs}
+use Rattle.papers.proofs.Verdict.{says-no, says-as}
+use Rattle.strikecheck.proofs.entry_right.Statement.{statement}
+use Rattle.strikecheck.proofs.entry_right.Tie as tie
+
+kept-by-requires : tie.Need-kept-by-requires
+kept-by-requires c κs = search needs
+
+returns : tie.Need-returns
+returns c = says-no (λ ok. ok .0 (c .before .kept-by .ensures .yes (c .if1 .taken)))
+
+nexts-within-requires : tie.Need-nexts-within-requires
+nexts-within-requires c κs = search needs
+
+returns-2 : tie.Need-returns-2
+returns-2 c =
+    let unkept = c .before .before .kept-by .ensures .never (c .before .if1 .left) in
+    says-as (λ nexts. (unkept, nexts)) (λ ok. ok .1) (c .nexts-within .ensures)
+
+pub entry-right-spec : {M : Type 1} → statement M
+entry-right-spec = tie.close (tie.spec kept-by-requires returns nexts-within-requires returns-2)

@@ -1,0 +1,13 @@
+-- `strikecheck::places` meets its contract: by the reason. Assumes nothing.
+use Rattle.strikecheck.proofs.Entries.{near-places, far-places}
+use Rattle.strikecheck.proofs.places.Statement.{statement}
+use Rattle.strikecheck.proofs.places.Tie as tie
+
+returns : tie.Need-returns
+returns c = near-places _ _ _ (c .if1 .taken)
+
+returns-2 : tie.Need-returns-2
+returns-2 c = far-places _ _ _ (c .if1 .left)
+
+pub places-spec : {M : Type 1} → statement M
+places-spec = tie.close (tie.spec returns returns-2)

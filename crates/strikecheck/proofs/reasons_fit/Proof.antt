@@ -1,0 +1,78 @@
+-- `strikecheck::reasons_fit` meets its contract. The loop's invariant: the first i words' remainders are at most the number of promises. Assumes nothing.
+use mathlib.Core.Path.{ap}
+use Prim.Native.Nat.{_-_, _%_, _≤_, ℕ}
+use native.Mathlib.Omega.{arith}
+use borrow.Author.Needs.{needs}
+use lib.ListN.{length, getD}
+use Rattle.rules.specs.Book.{bookSystem, promisesOf}
+use Rattle.papers.proofs.Loops.{Passed, passed-none, passed-more, passed-all, failed-not-all}
+use Rattle.papers.proofs.Verdict.{says-yes, says-no}
+use Rattle.papers.specs.Paper.{paper}
+use Rattle.strikecheck.proofs.reasons_fit.Statement.{statement}
+use Rattle.strikecheck.proofs.reasons_fit.Tie as tie
+
+abbrev Inv-loop : tie.InvT-loop
+Inv-loop book wb wn promises words i₀ i = Passed (λ j. getD (paper wb wn) j 0 % 32 ≤ promisesOf book) (length (paper wb wn)) words i
+
+abbrev μ-loop : tie.MeasureT-loop
+μ-loop book wb wn promises words i₀ i = words - i
+
+promises-requires : tie.Need-promises-requires Inv-loop μ-loop
+promises-requires c κs = c .before .before .before .pre
+
+count-of-requires : tie.Need-count-of-requires Inv-loop μ-loop
+count-of-requires c κs = search needs
+
+loop-holds : tie.Need-loop-holds Inv-loop μ-loop
+loop-holds c = passed-none (c .count-of .ensures)
+
+number-at-requires : tie.Need-number-at-requires Inv-loop μ-loop
+number-at-requires c κs = omega (arith, c .before .loop .inv .counted)
+
+cast-reason : tie.Need-cast-reason Inv-loop μ-loop
+cast-reason c = omega arith
+
+returns : tie.Need-returns Inv-loop μ-loop
+unfolding bookSystem
+returns c =
+    says-no (failed-not-all (c .before .before .before .loop .inv) (c .before .before .loop-test .taken)
+    (λ fits. omega (
+      arith,
+      ap (λ (w : ℕ). w % 32)
+          (c .before .number-at .ensures),
+      c .before .before .before .before .before .promises .ensures,
+      c .if1 .taken,
+      fits,
+    )))
+
+add-i : tie.Need-add-i Inv-loop μ-loop
+add-i c = omega arith
+
+loop-less : tie.Need-loop-less Inv-loop μ-loop
+loop-less c = omega arith
+
+loop-again : tie.Need-loop-again Inv-loop μ-loop
+loop-again c =
+    passed-more (c .before .before .before .loop .inv) (c .before .before .loop-test .taken)
+    (omega (arith, ap (λ (w : ℕ). w % 32) (c .before .number-at .ensures), c .before .before .before .before .before .promises .ensures, c .if1 .left))
+
+returns-2 : tie.Need-returns-2 Inv-loop μ-loop
+unfolding bookSystem
+returns-2 c = says-yes (passed-all (c .before .loop .inv) (c .loop-test .left))
+
+pub reasons-fit-spec : {M : Type 1} → statement M
+reasons-fit-spec =
+    tie.close
+    (tie.spec
+    Inv-loop
+    μ-loop
+    promises-requires
+    count-of-requires
+    loop-holds
+    number-at-requires
+    cast-reason
+    returns
+    add-i
+    loop-less
+    loop-again
+    returns-2)

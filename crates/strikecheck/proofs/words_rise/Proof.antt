@@ -1,0 +1,66 @@
+-- `strikecheck::words_rise` meets its contract. The loop's invariant: the words up to place i never fall. Assumes nothing.
+use Prim.Native.Nat.{_-_}
+use native.Mathlib.Omega.{arith}
+use borrow.Author.Needs.{needs}
+use Rattle.papers.proofs.Verdict.{says-yes, says-no}
+use Rattle.papers.specs.Paper.{paper}
+use Rattle.strikecheck.proofs.Entries.{Risen, risen-begins, risen-more, risen-all, fall-not-rising}
+use Rattle.strikecheck.proofs.words_rise.Statement.{statement}
+use Rattle.strikecheck.proofs.words_rise.Tie as tie
+
+abbrev Inv-loop : tie.InvT-loop
+Inv-loop wb wn words i₀ i = Risen (paper wb wn) words i
+
+abbrev μ-loop : tie.MeasureT-loop
+μ-loop wb wn words i₀ i = words - i
+
+count-of-requires : tie.Need-count-of-requires Inv-loop μ-loop
+count-of-requires c κs = search needs
+
+loop-holds : tie.Need-loop-holds Inv-loop μ-loop
+loop-holds c = risen-begins (c .count-of .ensures)
+
+sub-before : tie.Need-sub-before Inv-loop μ-loop
+sub-before c = omega (arith, c .before .loop .inv .begun)
+
+number-at-requires : tie.Need-number-at-requires Inv-loop μ-loop
+number-at-requires c κs = omega (arith, c .before .loop .inv .counted)
+
+number-at-requires-2 : tie.Need-number-at-requires-2 Inv-loop μ-loop
+number-at-requires-2 c κs = omega (arith, c .before .before .loop .inv .counted)
+
+returns : tie.Need-returns Inv-loop μ-loop
+returns c =
+    says-no (fall-not-rising (c .before .before .before .before .loop .inv) (c .before .before .before .loop-test .taken)
+    (omega (arith, c .before .before .number-at .ensures, c .before .number-at2 .ensures, c .if1 .taken)))
+
+add-i : tie.Need-add-i Inv-loop μ-loop
+add-i c = omega arith
+
+loop-less : tie.Need-loop-less Inv-loop μ-loop
+loop-less c = omega arith
+
+loop-again : tie.Need-loop-again Inv-loop μ-loop
+loop-again c =
+    risen-more (c .before .before .before .before .loop .inv)
+    (omega (arith, c .before .before .number-at .ensures, c .before .number-at2 .ensures, c .if1 .left))
+
+returns-2 : tie.Need-returns-2 Inv-loop μ-loop
+returns-2 c = says-yes (risen-all (c .before .loop .inv) (c .loop-test .left))
+
+pub words-rise-spec : {M : Type 1} → statement M
+words-rise-spec =
+    tie.close
+    (tie.spec
+    Inv-loop
+    μ-loop
+    count-of-requires
+    loop-holds
+    sub-before
+    number-at-requires
+    number-at-requires-2
+    returns
+    add-i
+    loop-less
+    loop-again
+    returns-2)

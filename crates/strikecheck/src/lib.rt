@@ -1,0 +1,238 @@
+// The strike checker: whether a proposed strike list (states and words) shows that the sheet cannot be kept. It stands on the sheet reader,
+// the compiled rules and the counting walk alone, and changes nothing.
+//
+// The theorem: each call returns the fault's number, 1 to 10, of a bad sheet; else 0 exactly if document 01 accepts the paper, else 14.
+// (`check_strikes` and `check_strikes_bytes` below; that 0 leaves no obeying run is said in proofs/Exactly.antt.)
+//
+// It does not search, it counts: words never fall, so "listed with a smaller word" is "among the first m entries"; and all next states are
+// among them exactly if there are as many next states as different ones among these entries.
+use covers::firsts_listed;
+use covers::fresh;
+use covers::nexts_within;
+use papers::count_of;
+use papers::number_at;
+ghost use mathlib.Core.Path.{_≡_};
+ghost use mathlib.Core.Bool.{true};
+ghost use Rattle.meaning.specs.Promises.{StrikesChecked, StrikesBytesChecked};
+ghost use Rattle.papers.specs.Paper.{paper, Says};
+ghost use Rattle.rules.specs.Book.{Shaped, bookSystem};
+ghost use Rattle.covers.specs.Asks.{AllLawful, StatesAsk};
+ghost use Rattle.covers.specs.Counts.{Different};
+ghost use Rattle.strikecheck.specs.Strikes.{Rising, ReasonsFit, StateOk, KeptBy, placesOf, Under, Reach};
+ghost use Rattle.strikecheck.specs.Strikes.{EntriesAsk, Accepted, AllRight, PaperChecked};
+
+// States and words as numbers.
+pub fn check_strikes(sheet: &[u8], states: &[u32], words: &[u32]) -> u32
+    ensures { λ r. ⌜ StrikesChecked (now (sheet .entry)) (now (states .entry)) (now (words .entry)) r ⌝ }
+{
+    check(sheet, &sheet[..0], states, &sheet[..0], words)
+}
+
+// States and words as bytes, four each, big-endian.
+pub fn check_strikes_bytes(sheet: &[u8], states: &[u8], words: &[u8]) -> u32
+    ensures { λ r. ⌜ StrikesBytesChecked (now (sheet .entry)) (now (states .entry)) (now (words .entry)) r ⌝ }
+{
+    let none = [0u32; 1];
+    let empty = &none[..0];
+    check(sheet, states, empty, words, empty)
+}
+
+// The sheet first, then the bytes' lengths, then the list. sb and sn are the states, wb and wn the words.
+fn check(sheet: &[u8], sb: &[u8], sn: &[u32], wb: &[u8], wn: &[u32]) -> u32
+    ensures { λ r. ⌜ PaperChecked (now (sheet .entry)) (now (sb .entry)) (now (sn .entry)) (now (wb .entry)) (now (wn .entry)) r ⌝ }
+{
+    let fault = reader::naxxurbi_read(sheet);
+    if fault != 0 {
+        return fault;
+    }
+    if sb.len() % 4 != 0 {
+        return 14;
+    }
+    if wb.len() % 4 != 0 {
+        return 14;
+    }
+    let mut book = [0u32; 1698];
+    rules::compile(sheet, &mut book);
+    if accepted(&book, sb, sn, wb, wn) {
+        0
+    } else {
+        14
+    }
+}
+
+// Whether the list is accepted.
+fn accepted(book: &[u32], sb: &[u8], sn: &[u32], wb: &[u8], wn: &[u32]) -> bool
+    requires { ⌜ Shaped (now book) ⌝ }
+    ensures { λ r. ⌜ Says (Accepted (now (book .entry)) (now (sb .entry)) (now (sn .entry)) (now (wb .entry)) (now (wn .entry))) r ⌝ }
+{
+    let states = count_of(sb, sn);
+    let words = count_of(wb, wn);
+    if words != states {
+        return false;
+    }
+    if !words_rise(wb, wn) {
+        return false;
+    }
+    if !reasons_fit(book, wb, wn) {
+        return false;
+    }
+    if !all_lawful(book, sb, sn) {
+        return false;
+    }
+    let distinct = all_different(sb, sn);
+    if !firsts_listed(book, sb, sn, distinct) {
+        return false;
+    }
+    entries_right(book, sb, sn, wb, wn, distinct)
+}
+
+// Whether the words never fall.
+fn words_rise(wb: &[u8], wn: &[u32]) -> bool
+    ensures { λ r. ⌜ Says (Rising (paper (now (wb .entry)) (now (wn .entry)))) r ⌝ }
+{
+    let words = count_of(wb, wn);
+    let mut i = 1;
+    while i < words {
+        let before = i - 1;
+        let earlier = number_at(wb, wn, before);
+        let later = number_at(wb, wn, i);
+        if later < earlier {
+            return false;
+        }
+        i += 1;
+    }
+    true
+}
+
+// Whether each word's remainder by 32 is at most the number of promises.
+fn reasons_fit(book: &[u32], wb: &[u8], wn: &[u32]) -> bool
+    requires { ⌜ Shaped (now book) ⌝ }
+    ensures { λ r. ⌜ Says (ReasonsFit (bookSystem (now (book .entry))) (paper (now (wb .entry)) (now (wn .entry)))) r ⌝ }
+{
+    let promises = rules::promises(book);
+    let words = count_of(wb, wn);
+    let mut i = 0;
+    while i < words {
+        let word = number_at(wb, wn, i);
+        let reason = (word % 32) as usize;
+        if promises < reason {
+            return false;
+        }
+        i += 1;
+    }
+    true
+}
+
+// Whether each state is lawful.
+fn all_lawful(book: &[u32], sb: &[u8], sn: &[u32]) -> bool
+    requires { ⌜ Shaped (now book) ⌝ }
+    ensures { λ r. ⌜ Says (AllLawful (bookSystem (now (book .entry))) (paper (now (sb .entry)) (now (sn .entry)))) r ⌝ }
+{
+    let states = count_of(sb, sn);
+    let mut i = 0;
+    while i < states {
+        let s = number_at(sb, sn, i);
+        if !rules::lawful(book, s) {
+            return false;
+        }
+        i += 1;
+    }
+    true
+}
+
+// True only if no state stands twice; the counts are then quicker.
+fn all_different(sb: &[u8], sn: &[u32]) -> bool
+    ensures { λ r. ⌜ (r ≡ true → Different (paper (now (sb .entry)) (now (sn .entry)))) ⌝ }
+{
+    let states = count_of(sb, sn);
+    let mut i = 0;
+    while i < states {
+        let s = number_at(sb, sn, i);
+        if !fresh(sb, sn, i, s) {
+            return false;
+        }
+        i += 1;
+    }
+    true
+}
+
+// Whether every entry shows what it must. Of the words, the first `near` are smaller than the entry's, and the first `far` the same or
+// smaller; both only grow.
+fn entries_right(book: &[u32], sb: &[u8], sn: &[u32], wb: &[u8], wn: &[u32], distinct: bool) -> bool
+    requires { ⌜ EntriesAsk (now book) (paper (now sb) (now sn)) (paper (now wb) (now wn)) distinct ⌝ }
+    ensures { λ r. ⌜ Says (AllRight (now (book .entry)) (now (sb .entry)) (now (sn .entry)) (now (wb .entry)) (now (wn .entry))) r ⌝ }
+{
+    let states = count_of(sb, sn);
+    let mut near = 0;
+    let mut far = 0;
+    let mut i = 0;
+    while i < states {
+        let s = number_at(sb, sn, i);
+        let word = number_at(wb, wn, i);
+        let reason = word % 32;
+        let limit = word as u64;
+        near = reach(wb, wn, near, limit);
+        far = reach(wb, wn, far, limit + 1);
+        let m = places(reason, near, far);
+        if !entry_right(book, s, reason, sb, sn, m, distinct) {
+            return false;
+        }
+        i += 1;
+    }
+    true
+}
+
+// From m on, how many words at the front are below the limit.
+fn reach(wb: &[u8], wn: &[u32], from: usize, limit: u64) -> usize
+    requires { ⌜ Under (paper (now wb) (now wn)) limit from ⌝ }
+    ensures { λ r. ⌜ Reach (paper (now (wb .entry)) (now (wn .entry))) limit r ⌝ }
+{
+    let words = count_of(wb, wn);
+    let mut m = from;
+    while m < words {
+        let word = number_at(wb, wn, m) as u64;
+        if limit <= word {
+            return m;
+        }
+        m += 1;
+    }
+    m
+}
+
+// Reason 0 wants its next states among the nearer places.
+fn places(reason: u32, near: usize, far: usize) -> usize
+    ensures { λ r. ⌜ r ≡ placesOf reason near far ⌝ }
+{
+    if reason == 0 { near } else { far }
+}
+
+// The reason's promise is false in s, and every next state is among the first m.
+fn entry_right(
+    book: &[u32],
+    s: u32,
+    reason: u32,
+    sb: &[u8],
+    sn: &[u32],
+    m: usize,
+    distinct: bool,
+) -> bool
+    requires { ⌜ StatesAsk (now book) (paper (now sb) (now sn)) m distinct × bookSystem (now book) .Lawful s ⌝ }
+    ensures { λ r. ⌜ Says (StateOk (bookSystem (now (book .entry))) reason s (paper (now (sb .entry)) (now (sn .entry))) m) r ⌝ }
+{
+    if kept_by(book, reason, s) {
+        return false;
+    }
+    nexts_within(book, s, sb, sn, m, distinct)
+}
+
+// Whether the reason's promise is true in s; reason 0 has none.
+fn kept_by(book: &[u32], reason: u32, s: u32) -> bool
+    requires { ⌜ Shaped (now book) ⌝ }
+    ensures { λ r. ⌜ Says (KeptBy (bookSystem (now (book .entry))) reason s) r ⌝ }
+{
+    if reason == 0 {
+        return false;
+    }
+    let k = reason as usize - 1;
+    rules::kept(book, k, s)
+}
