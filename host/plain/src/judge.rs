@@ -54,6 +54,12 @@ pub fn judge(
     }
 }
 
+/// R of a good sheet, unless it is above `most` or 16,384.
+pub fn reachable(sheet: &[u8], most: usize) -> Option<usize> {
+    let rules = Rules::new(&sheet::read(sheet).ok()?);
+    explore(&rules, most.min(MOST_STATES)).map(|graph| graph.states.len())
+}
+
 /// Where the sample run starts. A livable state occurs in an obeying run, whose
 /// start is livable too; so if there is no livable first state, none is livable.
 fn least_livable_first(rules: &Rules, graph: &Graph, strikes: &Strikes) -> Option<Spot> {

@@ -12,6 +12,8 @@
 //! | [`check`] | the checkers of runs and of strike lists                         |
 //! | [`brute`] | everything a second time, naively, for at most five letters      |
 //! | [`make`]  | sheets for tests and benchmarks, good and damaged                |
+//! | [`named`] | the workshop wall's sheets and the guide's                       |
+//! | [`source`]| the case studies and experiments of source document 000          |
 
 #![deny(warnings)]
 #![deny(missing_docs)]
@@ -24,7 +26,9 @@ mod hash;
 pub mod judge;
 pub mod list;
 pub mod make;
+pub mod named;
 pub mod rules;
 pub mod sheet;
+pub mod source;
 mod strike;
 mod walk;

@@ -748,6 +748,16 @@ pub fn dense(letters: u8) -> Draft {
     draft
 }
 
+/// The same rules, and a letter more that never holds and is promised alone:
+/// every state that has a way on is struck for that, in one round.
+pub fn never(mut draft: Draft) -> Draft {
+    draft.letters += 1;
+    let letter = draft.letters as i8;
+    draft.exactly(0, [letter]);
+    draft.promises = vec![letter];
+    draft
+}
+
 /// A named sheet for a benchmark.
 #[derive(Clone, Debug)]
 pub struct Family {

@@ -1,0 +1,86 @@
+//! Checking runs and strike lists: the judge's own papers, as bytes.
+
+use crate::{measure, Only, Table};
+use compare::checkers::{bytes, check_run, check_strikes};
+use plain::check::{check_run_bytes, check_strikes_bytes};
+use plain::judge::judge;
+use plain::make::{counter, counter_to_dead_end, dense, falling_promises, free, long_run, never, w15, Draft};
+use plain::source::{football, Team};
+use std::collections::BTreeSet;
+use std::hint::black_box;
+
+/// The judge's paper: a run's states and its a, or a strike list's states and words.
+struct Paper {
+    sheet: Vec<u8>,
+    a: u32,
+    states: Vec<u8>,
+    words: Vec<u8>,
+    different: usize,
+}
+
+fn paper(draft: &Draft) -> Paper {
+    let sheet = draft.bytes();
+    let (mut table, mut words) = (vec![0; 16_384], vec![0; 16_384]);
+    let (mut scratch, mut run) = (vec![0; 32_768], vec![0; 262_144]);
+    let answer = judge(&sheet, &mut table, &mut words, &mut scratch, &mut run);
+    let (states, words) = match answer.answer {
+        0 => (&run[..answer.b as usize], &[][..]),
+        13 => (&table[..answer.count as usize], &words[..answer.count as usize]),
+        other => panic!("no paper: {other}"),
+    };
+    let different = words.iter().collect::<BTreeSet<_>>().len();
+    Paper { sheet, a: answer.a, states: bytes(states), words: bytes(words), different }
+}
+
+pub fn tables(only: &Only) -> Vec<Table> {
+    vec![runs(only), lists(only)]
+}
+
+fn runs(only: &Only) -> Table {
+    let drafts = [
+        ("counter of 12 letters, 16 promises", long_run(12, 16)),
+        ("counter of 12 letters", counter(12)),
+        ("football, goalkeeper", football(Team::Goalkeeper)),
+    ];
+    let mut rows = Vec::new();
+    for (name, draft) in drafts {
+        let name = format!("run: {name}");
+        if only.wants(&name) {
+            let Paper { sheet, a, states, .. } = paper(&draft);
+            assert_eq!((check_run(&sheet, &states, a), check_run_bytes(&sheet, &states, a)), (0, 0));
+            rows.push(measure(
+                name,
+                vec![(states.len() / 4).to_string()],
+                || check_run(black_box(&sheet), &states, a),
+                || check_run_bytes(black_box(&sheet), &states, a),
+            ));
+        }
+    }
+    Table { title: "Checking runs", heads: &["states"], rows }
+}
+
+fn lists(only: &Only) -> Table {
+    let drafts = [
+        ("W15, the robots", w15()),
+        ("counter of 12 letters to a dead end", counter_to_dead_end(12)),
+        ("chain of promises", falling_promises(8)),
+        ("12 letters, every move", never(free(12))),
+        ("12 letters, nearly every move", never(dense(12))),
+        ("football, all injured", football(Team::AllInjured)),
+    ];
+    let mut rows = Vec::new();
+    for (name, draft) in drafts {
+        let name = format!("strikes: {name}");
+        if only.wants(&name) {
+            let Paper { sheet, states, words, different, .. } = paper(&draft);
+            assert_eq!((check_strikes(&sheet, &states, &words), check_strikes_bytes(&sheet, &states, &words)), (0, 0));
+            rows.push(measure(
+                name,
+                vec![(states.len() / 4).to_string(), different.to_string()],
+                || check_strikes(black_box(&sheet), &states, &words),
+                || check_strikes_bytes(black_box(&sheet), &states, &words),
+            ));
+        }
+    }
+    Table { title: "Checking strike lists", heads: &["states", "different words"], rows }
+}

@@ -1,0 +1,54 @@
+//! Reading a sheet.
+
+use crate::{measure, Only, Table};
+use plain::make::{counter, w15, Draft};
+use std::hint::black_box;
+
+/// A good sheet of exactly 4,096 bytes: step rules over 24 letters, then first rules that fill up the rest.
+fn longest_sheet() -> Vec<u8> {
+    let all: Vec<i8> = (-24..=24).filter(|&l| l != 0).collect();
+    let mut draft = Draft::new(24);
+    for _ in 0..41 {
+        draft.step(all.clone(), all.clone());
+    }
+    let mut left = 4096 - draft.bytes().len();
+    while left > 49 {
+        let take = if left < 98 { left - 49 } else { 49 };
+        draft.first(all[..take - 1].to_vec());
+        left -= take;
+    }
+    draft.first(all[..left - 1].to_vec());
+    let sheet = draft.bytes();
+    assert_eq!(sheet.len(), 4096);
+    sheet
+}
+
+/// A sheet with as many records as there can be, each as small as can be.
+fn most_records() -> Vec<u8> {
+    let mut draft = Draft::new(24);
+    draft.limits = vec![(true, 0, Vec::new()); 32];
+    draft.first = vec![vec![1]; 255];
+    draft.steps = vec![(vec![1], vec![1]); 255];
+    draft.promises = vec![1; 16];
+    draft.bytes()
+}
+
+pub fn table(only: &Only) -> Table {
+    let sheets = [
+        ("longest sheet", longest_sheet()),
+        ("most records", most_records()),
+        ("counter of 12 letters", counter(12).bytes()),
+        ("W15, the robots", w15().bytes()),
+    ];
+    let rows = sheets
+        .into_iter()
+        .map(|(name, sheet)| (format!("reading: {name}"), sheet))
+        .filter(|(name, _)| only.wants(name))
+        .map(|(name, sheet)| {
+            assert_eq!((compare::reader::read(&sheet), plain::sheet::read_number(&sheet)), (0, 0));
+            let length = vec![sheet.len().to_string()];
+            measure(name, length, || compare::reader::read(black_box(&sheet)), || plain::sheet::read_number(black_box(&sheet)))
+        })
+        .collect();
+    Table { title: "Reading", heads: &["bytes"], rows }
+}

@@ -1,0 +1,137 @@
+//! The judge: numbers and all four slices compared whole, and every paper handed to both checkers.
+
+use crate::{boundary_sheets, differs, Tally};
+use compare::checkers::{bytes, check_run, check_strikes};
+use plain::brute::Outcome;
+use plain::judge::{reachable, Answer};
+use plain::make::{self, damage, letters, random_draft, Rng, DAMAGES};
+use plain::source;
+
+/// The most reachable states of a random sheet that is judged to its end; of more, only how many there is room for matters.
+const MOST_STATES: usize = 400;
+
+/// Slices of numbers that are not zero.
+fn filled(rng: &mut Rng, lengths: [usize; 4]) -> [Vec<u32>; 4] {
+    lengths.map(|length| (0..length).map(|_| rng.number() as u32 | 1).collect())
+}
+
+type Judge = fn(&[u8], &mut [u32], &mut [u32], &mut [u32], &mut [u32]) -> Answer;
+
+/// Judges with slices like these.
+fn judged(judge: Judge, sheet: &[u8], lent: &[Vec<u32>; 4]) -> Outcome {
+    let [mut table, mut words, mut scratch, mut run] = lent.clone();
+    let answer = judge(sheet, &mut table, &mut words, &mut scratch, &mut run);
+    Outcome { answer, table, words, scratch, run }
+}
+
+/// Judges with both, compares them, and hands the paper to both checkers: the right one accepts it, the other does not.
+fn agree(tally: &mut Tally, sheet: &[u8], lent: &[Vec<u32>; 4]) -> bool {
+    let ours = judged(compare::judge::judge, sheet, lent);
+    let plain = judged(plain::judge::judge, sheet, lent);
+    if differs("judge", sheet, &ours, &plain) {
+        println!("  lent {:?}", lent.each_ref().map(Vec::len));
+        return false;
+    }
+    let Answer { answer, count, a, b } = ours.answer;
+    tally.count(answer);
+    let (count, b) = (count as usize, b as usize);
+    let (numbers, wanted) = match answer {
+        0 => {
+            let (run, livable) = (bytes(&ours.run[..b]), bytes(&ours.table[..count]));
+            ([check_run(sheet, &run, a), check_strikes(sheet, &livable, &bytes(&ours.words[..count]))], [0, 14])
+        }
+        13 => {
+            let (states, words) = (bytes(&ours.table[..count]), bytes(&ours.words[..count]));
+            ([check_run(sheet, &states, 0), check_strikes(sheet, &states, &words)], [14, 0])
+        }
+        _ => return true,
+    };
+    tally.count(14);
+    !differs("a checker on the judge's paper", sheet, &numbers, &wanted)
+}
+
+/// A length for what needs so much: none, one, one short, exactly, or more.
+fn length(rng: &mut Rng, need: usize) -> usize {
+    match rng.below(16) {
+        0 => 0,
+        1 => 1,
+        2 => need.saturating_sub(1),
+        3..=9 => need,
+        10 => need + 1,
+        _ => need + rng.below(20),
+    }
+}
+
+/// A good sheet, several times over with other slices.
+fn good(rng: &mut Rng, tally: &mut Tally, sheet: &[u8]) -> bool {
+    // Where there are too many states, any need below serves to show that.
+    let states = reachable(sheet, MOST_STATES).unwrap_or(rng.clone().below(MOST_STATES));
+    let mut free = [vec![0; states], vec![0; states], vec![0; 2 * states], vec![0; 16 * states]];
+    let [table, words, scratch, run] = &mut free;
+    let moments = plain::judge::judge(sheet, table, words, scratch, run).b as usize;
+    (0..4).all(|_| {
+        let lengths = [length(rng, states), length(rng, states), length(rng, 2 * states), length(rng, moments)];
+        let lent = filled(rng, lengths);
+        agree(tally, sheet, &lent)
+    })
+}
+
+/// Any sheet, with slices of a few numbers.
+fn any(rng: &mut Rng, tally: &mut Tally, sheet: &[u8]) -> bool {
+    let lengths = [0; 4].map(|_: usize| rng.below(20));
+    let lent = filled(rng, lengths);
+    agree(tally, sheet, &lent)
+}
+
+pub fn suite(rng: &mut Rng, rounds: usize) -> bool {
+    let mut tally = Tally::new("judge and checkers");
+    for round in 0..3 * rounds {
+        if round % 64 == 0 && !boundary_sheets(rng).iter().all(|sheet| any(rng, &mut tally, sheet)) {
+            return false;
+        }
+        let letters = letters(rng);
+        let sheet = random_draft(rng, letters).bytes();
+        if !good(rng, &mut tally, &sheet) {
+            return false;
+        }
+        for _ in 0..3 {
+            let way = rng.below(DAMAGES);
+            let damaged = damage(rng, &sheet, way);
+            if !any(rng, &mut tally, &damaged) {
+                return false;
+            }
+        }
+    }
+    tally.complete(&[0, 1, 2, 3, 4, 5, 6, 7, 8, 9, 10, 11, 12, 13, 14])
+}
+
+/// Sheets with many states, long runs and many rounds; those of source document 000; and 16,384 states, and more, with room for more.
+pub fn large(rng: &mut Rng, _: usize) -> bool {
+    let mut tally = Tally::new("large sheets");
+    let mut sheets: Vec<Vec<u8>> = source::families().into_iter().map(|family| family.sheet).collect();
+    let drafts = [
+        make::w15(),
+        make::exactly(20, 2),
+        make::free(8),
+        make::dense(8),
+        make::counter(9),
+        make::counter_to_dead_end(8),
+        make::falling_promises(4),
+        make::long_run(7, 16),
+    ];
+    sheets.extend(drafts.iter().map(|draft| draft.bytes()));
+    for sheet in &sheets {
+        let lent = filled(rng, [1100, 1100, 2200, 4096]);
+        if !agree(&mut tally, sheet, &lent) || !good(rng, &mut tally, sheet) {
+            return false;
+        }
+    }
+    // Exactly 16,384 states, then twice as many, for which there would be room.
+    for (draft, lengths) in [(make::counter(14), [16_385, 16_500, 40_000, 16_384]), (make::counter(15), [33_000, 33_000, 66_000, 40_000])] {
+        let lent = filled(rng, lengths);
+        if !agree(&mut tally, &draft.bytes(), &lent) {
+            return false;
+        }
+    }
+    tally.complete(&[0, 11, 12, 13, 14])
+}

@@ -1,0 +1,77 @@
+/*
+ * Naxxurbi: a judge for rule sheets, and two checkers for its papers.
+ *
+ * A rule sheet is a string of bytes (docs/GUIDE.md shows one). The calls take any bytes and any numbers: none has a precondition, each
+ * returns, and each is proved to keep the promise that is stated for it in crates/meaning/specs/Promises.antt.
+ *
+ * Numbers returned:
+ *    0        good sheet / paper accepted / the sheet can be kept
+ *    1 .. 10  the sheet's first fault, in reading order (the table below); nothing lent is changed
+ *   11        the judge only: more reachable states than there is room for
+ *   12        the judge only: the sheet can be kept, but the run slice is too short for the sample run; b says how long it must be
+ *   13        the judge only: the sheet cannot be kept
+ *   14        the checkers only: the paper is not accepted
+ *
+ *    1  below 8 or above 4,096 bytes        6  record missing or past the end
+ *    2  version not 1                       7  bad shape of a record
+ *    3  stated length differs               8  literal zero, or naming no letter of the sheet
+ *    4  number of letters not 1 to 24       9  a list's literals do not ascend
+ *    5  over 32 limits or 16 promises      10  bytes after the last record
+ *
+ * A state is a number below 2 to the power n, n the sheet's number of letters: letter k holds in it when the bit worth 2 to the power k - 1
+ * is set. What is read from outside comes as bytes, four to a number with the highest first; the judge's own slices are plain numbers.
+ *
+ * A pointer may be null where its length is 0. Slices must not overlap. Nothing is kept between calls, and no memory is allocated.
+ */
+#ifndef NAXXURBI_H
+#define NAXXURBI_H
+
+#include <stddef.h>
+#include <stdint.h>
+
+#ifdef __cplusplus
+extern "C" {
+#endif
+
+/* Reads a sheet: 0 if it is good, else the number of its first fault, 1 to 10. */
+uint32_t naxxurbi_read(const uint8_t *sheet, size_t sheet_len);
+
+/*
+ * Checks a proposed run: states_len / 4 states, each four bytes with the highest first, read from the first to the last and then from
+ * state a on again, for ever. 0 exactly if that endless run obeys the sheet (and a is the number of a state on the paper, counted from
+ * 0); else 14, also where states_len is not a multiple of 4; a bad sheet's 1 to 10 come first. Changes nothing.
+ */
+uint32_t naxxurbi_check_run(const uint8_t *sheet, size_t sheet_len, const uint8_t *states, size_t states_len, uint32_t a);
+
+/*
+ * Checks a proposed strike list: states and words, each four bytes with the highest first, as many words as states. If the answer is 0,
+ * no endless run obeys the sheet. Every strike list of the judge is accepted. Else 14; a bad sheet's 1 to 10 come first. Changes nothing.
+ */
+uint32_t naxxurbi_check_strikes(const uint8_t *sheet, size_t sheet_len, const uint8_t *states, size_t states_len, const uint8_t *words,
+                                size_t words_len);
+
+/*
+ * Judges a sheet: is there an endless run that obeys it?
+ *
+ * The caller lends four slices of numbers; what they hold beforehand does not matter. Let C be the least of table_len, words_len, half of
+ * scratch_len (rounded down) and 16,384: C is how many reachable states there is room for. Lengths count numbers, not bytes.
+ *
+ * out[0] is the answer, out[1] the count, out[2] a, out[3] b; those not named here are 0. All four are written on every answer.
+ *
+ *    0        can be kept. count: how many states occur in some obeying run; table: those states, ascending, then zeros. run: the first b
+ *             places hold a sample run, which goes on from its last state to state a, counted from 0; the rest of run is unchanged.
+ *             words and scratch: zeros. The run, as bytes, is accepted by naxxurbi_check_run with this a.
+ *    1 .. 10  the sheet's first fault; the four slices are unchanged
+ *   11        more than C states are reachable. table, words and scratch: zeros; run: unchanged. Lend more, up to 16,384 states.
+ *   12        can be kept, but run_len is below b, which is given. table, words and scratch: zeros; run: unchanged. Lend b and call again.
+ *   13        cannot be kept. count: how many states are reachable; table and words: a strike list of so many entries, then zeros.
+ *             scratch: zeros; run: unchanged. The list, as bytes, is accepted by naxxurbi_check_strikes.
+ */
+void naxxurbi_judge(const uint8_t *sheet, size_t sheet_len, uint32_t *table, size_t table_len, uint32_t *words, size_t words_len,
+                    uint32_t *scratch, size_t scratch_len, uint32_t *run, size_t run_len, uint32_t out[4]);
+
+#ifdef __cplusplus
+}
+#endif
+
+#endif
