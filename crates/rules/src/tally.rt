@@ -3,8 +3,8 @@ ghost use mathlib.Core.Path.{_≡_};
 ghost use lib.Count.{ones};
 ghost use Rattle.rules.specs.Book.{countOf, someOf, allOf};
 
-// How many bits of x are set.
-fn ones_in(x: u32) -> u32
+// How many bits of x are set, counted one by one.
+pub fn ones_in(x: u32) -> u32
     ensures { λ r. ⌜ r ≡ ones x ⌝ }
 {
     let mut left = x;
