@@ -22,6 +22,7 @@
  * is set. What is read from outside comes as bytes, four to a number with the highest first; the judge's own slices are plain numbers.
  *
  * A pointer may be null where its length is 0. Slices must not overlap. Nothing is kept between calls, and no memory is allocated.
+ * Stack, measured by host/c/stack.c: 541 KB for the judge, 12 KB for the run checker, 15 KB for the strike checker.
  */
 #ifndef NAXXURBI_H
 #define NAXXURBI_H
