@@ -58,22 +58,20 @@ fn turn<T>(calls: u32, call: &mut impl FnMut() -> T) -> f64 {
 }
 
 /// How many calls make a turn of about a millisecond: short enough to fall between other work on the machine now and then.
-fn calls<T>(call: &mut impl FnMut() -> T) -> u32 {
-    let one = turn(1, call).min(turn(1, call)).max(20.0);
-    (1e6 / one).clamp(1.0, 50_000.0) as u32
+fn calls(nanoseconds: f64) -> u32 {
+    (1e6 / nanoseconds.max(20.0)).clamp(1.0, 50_000.0) as u32
 }
 
 /// The least times of one call of each, taken in a hundred turns, or fewer where they take long.
 pub fn measure<T>(name: String, facts: Vec<String>, mut ours: impl FnMut() -> T, mut plain: impl FnMut() -> T) -> Row {
     let start = Instant::now();
-    let (our_calls, plain_calls) = (calls(&mut ours), calls(&mut plain));
-    let mut row = Row { name, facts, ours: f64::INFINITY, plain: f64::INFINITY };
-    for number in 1..=100 {
-        row.ours = row.ours.min(turn(our_calls, &mut ours));
-        row.plain = row.plain.min(turn(plain_calls, &mut plain));
-        if number >= 3 && start.elapsed() > Duration::from_secs(4) {
+    let mut row = Row { name, facts, ours: turn(1, &mut ours), plain: turn(1, &mut plain) };
+    for _ in 0..100 {
+        if start.elapsed() > Duration::from_secs(4) {
             break;
         }
+        row.ours = row.ours.min(turn(calls(row.ours), &mut ours));
+        row.plain = row.plain.min(turn(calls(row.plain), &mut plain));
     }
     eprintln!("{}: {} against {}", row.name, time(row.ours), time(row.plain));
     row
