@@ -3,11 +3,11 @@ use mathlib.Core.Path.{_≡_, refl, sym, ap, subst, _∙_}
 use mathlib.Core.Bool.{Bool, true, false, _&&_}
 use mathlib.Core.Logic.{_⊎_, inl, inr}
 use mathlib.Core.List.{List}
-use Prim.Native.Nat.{ℕ, suc, _+_, _*_, _≤_, _<_}
+use Prim.Native.Nat.{ℕ, suc, _+_, _-_, _*_, _≤_, _<_}
 use native.Mathlib.Decide.{decLt, decLe}
 use native.Mathlib.Omega.{arith}
-use borrow.Author.Tests.{ltb-true, ltb-false}
-use lib.Dec.{ltb}
+use borrow.Author.Tests.{ltb-true, ltb-false, eqb-true, eqb-false}
+use lib.Dec.{ltb, eqb}
 use lib.ListN.{getD}
 use Rattle.meaning.specs.System.{System, Livable}
 use Rattle.meaning.specs.Sample.{Distance, Passes, Best}
@@ -16,7 +16,7 @@ use Rattle.meaning.proofs.SampleRun.{kept-of-met, next-aim-on, next-aim-back}
 use Rattle.meaning.proofs.Exists.{livable-next}
 use Rattle.distances.specs.Far.{far}
 use Rattle.rules.specs.Book.{bookSystem, bookKept, clausesOk, NextClauses}
-use Rattle.steer.specs.Walk.{aimsOf, Laid, Scanned, passesAt, rowAt, Picked}
+use Rattle.steer.specs.Walk.{aimsOf, Laid, Scanned, passesAt, rowAt, Picked, FirstAt}
 use Rattle.steer.proofs.Books.{clash, kept-is, kept-true, move-is, move-steps, livable-lawful}
 use Rattle.steer.proofs.Places.{places-rise}
 
@@ -103,6 +103,35 @@ scanned-not ok d j best least s t = record { low = low; first = s .first; here =
 pub picked-all : {ok : ℕ → Bool} {d : ℕ → ℕ} {k best least : ℕ} (j : ℕ) → j ≡ k → Scanned ok d j best least → Picked ok d k best
 picked-all {ok} {d} {k} {best} {least} j e s = record { least = least; scanned = subst (λ (y : ℕ). Scanned ok d y best least) e s }
 
+-- Where no place that passes has a lesser number than `wanted`, the first that has just that number is picked.
+pub picked-at : {ok : ℕ → Bool} {d : ℕ → ℕ} {k wanted r : ℕ} → ((x : ℕ) → x < k → ok x ≡ true → wanted ≤ d x) → FirstAt ok d k wanted r → r < k
+    → Picked ok d k r
+picked-at {ok} {d} {k} {wanted} {r} low at h = record {
+  least = wanted;
+  scanned = record { low = low; first = first; here = inr (h, hit .1, hit .0) };
+}
+  where
+    parts : (b c : Bool) → (b && c) ≡ true → (b ≡ true) × (c ≡ true)
+    parts true c q = (refl, q)
+    parts false c q = let z : _≡_ {A = ℕ} 0 1 = cc in absurd (omega arith)
+
+    hit : (d r ≡ wanted) × (ok r ≡ true)
+    hit = let w = parts (eqb (d r) wanted) (ok r) (at .here h) in (eqb-true (d r) wanted (w .0), w .1)
+
+    apart : (b c : Bool) → (b && c) ≡ false → c ≡ true → b ≡ false
+    apart true c q o = let z : _≡_ {A = ℕ} 0 1 = cc in absurd (omega arith)
+    apart false c q o = refl
+
+    first : (x : ℕ) → x < r → ok x ≡ true → wanted < d x
+    first x l o = by (decLt wanted (d x))
+      where
+        other : d x ≡ wanted → ⊥
+        other = eqb-false (d x) wanted (apart (eqb (d x) wanted) (ok x) (at .earlier x l) o)
+
+        by : Dec (wanted < d x) → wanted < d x
+        by (yes q) = q
+        by (no q) = absurd (other (omega (arith, low x (omega arith) o)))
+
 -- ---- the best next state
 
 module _ {book table dist : List ℕ} {k : ℕ} (laid : Laid book table dist k) (aim s : ℕ) (aimed : aim < aimsOf (bookSystem book))
@@ -113,6 +142,18 @@ module _ {book table dist : List ℕ} {k : ℕ} (laid : Laid book table dist k) 
   next-passes u m l =
       let w = laid .livables .whole u l in
       (w .0, w .1, w .2, ap (clausesOk clauses count) (w .2) ∙ next .says u ∙ move-steps book s u m)
+
+  -- No next state is nearer than one less than the state's own distance: by way of it the state would be nearer.
+  pub next-not-nearer : (place : ℕ) → place < k → getD table place 0 ≡ s → (x : ℕ) → x < k → passesAt clauses count table x ≡ true
+      → rowAt dist (aim * k) place - 1 ≤ rowAt dist (aim * k) x
+  next-not-nearer place inside same x h ok =
+      let here : Livable (bookSystem book) (getD table x 0) = laid .livables .sound x h in
+      let own = subst (Distance (bookSystem book) aim (rowAt dist (aim * k) place)) same (laid .rowed .distance aim place aimed inside) in
+      let move = move-is book s (getD table x 0) (livable-lawful book s alive) (livable-lawful book (getD table x 0) here)
+      (sym (next .says (getD table x 0)) ∙ ok) in
+      let fewest : rowAt dist (aim * k) place ≤ suc (rowAt dist (aim * k) x)
+      = own .fewest (suc (rowAt dist (aim * k) x)) (alive, (getD table x 0, move, laid .rowed .distance aim x aimed h .way)) in
+      omega arith
 
   -- What the scan picks is the best next state.
   pub best-picked : (r : ℕ) → Picked (passesAt clauses count table) (rowAt dist (aim * k)) k r

@@ -1,15 +1,16 @@
 -- What the parts of steering promise one another: the livable states place by place, the rows of distances, one step of the sample run, and
 -- the moment at which it is cut. Document 01, "The judge's two papers", first paragraph. Assumes nothing.
 use mathlib.Core.Path.{_≡_}
-use mathlib.Core.Bool.{Bool, true, false}
+use mathlib.Core.Bool.{Bool, true, false, _&&_}
 use mathlib.Core.Logic.{_⊎_}
 use mathlib.Core.List.{List}
 use Prim.Native.Nat.{ℕ, zero, suc, _+_, _-_, _*_, _/_, _%_, _≤_, _<_}
+use lib.Dec.{eqb}
 use lib.ListN.{length, getD, take}
 use Rattle.meaning.specs.System.{System, Livable, Lists}
 use Rattle.meaning.specs.Sample.{Distance, Passes, Best, Sample}
 use Rattle.distances.specs.Far.{far}
-use Rattle.rules.specs.Book.{Shaped, bookSystem, bookFirst, clausesOk}
+use Rattle.rules.specs.Book.{Shaped, bookSystem, bookFirst, clausesOk, gatherSize}
 use Rattle.steer.specs.Steered.{Steered}
 
 -- ---- what `steer` asks and tells
@@ -104,6 +105,21 @@ rowAt dist from x = getD dist (from + x) 0
 pub record Picked (ok : ℕ → Bool) (d : ℕ → ℕ) (k best : ℕ) : Type 0 where
   pub least : ℕ
   pub scanned : Scanned ok d k best least
+
+-- r is the first of the first k places that pass the test at just that number, or k where there is none
+pub record FirstAt (ok : ℕ → Bool) (d : ℕ → ℕ) (k wanted r : ℕ) : Type 0 where
+  pub inside : r ≤ k
+  pub earlier : (x : ℕ) → x < r → (eqb (d x) wanted && ok x) ≡ false
+  pub here : r < k → (eqb (d r) wanted && ok r) ≡ true
+
+-- what picking a next state of the state at `place` stands on: no next state is nearer than one less than its own distance
+pub record Pickable (table dist clauses : List ℕ) (count from k place : ℕ) : Type 0 where
+  pub in-table : k ≤ length table
+  pub in-dist : from + k ≤ length dist
+  pub long : length clauses ≡ gatherSize
+  pub few : count ≤ 255
+  pub inside : place < k
+  pub low : (x : ℕ) → x < k → passesAt clauses count table x ≡ true → rowAt dist from place - 1 ≤ rowAt dist from x
 
 -- from this moment's place and aim to the next moment's
 pub record Stepped (S : System) (table : List ℕ) (k place aim place′ aim′ : ℕ) : Type 0 where

@@ -3,13 +3,13 @@
 
 ghost use mathlib.Core.Path.{_≡_};
 ghost use mathlib.Core.Bool.{_&&_};
-ghost use Prim.Native.Nat.{_+_, _*_, _^_, _≤_, _<_};
+ghost use Prim.Native.Nat.{_+_, _-_, _*_, _^_, _≤_, _<_};
 ghost use lib.Bits.{bitOr};
 ghost use lib.Dec.{ltb, eqb};
 ghost use lib.ListN.{length};
 ghost use Rattle.meaning.specs.Sample.{Passes};
 ghost use Rattle.rules.specs.Book.{Shaped, bookSystem, clausesOk, promisesOf, gatherSize};
-ghost use Rattle.steer.specs.Walk.{Ready, Told, aimsOf, Zero, Wiped, Ground, Rows, Laid, FirstPlace, passesAt, rowAt, Picked, Stepped};
+ghost use Rattle.steer.specs.Walk.{Ready, Told, aimsOf, Zero, Wiped, Ground, Rows, Laid, FirstPlace, passesAt, rowAt, Picked, Stepped, FirstAt, Pickable};
 ghost use Rattle.steer.specs.Walk.{bit, Ended, Known, BackFrom, Written};
 
 // a, the moment that the run goes back to, and b, how many states it has.
@@ -188,6 +188,75 @@ fn nearest(
     best
 }
 
+// Whether a state at distance d is a next state at distance `wanted`.
+fn stands_at(d: u16, wanted: u16, clauses: &[u32], count: usize, t: u32) -> bool
+    requires { ⌜ (length (now clauses) ≡ gatherSize) × (count ≤ 255) ⌝ }
+    ensures { λ r. ⌜ r ≡ (eqb d wanted && clausesOk (now (clauses .entry)) count t) ⌝ }
+{
+    if d == wanted {
+        rules::fits(clauses, count, t)
+    } else {
+        false
+    }
+}
+
+// The first next state at distance `wanted`, or k.
+fn first_at(
+    table: &[u32],
+    dist: &[u16],
+    clauses: &[u32],
+    count: usize,
+    from: usize,
+    k: usize,
+    wanted: u16,
+) -> usize
+    requires { ⌜ (k ≤ length (now table)) × (from + k ≤ length (now dist)) × (length (now clauses) ≡ gatherSize) × (count ≤ 255) ⌝ }
+    ensures { λ r. ⌜ FirstAt (passesAt (now (clauses .entry)) count (now (table .entry))) (rowAt (now (dist .entry)) from) k wanted r ⌝ }
+{
+    let mut x: usize = 0;
+    while x < k {
+        let at = from + x;
+        let d = dist[at];
+        let t = table[x];
+        if stands_at(d, wanted, clauses, count, t) {
+            return x;
+        }
+        x += 1;
+    }
+    x
+}
+
+// One less, but not below 0.
+fn one_less(d: u16) -> u16
+    ensures { λ r. ⌜ r ≡ d - 1 ⌝ }
+{
+    if d > 0 { d - 1 } else { 0 }
+}
+
+// The first of the nearest next states of the state at `place`. No next state is nearer than one less than the state's own distance; where
+// that distance is not 0, one is as near, so that only places at just that distance are tested.
+fn pick(
+    table: &[u32],
+    dist: &[u16],
+    clauses: &[u32],
+    count: usize,
+    from: usize,
+    k: usize,
+    place: usize,
+) -> usize
+    requires { ⌜ Pickable (now table) (now dist) (now clauses) count from k place ⌝ }
+    ensures { λ r. ⌜ Picked (passesAt (now (clauses .entry)) count (now (table .entry))) (rowAt (now (dist .entry)) from) k r ⌝ }
+{
+    let at = from + place;
+    let own = dist[at];
+    let wanted = one_less(own);
+    let hit = first_at(table, dist, clauses, count, from, k, wanted);
+    if hit < k {
+        return hit;
+    }
+    nearest(table, dist, clauses, count, from, k)
+}
+
 // From one moment to the next.
 fn step(book: &[u32], table: &[u32], dist: &[u16], k: usize, place: usize, aim: usize) -> Moment
     requires { ⌜ Laid (now book) (now table) (now dist) k × (place < k) × (aim < aimsOf (bookSystem (now book))) ⌝ }
@@ -198,7 +267,7 @@ fn step(book: &[u32], table: &[u32], dist: &[u16], k: usize, place: usize, aim: 
     let mut clauses = [0u32; 510];
     let count = rules::gather_next(book, s, &mut clauses);
     let from = next * k;
-    let best = nearest(table, dist, &clauses, count, from, k);
+    let best = pick(table, dist, &clauses, count, from, k, place);
     Moment {
         place: best,
         aim: next,

@@ -1,9 +1,10 @@
 -- `steer::step` meets its contract: the aim passes, and what the scan picks is the best next state. Assumes nothing.
+use mathlib.Core.Path.{refl}
 use native.Mathlib.Omega.{arith}
 use borrow.Author.Needs.{needs}
 use lib.ListN.{getD}
 use Rattle.steer.proofs.Distances.{row-within}
-use Rattle.steer.proofs.Nexts.{best-picked}
+use Rattle.steer.proofs.Nexts.{best-picked, next-not-nearer}
 use Rattle.steer.proofs.step.Statement.{statement}
 use Rattle.steer.proofs.step.Tie as tie
 
@@ -28,19 +29,24 @@ mul-from c =
     let start = at-passed .before .before .before .before .before in
     omega (arith, row-within (start .pre .0) (at-passed .passed .result) (at-passed .passed .ensures .1))
 
-slice-aggregate-nearest : tie.Need-slice-aggregate-nearest
-slice-aggregate-nearest c = search needs
+slice-aggregate-pick : tie.Need-slice-aggregate-pick
+slice-aggregate-pick c = search needs
 
-nearest-requires : tie.Need-nearest-requires
-nearest-requires c κs =
+pick-requires : tie.Need-pick-requires
+pick-requires c κs =
     let at-gather-next = c .before .before in
     let at-passed = at-gather-next .before .before in
-    let start = at-passed .before .before .before .before .before in (
-      start .pre .0 .in-table,
-      row-within (start .pre .0) (at-passed .passed .result) (at-passed .passed .ensures .1),
-      at-gather-next .gather-next .ensures .1,
-      at-gather-next .gather-next .ensures .0 .gathered .few,
-    )
+    let start = at-passed .before .before .before .before .before in
+    record {
+      in-table = start .pre .0 .in-table;
+      in-dist = row-within (start .pre .0) (at-passed .passed .result) (at-passed .passed .ensures .1);
+      long = at-gather-next .gather-next .ensures .1;
+      few = at-gather-next .gather-next .ensures .0 .gathered .few;
+      inside = start .pre .1;
+      low = next-not-nearer (start .pre .0) (at-passed .passed .result) (getD (start .args .table .now) (start .args .place) 0) (at-passed .passed .ensures .1)
+          (start .pre .0 .livables .sound (start .args .place) (start .pre .1)) (at-gather-next .gather-next .last .1 .1 .0)
+          (at-gather-next .gather-next .result) (at-gather-next .gather-next .ensures .0) (start .args .place) (start .pre .1) refl;
+    }
 
 returns : tie.Need-returns
 returns c =
@@ -49,7 +55,7 @@ returns c =
     let start = at-passed .before .before .before .before .before in
     let best = best-picked (start .pre .0) (at-passed .passed .result) (getD (start .args .table .now) (start .args .place) 0) (at-passed .passed .ensures .1)
     (start .pre .0 .livables .sound (start .args .place) (start .pre .1)) (at-gather-next .gather-next .last .1 .1 .0) (at-gather-next .gather-next .result)
-    (at-gather-next .gather-next .ensures .0) (c .nearest .result) (c .nearest .ensures) in
+    (at-gather-next .gather-next .ensures .0) (c .pick .result) (c .pick .ensures) in
     record { passes = at-passed .passed .ensures .0; aimed = at-passed .passed .ensures .1; best = best .1; inside = best .0 }
 
 pub step-spec : {M : Type 1} → statement M
@@ -62,6 +68,6 @@ step-spec =
     slice-aggregate-gather-next
     gather-next-requires
     mul-from
-    slice-aggregate-nearest
-    nearest-requires
+    slice-aggregate-pick
+    pick-requires
     returns)

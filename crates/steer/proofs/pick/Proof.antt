@@ -1,0 +1,51 @@
+-- `steer::pick` meets its contract: the first next state at one less than the state's own distance is the first of the nearest; where there
+-- is none, all places are scanned. Assumes nothing.
+use mathlib.Core.Path.{sym, subst}
+use Prim.Native.Nat.{ℕ, _≤_}
+use borrow.Author.Needs.{needs}
+use Rattle.steer.specs.Walk.{rowAt}
+use Rattle.steer.proofs.Nexts.{picked-at}
+use Rattle.steer.proofs.pick.Statement.{statement}
+use Rattle.steer.proofs.pick.Tie as tie
+
+add-at : tie.Need-add-at
+add-at c = search needs
+
+mul-own : tie.Need-mul-own
+mul-own c = search needs
+
+shared-slice-read-own : tie.Need-shared-slice-read-own
+shared-slice-read-own c = search needs
+
+one-less-requires : tie.Need-one-less-requires
+one-less-requires c κs = search needs
+
+first-at-requires : tie.Need-first-at-requires
+first-at-requires c κs = search needs
+
+returns : tie.Need-returns
+returns c =
+    let start = c .before .before .before .before .before .before .before in
+    let wanted = c .before .before .one-less in
+    picked-at
+    (λ x h ok. subst (λ (w : ℕ). w ≤ rowAt (start .args .dist .now) (start .args .from) x) (sym (wanted .ensures)) (start .pre .low x h ok))
+    (c .before .first-at .ensures) (c .if1 .taken)
+
+nearest-requires : tie.Need-nearest-requires
+nearest-requires c κs = search needs
+
+returns-2 : tie.Need-returns-2
+returns-2 c = search needs
+
+pub pick-spec : {M : Type 1} → statement M
+pick-spec =
+    tie.close
+    (tie.spec
+    add-at
+    mul-own
+    shared-slice-read-own
+    one-less-requires
+    first-at-requires
+    returns
+    nearest-requires
+    returns-2)
