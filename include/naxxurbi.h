@@ -22,7 +22,18 @@
  * is set. What is read from outside comes as bytes, four to a number with the highest first; the judge's own slices are plain numbers.
  *
  * A pointer may be null where its length is 0. Slices must not overlap. Nothing is kept between calls, and no memory is allocated.
- * Stack, measured by host/c/stack.c: 541 KB for the judge, 12 KB for the run checker, 15 KB for the strike checker.
+ *
+ * Link libfirmware.a (both checkers), libjudge.a (naxxurbi_judge) or libreader.a (naxxurbi_read); each stands alone.
+ *
+ * Stack, measured by host/c/stack.c: 538 KB for the judge, 7.1 KB for the run checker, 12 KB for the strike checker.
+ *
+ * Time. The run checker looks at each state once for each rule and promise. The strike checker counts, for the first states and for each
+ * entry that asks for something new, the states that may come next, and stops once there are more than the list could hold. It settles
+ * the letters one at a time and drops what a limit or a rule rules out; on a sheet made so that this shows only at the last letters, that
+ * is a walk of 2 to the power n steps for each such entry. Measured (docs/BENCHMARK.md, "late clash"): one entry of a sheet with 24
+ * letters, 0.23 s under 4 step rules and 3.3 s under 255; each letter less halves it. Firmware that takes papers from strangers should
+ * bound the letters or the entries that it accepts. Repeated states are judged exactly, and can cost as many comparisons as the cube of
+ * the list's length.
  */
 #ifndef NAXXURBI_H
 #define NAXXURBI_H
@@ -63,8 +74,10 @@ uint32_t naxxurbi_check_strikes(const uint8_t *sheet, size_t sheet_len, const ui
  *             places hold a sample run, which goes on from its last state to state a, counted from 0; the rest of run is unchanged.
  *             words and scratch: zeros. The run, as bytes, is accepted by naxxurbi_check_run with this a.
  *    1 .. 10  the sheet's first fault; the four slices are unchanged
- *   11        more than C states are reachable. table, words and scratch: zeros; run: unchanged. Lend more, up to 16,384 states.
- *   12        can be kept, but run_len is below b, which is given. table, words and scratch: zeros; run: unchanged. Lend b and call again.
+ *   11        more than C states are reachable. table, words and scratch: zeros; run: unchanged. Lend more, up to 16,384 states (table and
+ *             words 16,384, scratch 32,768).
+ *   12        can be kept, but run_len is below b, which is given and never above 262,144. table, words and scratch: zeros; run:
+ *             unchanged. Lend b and call again.
  *   13        cannot be kept. count: how many states are reachable; table and words: a strike list of so many entries, then zeros.
  *             scratch: zeros; run: unchanged. The list, as bytes, is accepted by naxxurbi_check_strikes.
  */

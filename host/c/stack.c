@@ -1,6 +1,6 @@
 /*
- * How much stack each call takes: prints it, and fails if the judge's reaches 1 MiB. Each call runs on a stack of its own that was painted
- * beforehand; what is no longer paint was used.
+ * How much stack each call takes: prints it, and fails if the judge's reaches 1 MiB or a checker's 16 KiB. Each call runs on a stack of its
+ * own that was painted beforehand; what is no longer paint was used, and what a call of nothing uses is taken off.
  */
 #define _DEFAULT_SOURCE
 #include <pthread.h>
@@ -16,6 +16,10 @@ enum { SIZE = 4 << 20, PAINT = 0xA5, STATES = 16384, RUN = 300000 };
 static uint32_t table[STATES], words[STATES], scratch[2 * STATES], run[RUN], out[4];
 static uint8_t sheet[4096], paper[4 * STATES], marks[4 * STATES];
 static size_t sheet_len;
+
+static void *nothing(void *unused) {
+    return unused;
+}
 
 static void *judge(void *unused) {
     (void)unused;
@@ -35,7 +39,7 @@ static void *check_strikes(void *unused) {
     return NULL;
 }
 
-/* The bytes of stack that a call used, with the little that starting a thread uses. */
+/* The bytes of stack that a call used, with what starting a thread uses. */
 static size_t used(void *(*call)(void *)) {
     uint8_t *stack = mmap(NULL, SIZE, PROT_READ | PROT_WRITE, MAP_PRIVATE | MAP_ANONYMOUS, -1, 0);
     pthread_attr_t attributes;
@@ -71,16 +75,27 @@ static void make(uint8_t letters, uint8_t promises) {
     }
 }
 
+/* One line for each call: what it used, and whether that is within its bound. */
+static int within(const char *name, void *(*call)(void *), size_t bound) {
+    size_t bytes = used(call) - used(nothing);
+    printf("%-52s %7zu bytes of stack\n", name, bytes);
+    return bytes < bound;
+}
+
 int main(void) {
-    size_t small, large, runs, strikes;
+    enum { JUDGE = 1 << 20, CHECKER = 16 << 10, TESTS = 7 };
+    int passed = 0;
     make(4, 1);
-    small = used(judge);
+    passed += within("judge, 16 states", judge, JUDGE);
     make(14, 16);
-    large = used(judge);
+    passed += within("judge, 16,384 states and 16 promises", judge, JUDGE);
+    make(24, 0);
+    passed += within("judge, 24 letters", judge, JUDGE);
+    passed += within("run checker, 24 letters", check_run, CHECKER);
+    passed += within("strike checker, 24 letters", check_strikes, CHECKER);
     make(4, 0);
-    runs = used(check_run);
-    strikes = used(check_strikes);
-    printf("stack in bytes: judge %zu (few states) to %zu (16,384 states, 16 promises); run checker %zu; strike checker %zu\n", small, large, runs, strikes);
-    printf("%d passed, %d failed\n", large < (1u << 20), !(large < (1u << 20)));
-    return large < (1u << 20) ? 0 : 1;
+    passed += within("run checker, 4 letters", check_run, CHECKER);
+    passed += within("strike checker, 4 letters", check_strikes, CHECKER);
+    printf("%d passed, %d failed\n", passed, TESTS - passed);
+    return passed == TESTS ? 0 : 1;
 }

@@ -7,7 +7,7 @@
 //                                   const uint8_t *words, size_t words_len);
 ghost use Rattle.meaning.specs.Promises.{RunBytesChecked, StrikesBytesChecked};
 
-// Whether the run of these states, read on from its last state back to state a, obeys the sheet.
+// 0 exactly if the run of these states, read on from its last state back to place a, obeys the sheet; 1 to 10 for a bad sheet; else 14.
 #[no_mangle]
 pub extern "C" fn naxxurbi_check_run(sheet: &[u8], states: &[u8], a: u32) -> u32
     ensures { λ r. ⌜ RunBytesChecked (now (sheet .entry)) (now (states .entry)) a r ⌝ }
@@ -15,7 +15,7 @@ pub extern "C" fn naxxurbi_check_run(sheet: &[u8], states: &[u8], a: u32) -> u32
     runcheck::check_run_bytes(sheet, states, a)
 }
 
-// Whether this strike list shows that no run obeys the sheet.
+// 0 exactly if this strike list is accepted, and then no run obeys the sheet; 1 to 10 for a bad sheet; else 14.
 #[no_mangle]
 pub extern "C" fn naxxurbi_check_strikes(sheet: &[u8], states: &[u8], words: &[u8]) -> u32
     ensures { λ r. ⌜ StrikesBytesChecked (now (sheet .entry)) (now (states .entry)) (now (words .entry)) r ⌝ }

@@ -162,7 +162,11 @@ fn judge_book(
     judge_reached(book, table, words, scratch, run, r)
 }
 
-// Judges a sheet.
+// Judges a sheet: is there an endless run that obeys it? Any bytes and any slices may be handed in. There is room for C states, the least of
+// the table's length, the words' length, half the scratch length and 16,384. The answer is 0 (can be kept: the table lists the K livable
+// states, run has the sample run of b states, which goes back to place a), 13 (cannot be kept: table and words have the strike list of all R
+// states), 11 (R is above C), 12 (the run needs b places), or 1 to 10 (the sheet's first fault; nothing lent is changed). What each slice
+// then holds is `outcome` of the meaning.
 pub fn judge(
     sheet: &[u8],
     table: &mut [u32],
@@ -183,7 +187,7 @@ pub fn judge(
     judge_book(&book, table, words, scratch, run)
 }
 
-// The same for callers in C: the four numbers go into `out`.
+// The same for callers in C: answer, count, a and b go into `out`, in this order, whatever the answer.
 #[no_mangle]
 pub extern "C" fn naxxurbi_judge(
     sheet: &[u8],

@@ -185,8 +185,8 @@ pub record Judged (sheet : List ℕ) (lent : Lent) (o : Outcome) : Type 0 where
   pub found : Found sheet lent finding
   pub returned : o ≡ outcome lent finding
 
--- The judge's C form, which returns nothing else: the same, its four numbers in `out`, in the order answer, count, a, b. `out` is the returned value and no lent slice:
--- what stood in it before plays no part, and it is written on every answer, 1 to 10 too.
+-- The judge's C form, which returns nothing else: the same, its four numbers in `out`, in the order answer, count, a, b. `out` is the
+-- returned value and no lent slice: what stood in it before plays no part, and it is written on every answer, 1 to 10 too.
 pub record JudgedOut (sheet : List ℕ) (lent : Lent) (out : List ℕ) (leaves : Lent) : Type 0 where
   pub judged : Outcome
   pub promise : Judged sheet lent judged

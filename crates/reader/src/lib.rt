@@ -39,6 +39,7 @@ pub enum Kind {
     Promise,
 }
 
+// What reading a sheet says: it is good, or what its first fault is.
 pub enum Answer {
     Good,
     Bad(Why),

@@ -4,6 +4,7 @@ use libc::STDOUT_FILENO;
 
 mod built;
 
+// Prints a case's name and the reader's number for its sheet.
 pub fn show(name: &[u8], sheet: &[u8]) {
     io::write_all(STDOUT_FILENO, name);
     io::write_all(STDOUT_FILENO, b": ");

@@ -13,14 +13,15 @@ ghost use Rattle.papers.specs.Paper.{paper, countOf, Says};
 ghost use Rattle.rules.specs.Book.{Shaped, bookSystem};
 ghost use Rattle.runcheck.specs.Run.{MovesOn, KeptFrom, AllKept, PaperChecked};
 
-// The states as numbers.
+// Checks a run: these states, read to the last and then on from place a, for ever. 0 exactly if it obeys the sheet, 1 to 10 for a bad
+// sheet, else 14.
 pub fn check_run(sheet: &[u8], states: &[u32], a: u32) -> u32
     ensures { λ r. ⌜ RunChecked (now (sheet .entry)) (now (states .entry)) a r ⌝ }
 {
     check(sheet, &sheet[..0], states, a)
 }
 
-// The states as bytes, four each, big-endian.
+// The same with the states as bytes, four each, big-endian; a length that is no multiple of four gets 14.
 pub fn check_run_bytes(sheet: &[u8], states: &[u8], a: u32) -> u32
     ensures { λ r. ⌜ RunBytesChecked (now (sheet .entry)) (now (states .entry)) a r ⌝ }
 {

@@ -732,6 +732,28 @@ pub fn long_run(letters: u8, promises: u8) -> Draft {
     draft
 }
 
+/// The hardest kind of sheet for a walk that settles letters from the highest:
+/// the one first state has no next state, because the two lowest letters are at
+/// odds whatever the others do, and every branch is walked down to them.
+/// `rules` more step rules, which every state asks for and meets late, are
+/// tested on the way.
+pub fn late_clash(letters: u8, rules: u8) -> Draft {
+    let mut draft = Draft::new(letters);
+    for letter in 1..=letters as i8 {
+        draft.first([-letter]);
+    }
+    for (one, two) in [(1, 2), (1, -2), (-1, 2), (-1, -2)] {
+        let mut clash = [one, two];
+        clash.sort();
+        draft.step([], clash);
+    }
+    for rule in 0..rules {
+        let high = 3 + (rule % (letters - 2)) as i8;
+        draft.step([], [-high, 1, 2]);
+    }
+    draft
+}
+
 /// Nearly every move, yet nearly every state asks for something else: each
 /// letter asks for one of all the others, some of them not holding.
 pub fn dense(letters: u8) -> Draft {

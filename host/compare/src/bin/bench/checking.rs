@@ -4,7 +4,7 @@ use crate::{measure, Only, Table};
 use compare::checkers::{bytes, check_run, check_strikes};
 use plain::check::{check_run_bytes, check_strikes_bytes};
 use plain::judge::judge;
-use plain::make::{counter, counter_to_dead_end, dense, falling_promises, free, long_run, never, w15, Draft};
+use plain::make::{counter, counter_to_dead_end, dense, falling_promises, free, late_clash, long_run, never, w15, Draft};
 use plain::source::{football, Team};
 use std::collections::BTreeSet;
 use std::hint::black_box;
@@ -59,6 +59,9 @@ fn runs(only: &Only) -> Table {
     Table { title: "Checking runs", heads: &["states"], rows }
 }
 
+/// The end of a row's name that says so: its list has one entry more, the last one again.
+const TWICE: &str = "last state twice";
+
 fn lists(only: &Only) -> Table {
     let drafts = [
         ("W15, the robots", w15()),
@@ -67,12 +70,23 @@ fn lists(only: &Only) -> Table {
         ("12 letters, every move", never(free(12))),
         ("12 letters, nearly every move", never(dense(12))),
         ("football, all injured", football(Team::AllInjured)),
+        ("counter of 12 letters to a dead end, last state twice", counter_to_dead_end(12)),
+        ("12 letters, every move, last state twice", never(free(12))),
+        ("10 letters, nearly every move, last state twice", never(dense(10))),
+        ("late clash, 20 letters, 4 rules", late_clash(20, 0)),
+        ("late clash, 24 letters, 4 rules", late_clash(24, 0)),
+        ("late clash, 24 letters, 255 rules", late_clash(24, 251)),
     ];
     let mut rows = Vec::new();
     for (name, draft) in drafts {
         let name = format!("strikes: {name}");
         if only.wants(&name) {
-            let Paper { sheet, states, words, different, .. } = paper(&draft);
+            let Paper { sheet, mut states, mut words, different, .. } = paper(&draft);
+            if name.ends_with(TWICE) {
+                // Its own word once more: the list stays right.
+                states.extend_from_within(states.len() - 4..);
+                words.extend_from_within(words.len() - 4..);
+            }
             assert_eq!((check_strikes(&sheet, &states, &words), check_strikes_bytes(&sheet, &states, &words)), (0, 0));
             rows.push(measure(
                 name,
