@@ -1,4 +1,4 @@
 pub mod Places
 pub mod Adding
-pub mod Covering
+pub mod Lawful
 pub mod Going

@@ -9,3 +9,4 @@ pub mod Summing
 pub mod RowLaws
 pub mod SectionLaws
 pub mod BookLaws
+pub mod FreerLaws

@@ -2,6 +2,7 @@
 // promise is said in specs/Book.antt; that a book's system is its sheet's is proofs/Same.antt.
 pub mod ask;
 pub mod build;
+pub mod freedom;
 pub mod gather;
 pub mod record;
 pub mod sections;
@@ -13,6 +14,7 @@ pub use ask::lawful;
 pub use ask::letters;
 pub use ask::moves;
 pub use ask::promises;
+pub use freedom::freer;
 pub use gather::clear;
 pub use gather::fits;
 pub use gather::gather_before;

@@ -1,0 +1,37 @@
+// Whether one state may move wherever another may: every step rule that asks something after the one asks it after the other.
+use super::ask::all_at;
+ghost use mathlib.Core.Path.{_≡_};
+ghost use mathlib.Core.Bool.{true};
+ghost use Prim.Native.Nat.{_<_};
+ghost use Rattle.rules.specs.Book.{Shaped, stepsOf};
+ghost use Rattle.rules.specs.Freer.{AsksToo, Freer};
+
+// Whether step rule i, if it asks something after u, asks it after s.
+fn asks_too(book: &[u32], i: usize, u: u32, s: u32) -> bool
+    requires { ⌜ Shaped (now book) × (i < stepsOf (now book)) ⌝ }
+    ensures { λ b. ⌜ (b ≡ true → AsksToo (now (book .entry)) u s i) ⌝ }
+{
+    let at = 646 + 4 * i;
+    if all_at(book, at, u) {
+        all_at(book, at, s)
+    } else {
+        true
+    }
+}
+
+// Whether every step rule does, so that u may move wherever s may.
+pub fn freer(book: &[u32], u: u32, s: u32) -> bool
+    requires { ⌜ Shaped (now book) ⌝ }
+    ensures { λ b. ⌜ (b ≡ true → Freer (now (book .entry)) u s) ⌝ }
+{
+    let steps = book[3] as usize;
+    let mut i: usize = 0;
+    while i < steps {
+        if asks_too(book, i, u, s) {
+            i += 1;
+        } else {
+            return false;
+        }
+    }
+    true
+}
