@@ -11,13 +11,14 @@ use borrow.Author.Count.{below-more}
 use lib.ListN.{length, getD}
 use Rattle.meaning.specs.System.{System}
 use Rattle.meaning.specs.Papers.{Listed, EntryRight, StrikesAccepted}
-use Rattle.rules.specs.Book.{bookSystem}
+use Rattle.rules.specs.Book.{bookLawful, bookSystem}
+use Rattle.rules.proofs.FreerLaws.{pass-true, freer-moves}
 use Rattle.papers.specs.Paper.{Says}
-use Rattle.papers.proofs.Verdict.{says-no, says-as}
+use Rattle.papers.proofs.Verdict.{clash, says-no, says-as}
 use Rattle.papers.proofs.Loops.{Passed, passed-none, passed-more}
 use Rattle.covers.specs.Counts.{Among}
-use Rattle.covers.specs.Asks.{AllLawful, FirstsListed, NextsWithin, StatesAsk}
-use Rattle.strikecheck.specs.Strikes.{Rising, ReasonsFit, EntryOk, EntriesOk, KeptBy, StateOk, placesOf, Under, Reach, EntriesAsk}
+use Rattle.covers.specs.Asks.{AllLawful, FirstsListed, NextsWithin}
+use Rattle.strikecheck.specs.Strikes.{Rising, ReasonsFit, EntryOk, EntriesOk, KeptBy, StateOk, placesOf, Under, Reach, Follows, EntryAsks, EntriesAsk}
 
 -- ---- words that never fall
 
@@ -127,19 +128,47 @@ module _ (S : System) (states words : List ℕ) (as-many : length words ≡ leng
       (says-as (looked-right (word % 32) word s near far n f) (right-looked (word % 32) word s near far n f)
       (subst (λ (k : ℕ). Says (StateOk S (word % 32) s states k) r) m-is says)))
 
--- What the next states are looked for in, and that the entry's state is lawful.
+-- ---- what was shown for one state serves another
+
+-- A state that was shown, if any was: it is lawful, and its next states are among the first `within`.
+pub record Shown (S : System) (states : List ℕ) (any : Bool) (wide within : ℕ) : Type 0 where
+  pub lawful : any ≡ true → S .Lawful wide
+  pub nexts : any ≡ true → NextsWithin S wide states within
+
+pub shown-none : {S : System} {states : List ℕ} {wide within : ℕ} → Shown S states false wide within
+shown-none = record { lawful = λ e. absurd (clash e refl); nexts = λ e. absurd (clash e refl) }
+
+-- So the next states of a state that may move only where that one may are there too.
+pub shown-follows : {book states : List ℕ} {any : Bool} {wide within s m : ℕ} → Shown (bookSystem book) states any wide within
+    → Follows book any wide within s m → NextsWithin (bookSystem book) s states m
+unfolding bookSystem
+shown-follows {book} {states} {any} {wide} {within} {s} {m} shown f t move =
+    let lawful = pass-true (bookLawful book wide) (shown .lawful (f .shown)) in
+    let a = shown .nexts (f .shown) t (freer-moves book wide s lawful (f .freer) t move) in
+    (a .0, omega (arith, a .1, f .no-more), a .2)
+
+-- An entry that was counted for is the state shown from then on.
+pub shown-entry : {book states words : List ℕ} {distinct : Bool} → EntriesAsk book states words distinct → (i : ℕ) {s : ℕ} → i < length states
+    → s ≡ getD states i 0 → {m : ℕ} {any : Bool} → NextsWithin (bookSystem book) s states m → Shown (bookSystem book) states any s m
+shown-entry {book} asks i h s-is nexts = record {
+  lawful = λ e. subst (λ (x : ℕ). bookSystem book .Lawful x) (sym s-is) (asks .states-ask .lawful i h);
+  nexts = λ e. nexts;
+}
+
+-- What the next states are looked for in, that the entry's state is lawful, and that they are there if that is known.
 pub entry-asks : {book states words : List ℕ} {distinct : Bool} → EntriesAsk book states words distinct → {word near far m : ℕ} → Reach words word near
     → Reach words (word + 1) far → (reason : ℕ) → m ≡ placesOf reason near far → (i : ℕ) {s : ℕ} → i < length states → s ≡ getD states i 0
-    → StatesAsk book states m distinct × bookSystem book .Lawful s
-entry-asks {book} {states} {words} asks {word} {near} {far} {m} n f reason m-is i h s-is = (
-  record {
+    → {known : Bool} → (known ≡ true → NextsWithin (bookSystem book) s states m) → EntryAsks book s states m distinct known
+entry-asks {book} {states} {words} asks {word} {near} {far} {m} n f reason m-is i h s-is there = record {
+  states-ask = record {
     shaped = asks .states-ask .shaped;
     lawful = asks .states-ask .lawful;
     within = subst (λ (k : ℕ). k ≤ length states) (sym m-is) (by reason);
     different = asks .states-ask .different;
-  },
-  subst (λ (x : ℕ). bookSystem book .Lawful x) (sym s-is) (asks .states-ask .lawful i h),
-)
+  };
+  lawful = subst (λ (x : ℕ). bookSystem book .Lawful x) (sym s-is) (asks .states-ask .lawful i h);
+  there = there;
+}
   where
     by : (reason : ℕ) → placesOf reason near far ≤ length states
     by zero = omega (arith, n .under .within, asks .as-many)

@@ -2,7 +2,7 @@
 -- paper whose parts stand in bytes or in numbers. The two public calls promise what the meaning says (StrikesChecked,
 -- StrikesBytesChecked). Assumes nothing.
 use mathlib.Core.Path.{_≡_}
-use mathlib.Core.Bool.{Bool}
+use mathlib.Core.Bool.{Bool, true}
 use mathlib.Core.List.{List}
 use Prim.Native.Nat.{ℕ, zero, suc, _%_, _≤_, _<_}
 use lib.ListN.{length, getD}
@@ -10,6 +10,7 @@ use Rattle.meaning.specs.System.{System}
 use Rattle.meaning.specs.Papers.{EntryRight, StrikesAccepted}
 use Rattle.meaning.specs.Promises.{Whole, Checked}
 use Rattle.rules.specs.Book.{bookSystem}
+use Rattle.rules.specs.Freer.{Freer}
 use Rattle.papers.specs.Paper.{paper}
 use Rattle.covers.specs.Asks.{NextsWithin, StatesAsk}
 
@@ -49,6 +50,18 @@ pub record Under (words : List ℕ) (limit m : ℕ) : Type 0 where
 pub record Reach (words : List ℕ) (limit m : ℕ) : Type 0 where
   pub under : Under words limit m
   pub above : m < length words → limit ≤ getD words m 0
+
+-- a state was shown whose next states are among the first `within`; it may move wherever s may, and the first m are no fewer
+pub record Follows (book : List ℕ) (any : Bool) (wide within s m : ℕ) : Type 0 where
+  pub shown : any ≡ true
+  pub no-more : within ≤ m
+  pub freer : Freer book wide s
+
+-- a lawful state whose next states are looked for among the first m; `known` may be true only if they are there
+pub record EntryAsks (book : List ℕ) (s : ℕ) (states : List ℕ) (m : ℕ) (distinct known : Bool) : Type 0 where
+  pub states-ask : StatesAsk book states m distinct
+  pub lawful : bookSystem book .Lawful s
+  pub there : known ≡ true → NextsWithin (bookSystem book) s states m
 
 -- a list of lawful states with as many words that never fall
 pub record EntriesAsk (book states words : List ℕ) (distinct : Bool) : Type 0 where

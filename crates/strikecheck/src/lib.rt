@@ -5,7 +5,8 @@
 // (`check_strikes` and `check_strikes_bytes` below; that 0 leaves no obeying run is said in proofs/Exactly.antt.)
 //
 // It does not search, it counts: words never fall, so "listed with a smaller word" is "among the first m entries"; and all next states are
-// among them exactly if there are as many next states as different ones among these entries.
+// among them exactly if there are as many next states as different ones among these entries. A state that may move only where one that was
+// counted for may needs no count of its own.
 use covers::firsts_listed;
 use covers::fresh;
 use covers::nexts_within;
@@ -16,10 +17,10 @@ ghost use mathlib.Core.Bool.{true};
 ghost use Rattle.meaning.specs.Promises.{StrikesChecked, StrikesBytesChecked};
 ghost use Rattle.papers.specs.Paper.{paper, Says};
 ghost use Rattle.rules.specs.Book.{Shaped, bookSystem};
-ghost use Rattle.covers.specs.Asks.{AllLawful, StatesAsk};
+ghost use Rattle.covers.specs.Asks.{AllLawful};
 ghost use Rattle.covers.specs.Counts.{Different};
 ghost use Rattle.strikecheck.specs.Strikes.{Rising, ReasonsFit, StateOk, KeptBy, placesOf, Under, Reach};
-ghost use Rattle.strikecheck.specs.Strikes.{EntriesAsk, Accepted, AllRight, PaperChecked};
+ghost use Rattle.strikecheck.specs.Strikes.{Follows, EntryAsks, EntriesAsk, Accepted, AllRight, PaperChecked};
 
 // States and words as numbers.
 pub fn check_strikes(sheet: &[u8], states: &[u32], words: &[u32]) -> u32
@@ -157,7 +158,7 @@ fn all_different(sb: &[u8], sn: &[u32]) -> bool
 }
 
 // Whether every entry shows what it must. Of the words, the first `near` are smaller than the entry's, and the first `far` the same or
-// smaller; both only grow.
+// smaller; both only grow. `wide` is the state last counted for, if any was; its next states are among the first `within`.
 fn entries_right(book: &[u32], sb: &[u8], sn: &[u32], wb: &[u8], wn: &[u32], distinct: bool) -> bool
     requires { ⌜ EntriesAsk (now book) (paper (now sb) (now sn)) (paper (now wb) (now wn)) distinct ⌝ }
     ensures { λ r. ⌜ Says (AllRight (now (book .entry)) (now (sb .entry)) (now (sn .entry)) (now (wb .entry)) (now (wn .entry))) r ⌝ }
@@ -165,6 +166,9 @@ fn entries_right(book: &[u32], sb: &[u8], sn: &[u32], wb: &[u8], wn: &[u32], dis
     let states = count_of(sb, sn);
     let mut near = 0;
     let mut far = 0;
+    let mut any = false;
+    let mut wide = 0;
+    let mut within = 0;
     let mut i = 0;
     while i < states {
         let s = number_at(sb, sn, i);
@@ -174,12 +178,35 @@ fn entries_right(book: &[u32], sb: &[u8], sn: &[u32], wb: &[u8], wn: &[u32], dis
         near = reach(wb, wn, near, limit);
         far = reach(wb, wn, far, limit + 1);
         let m = places(reason, near, far);
-        if !entry_right(book, s, reason, sb, sn, m, distinct) {
+        let known = follows(book, any, wide, within, s, m);
+        if !entry_right(book, s, reason, sb, sn, m, distinct, known) {
             return false;
         }
-        i += 1;
+        if known {
+            i += 1;
+        } else {
+            any = true;
+            wide = s;
+            within = m;
+            i += 1;
+        }
     }
     true
+}
+
+// True only if the next states of s are among the first m because those of `wide` are among the first `within`: there is nothing to count.
+fn follows(book: &[u32], any: bool, wide: u32, within: usize, s: u32, m: usize) -> bool
+    requires { ⌜ Shaped (now book) ⌝ }
+    ensures { λ r. ⌜ (r ≡ true → Follows (now (book .entry)) any wide within s m) ⌝ }
+{
+    if !any {
+        return false;
+    }
+    if within <= m {
+        rules::freer(book, wide, s)
+    } else {
+        false
+    }
 }
 
 // From m on, how many words at the front are below the limit.
@@ -206,7 +233,7 @@ fn places(reason: u32, near: usize, far: usize) -> usize
     if reason == 0 { near } else { far }
 }
 
-// The reason's promise is false in s, and every next state is among the first m.
+// The reason's promise is false in s, and every next state is among the first m, which may be known.
 fn entry_right(
     book: &[u32],
     s: u32,
@@ -215,12 +242,16 @@ fn entry_right(
     sn: &[u32],
     m: usize,
     distinct: bool,
+    known: bool,
 ) -> bool
-    requires { ⌜ StatesAsk (now book) (paper (now sb) (now sn)) m distinct × bookSystem (now book) .Lawful s ⌝ }
+    requires { ⌜ EntryAsks (now book) s (paper (now sb) (now sn)) m distinct known ⌝ }
     ensures { λ r. ⌜ Says (StateOk (bookSystem (now (book .entry))) reason s (paper (now (sb .entry)) (now (sn .entry))) m) r ⌝ }
 {
     if kept_by(book, reason, s) {
         return false;
+    }
+    if known {
+        return true;
     }
     nexts_within(book, s, sb, sn, m, distinct)
 }
