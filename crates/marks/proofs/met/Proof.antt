@@ -1,0 +1,20 @@
+-- `marks::met` meets its contract: a shifted word ends in the bit that is asked for. Assumes nothing.
+use mathlib.Core.Path.{ap}
+use Prim.Native.Nat.{ℕ}
+use borrow.Author.Needs.{needs}
+use lib.Dec.{eqb}
+use Rattle.marks.proofs.Marks.{bit-shifted}
+use Rattle.marks.proofs.met.Statement.{statement}
+use Rattle.marks.proofs.met.Tie as tie
+
+cast-result : tie.Need-cast-result
+cast-result c = search needs
+
+shr-result : tie.Need-shr-result
+shr-result c = search needs
+
+returns : tie.Need-returns
+returns c = ap (λ (y : ℕ). eqb y 1) (bit-shifted (c .args .k) (c .args .word))
+
+pub met-spec : {M : Type 1} → statement M
+met-spec = tie.close (tie.spec cast-result shr-result returns)

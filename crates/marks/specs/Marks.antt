@@ -1,0 +1,7 @@
+-- What a mark is: a bit of a word. Assumes nothing.
+use Prim.Native.Nat.{ℕ, zero, suc, _/_, _%_}
+
+-- bit k of x: 0 or 1
+abbrev pub bit : ℕ → ℕ → ℕ
+bit zero x = x % 2
+bit (suc k) x = bit k (x / 2)
