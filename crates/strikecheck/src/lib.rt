@@ -8,12 +8,14 @@
 // among them exactly if there are as many next states as different ones among these entries. A state that may move only where one that was
 // counted for may needs no count of its own.
 use covers::firsts_listed;
-use covers::fresh;
 use covers::nexts_within;
+use marks::mark;
+use marks::met;
 use papers::count_of;
 use papers::number_at;
 ghost use mathlib.Core.Path.{_≡_};
 ghost use mathlib.Core.Bool.{true};
+ghost use Prim.Native.Nat.{_<_, min};
 ghost use Rattle.meaning.specs.Promises.{StrikesChecked, StrikesBytesChecked};
 ghost use Rattle.papers.specs.Paper.{paper, Says};
 ghost use Rattle.rules.specs.Book.{Shaped, bookSystem};
@@ -21,6 +23,7 @@ ghost use Rattle.covers.specs.Asks.{AllLawful};
 ghost use Rattle.covers.specs.Counts.{Different};
 ghost use Rattle.strikecheck.specs.Strikes.{Rising, ReasonsFit, StateOk, KeptBy, placesOf, Under, Reach};
 ghost use Rattle.strikecheck.specs.Strikes.{Follows, EntryAsks, EntriesAsk, Accepted, AllRight, PaperChecked};
+ghost use Rattle.strikecheck.specs.Windows.{pastAll, Window};
 
 // States and words as numbers.
 pub fn check_strikes(sheet: &[u8], states: &[u32], words: &[u32]) -> u32
@@ -141,20 +144,59 @@ fn all_lawful(book: &[u32], sb: &[u8], sn: &[u32]) -> bool
     true
 }
 
-// True only if no state stands twice; the counts are then quicker.
+// True only if no state stands twice; the counts are then quicker. Windows of 8,192 numbers are looked at in turn, from 0 up; windows that
+// hold no state are passed over.
 fn all_different(sb: &[u8], sn: &[u32]) -> bool
     ensures { λ r. ⌜ (r ≡ true → Different (paper (now (sb .entry)) (now (sn .entry)))) ⌝ }
 {
-    let states = count_of(sb, sn);
-    let mut i = 0;
-    while i < states {
-        let s = number_at(sb, sn, i);
-        if !fresh(sb, sn, i, s) {
+    let mut low: u64 = 0;
+    while low < 4294967296 {
+        low = window(sb, sn, low);
+        if low > 4294967296 {
             return false;
         }
-        i += 1;
     }
     true
+}
+
+// Looks at the states from low up to low + 8192, with a mark for each: 2^32 + 1 where one is marked already, else the least state from
+// low + 8192 on, or 2^32 where there is none.
+fn window(sb: &[u8], sn: &[u32], low: u64) -> u64
+    requires { ⌜ low < pastAll ⌝ }
+    ensures { λ r. ⌜ Window (paper (now (sb .entry)) (now (sn .entry))) low r ⌝ }
+{
+    let states = count_of(sb, sn);
+    let mut marks = [0u32; 256];
+    let mut next: u64 = 4294967296;
+    let mut i = 0;
+    while i < states {
+        let s = number_at(sb, sn, i) as u64;
+        if s < low {
+            i += 1;
+        } else {
+            let k = s - low;
+            if k < 8192 {
+                let word = (k / 32) as usize;
+                let bit = (k % 32) as usize;
+                if met(marks[word], bit) {
+                    return 4294967297;
+                }
+                marks[word] = mark(marks[word], bit);
+                i += 1;
+            } else {
+                next = smaller(next, s);
+                i += 1;
+            }
+        }
+    }
+    next
+}
+
+// The smaller of two numbers.
+fn smaller(a: u64, b: u64) -> u64
+    ensures { λ r. ⌜ r ≡ min a b ⌝ }
+{
+    if a < b { a } else { b }
 }
 
 // Whether every entry shows what it must. Of the words, the first `near` are smaller than the entry's, and the first `far` the same or
