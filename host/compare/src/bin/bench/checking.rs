@@ -59,6 +59,9 @@ fn runs(only: &Only) -> Table {
     Table { title: "Checking runs", heads: &["states"], rows }
 }
 
+/// What a row's name has if its states are listed from the last to the first, so that hardly one asks for more than the one before it.
+const BACKWARDS: &str = "from the back";
+
 /// The end of a row's name that says so: its list has one entry more, the last one again.
 const TWICE: &str = "last state twice";
 
@@ -72,7 +75,8 @@ fn lists(only: &Only) -> Table {
         ("football, all injured", football(Team::AllInjured)),
         ("counter of 12 letters to a dead end, last state twice", counter_to_dead_end(12)),
         ("12 letters, every move, last state twice", never(free(12))),
-        ("10 letters, nearly every move, last state twice", never(dense(10))),
+        ("10 letters, nearly every move, from the back", never(dense(10))),
+        ("10 letters, nearly every move, from the back, last state twice", never(dense(10))),
         ("late clash, 20 letters, 4 rules", late_clash(20, 0)),
         ("late clash, 24 letters, 4 rules", late_clash(24, 0)),
         ("late clash, 24 letters, 255 rules", late_clash(24, 251)),
@@ -82,6 +86,10 @@ fn lists(only: &Only) -> Table {
         let name = format!("strikes: {name}");
         if only.wants(&name) {
             let Paper { sheet, mut states, mut words, different, .. } = paper(&draft);
+            if name.contains(BACKWARDS) {
+                assert_eq!(different, 1, "one word, so that the order is free");
+                states = states.chunks(4).rev().flatten().copied().collect();
+            }
             if name.ends_with(TWICE) {
                 // Its own word once more: the list stays right.
                 states.extend_from_within(states.len() - 4..);
