@@ -1,1 +1,2 @@
 pub mod Web
+pub mod Storing

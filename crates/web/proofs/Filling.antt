@@ -1,0 +1,229 @@
+-- Rows of moves forth, written one after the other. Assumes nothing.
+use mathlib.Core.Path.{_≡_, refl, sym, subst, _∙_}
+use mathlib.Core.Bool.{true, false}
+use mathlib.Core.Logic.{_⊎_, inl, inr}
+use mathlib.Core.List.{List}
+use Prim.Native.Nat.{ℕ, suc, _+_, _≤_, _<_}
+use native.Mathlib.Decide.{ℕ-discrete}
+use native.Mathlib.Omega.{arith}
+use lib.ListN.{length, getD, set, length-set}
+use lib.Seq.{getD-set-same, getD-set-other}
+use Rattle.rules.specs.Book.{clausesOk}
+use Rattle.web.specs.Web.{Forth}
+use Rattle.web.specs.Storing.{Row, Fitting, Nexts, Filled}
+use Rattle.web.proofs.Moves.{no-both}
+
+-- ---- one row
+
+-- A row of no places is empty.
+pub row-none : (P : ℕ → Type 0) (at : ℕ) (cells : List ℕ) → ((j : ℕ) → P j → ⊥) → Row P at at cells
+row-none P at cells none = record {
+  forwards = omega arith;
+  sound = λ e h l. absurd (omega arith);
+  whole = λ j p. absurd (none j p);
+  ascends = λ e h l. absurd (omega arith);
+}
+
+-- The same places have the same row.
+pub row-same : (P Q : ℕ → Type 0) {from to : ℕ} {cells : List ℕ} → ((j : ℕ) → P j → Q j) → ((j : ℕ) → Q j → P j) → Row P from to cells
+    → Row Q from to cells
+row-same P Q there back w = record {
+  forwards = w .forwards;
+  sound = λ e h l. there _ (w .sound e h l);
+  whole = λ j q. w .whole j (back j q);
+  ascends = w .ascends;
+}
+
+-- A row stands in any cells that agree with its own.
+pub row-kept : (P : ℕ → Type 0) (from to : ℕ) (old new : List ℕ) → ((e : ℕ) → e < to → getD new e 0 ≡ getD old e 0) → Row P from to old
+    → Row P from to new
+row-kept P from to old new same w = record {
+  forwards = w .forwards;
+  sound = λ e h l. subst P (sym (same e l)) (w .sound e h l);
+  whole = λ j p. let (e, h, l, q) = w .whole j p in (e, h, l, same e l ∙ q);
+  ascends = λ e h l.
+      let a = same e (omega arith) in
+      let b = same (suc e) l in
+      let d = w .ascends e h l in
+      omega arith;
+}
+
+-- A place above all others is appended.
+pub row-more : (P Q : ℕ → Type 0) (from to j : ℕ) (cells : List ℕ) → to < length cells → Row P from to cells → ((i : ℕ) → P i → i < j)
+    → ((i : ℕ) → P i → Q i) → Q j → ((i : ℕ) → Q i → P i ⊎ (i ≡ j)) → Row Q from (to + 1) (set cells to j)
+row-more P Q from to j cells room w above there here back = record {
+  forwards = let a = w .forwards in omega arith;
+  sound = λ e h l. at e h (ℕ-discrete e to) l;
+  whole = λ i q. found i (back i q);
+  ascends = λ e h l. rising e h l (ℕ-discrete (suc e) to);
+}
+  where
+    last : getD (set cells to j) to 0 ≡ j
+    last = getD-set-same cells to j 0 room
+
+    kept : (e : ℕ) → e < to → getD (set cells to j) e 0 ≡ getD cells e 0
+    kept e l = getD-set-other cells to e j 0 (omega arith)
+
+    at : (e : ℕ) → from ≤ e → Dec (e ≡ to) → e < to + 1 → Q (getD (set cells to j) e 0)
+    at e h (yes q) l = subst Q (sym (subst (λ (x : ℕ). getD (set cells to j) x 0 ≡ j) (sym q) last)) here
+    at e h (no q) l = subst Q (sym (kept e (omega arith))) (there _ (w .sound e h (omega arith)))
+
+    found : (i : ℕ) → P i ⊎ (i ≡ j) → (e : ℕ) × (from ≤ e) × (e < to + 1) × (getD (set cells to j) e 0 ≡ i)
+    found i (inl p) = let (e, h, l, q) = w .whole i p in (e, h, omega arith, kept e l ∙ q)
+    found i (inr q) = (to, w .forwards, omega arith, last ∙ sym q)
+
+    rising : (e : ℕ) → from ≤ e → suc e < to + 1 → Dec (suc e ≡ to) → getD (set cells to j) e 0 < getD (set cells to j) (suc e) 0
+    rising e h l (yes q) =
+        let a = kept e (omega arith) in
+        let b : getD (set cells to j) (suc e) 0 ≡ j = subst (λ (x : ℕ). getD (set cells to j) x 0 ≡ j) (sym q) last in
+        let d = above _ (w .sound e h (omega arith)) in
+        omega arith
+    rising e h l (no q) =
+        let a = kept e (omega arith) in
+        let b = kept (suc e) (omega arith) in
+        let d = w .ascends e h (omega arith) in
+        omega arith
+
+-- ---- filling one row
+
+-- the row of P so far, up to `to`
+pub record Filling (P : ℕ → Type 0) (at : ℕ) (old new : List ℕ) (to : ℕ) : Type 0 where
+  pub long : length new ≡ length old
+  pub keeps : (e : ℕ) → e < at → getD new e 0 ≡ getD old e 0
+  pub inside : to ≤ length old
+  pub row : Row P at to new
+
+-- A row of no places is filled before anything is written.
+pub filling-none : (P : ℕ → Type 0) (at : ℕ) (cells : List ℕ) → at ≤ length cells → ((j : ℕ) → P j → ⊥) → Filling P at cells cells at
+filling-none P at cells h none = record { long = refl; keeps = λ e l. refl; inside = h; row = row-none P at cells none }
+
+-- The same places are filled.
+pub filling-same : (P Q : ℕ → Type 0) {at to : ℕ} {old new : List ℕ} → ((j : ℕ) → P j → Q j) → ((j : ℕ) → Q j → P j) → Filling P at old new to
+    → Filling Q at old new to
+filling-same P Q there back w =
+    record { long = w .long; keeps = w .keeps; inside = w .inside; row = row-same P Q there back (w .row) }
+
+-- A place above all others is written.
+pub filling-more : (P Q : ℕ → Type 0) (at to j : ℕ) (old new : List ℕ) → to < length old → Filling P at old new to → ((i : ℕ) → P i → i < j)
+    → ((i : ℕ) → P i → Q i) → Q j → ((i : ℕ) → Q i → P i ⊎ (i ≡ j)) → Filling Q at old (set new to j) (to + 1)
+filling-more P Q at to j old new room w above there here back = record {
+  long = length-set new to j ∙ w .long;
+  keeps = λ e l. getD-set-other new to e j 0 (let a = w .row .forwards in omega arith) ∙ w .keeps e l;
+  inside = omega arith;
+  row = row-more P Q at to j new (let a = w .long in omega arith) (w .row) above there here back;
+}
+
+-- What is filled is a filled row of the same places.
+pub filling-filled : (P Q : ℕ → Type 0) {at to : ℕ} {old new : List ℕ} → ((j : ℕ) → P j → Q j) → ((j : ℕ) → Q j → P j) → Filling P at old new to
+    → Filled Q at old new to
+filling-filled P Q there back w = record { long = w .long; keeps = w .keeps; row = λ h. row-same P Q there back (w .row) }
+
+-- Where there is no room, nothing is told.
+pub filling-over : (P Q : ℕ → Type 0) {at to : ℕ} {old new : List ℕ} (over : ℕ) → length old < over → Filling P at old new to
+    → Filled Q at old new over
+filling-over P Q over h w = record { long = w .long; keeps = w .keeps; row = λ l. absurd (omega arith) }
+
+-- A filled row of some places is one of the same places.
+pub filled-same : (P Q : ℕ → Type 0) {at to : ℕ} {old new : List ℕ} → ((j : ℕ) → P j → Q j) → ((j : ℕ) → Q j → P j) → Filled P at old new to
+    → Filled Q at old new to
+filled-same P Q there back w = record { long = w .long; keeps = w .keeps; row = λ h. row-same P Q there back (w .row h) }
+
+-- ---- by tests
+
+module _ (clauses : List ℕ) (count : ℕ) (table : List ℕ) where
+  -- No place is below the first.
+  pub fitting-none : (j : ℕ) → Fitting clauses count table 0 j → ⊥
+  fitting-none j (h, f) = omega arith
+
+  -- A place that fits is written.
+  pub fitting-more : (j at to : ℕ) (old new : List ℕ) → to < length old → Filling (Fitting clauses count table j) at old new to
+      → clausesOk clauses count (getD table j 0) ≡ true → Filling (Fitting clauses count table (j + 1)) at old (set new to j) (to + 1)
+  fitting-more j at to old new room w f =
+      filling-more (Fitting clauses count table j) (Fitting clauses count table (j + 1)) at to j old new room w (λ i p. p .0)
+      (λ i p. (let a = p .0 in omega arith, p .1)) (omega arith, f) (λ i q. by i q (ℕ-discrete i j))
+    where
+      by : (i : ℕ) → Fitting clauses count table (j + 1) i → Dec (i ≡ j) → Fitting clauses count table j i ⊎ (i ≡ j)
+      by i q (yes d) = inr d
+      by i q (no d) = inl (let a = q .0 in omega arith, q .1)
+
+  -- Any other is passed by.
+  pub fitting-past : (j at to : ℕ) (old new : List ℕ) → Filling (Fitting clauses count table j) at old new to
+      → clausesOk clauses count (getD table j 0) ≡ false → Filling (Fitting clauses count table (j + 1)) at old new to
+  fitting-past j at to old new w f =
+      filling-same (Fitting clauses count table j) (Fitting clauses count table (j + 1)) (λ i p. (let a = p .0 in omega arith, p .1))
+      (λ i q. (by i q (ℕ-discrete i j), q .1)) w
+    where
+      by : (i : ℕ) → Fitting clauses count table (j + 1) i → Dec (i ≡ j) → i < j
+      by i q (yes d) = no-both (sym (q .1) ∙ subst (λ (x : ℕ). clausesOk clauses count (getD table x 0) ≡ false) (sym d) f)
+      by i q (no d) = let a = q .0 in omega arith
+
+  -- Once all places are tested the row is filled.
+  pub fitting-filled : (r j at to : ℕ) (old new : List ℕ) → j ≡ r → Filling (Fitting clauses count table j) at old new to
+      → Filled (Fitting clauses count table r) at old new to
+  fitting-filled r j at to old new e w =
+      filling-filled (Fitting clauses count table j) (Fitting clauses count table r) (λ i p. (let a = p .0 in omega arith, p .1))
+      (λ i p. (let a = p .0 in omega arith, p .1)) w
+
+-- ---- row after row
+
+-- the rows of the first i places stand below `at`
+pub record Stored (book table : List ℕ) (r i at : ℕ) (starts ends cells : List ℕ) : Type 0 where
+  pub below : (k : ℕ) → k < i → getD ends k 0 ≤ at
+  pub rows : (k : ℕ) → k < i → Row (Nexts book table r (getD table k 0)) (getD starts k 0) (getD ends k 0) cells
+
+module _ (book table : List ℕ) (r : ℕ) where
+  -- Before the first place there is no row.
+  pub stored-none : (starts ends cells : List ℕ) → Stored book table r 0 0 starts ends cells
+  stored-none starts ends cells = record { below = λ k h. absurd (omega arith); rows = λ k h. absurd (omega arith) }
+
+  -- One row more is stored.
+  pub stored-more : (i at to : ℕ) (starts ends cells cells′ : List ℕ) → i < length starts → i < length ends → to ≤ length cells
+      → Stored book table r i at starts ends cells → Filled (Nexts book table r (getD table i 0)) at cells cells′ to
+      → Stored book table r (i + 1) to (set starts i at) (set ends i to) cells′
+  stored-more i at to starts ends cells cells′ in-starts in-ends room s f = record {
+    below = λ k h. low k h (ℕ-discrete k i);
+    rows = λ k h. row k h (ℕ-discrete k i);
+  }
+    where
+      here : Row (Nexts book table r (getD table i 0)) at to cells′
+      here = f .row room
+
+      start : getD (set starts i at) i 0 ≡ at
+      start = getD-set-same starts i at 0 in-starts
+
+      end : getD (set ends i to) i 0 ≡ to
+      end = getD-set-same ends i to 0 in-ends
+
+      low : (k : ℕ) → k < i + 1 → Dec (k ≡ i) → getD (set ends i to) k 0 ≤ to
+      low k h (yes q) = subst (λ (x : ℕ). getD (set ends i to) x 0 ≤ to) (sym q) (let a = end in omega arith)
+      low k h (no q) =
+          let a = getD-set-other ends i k to 0 q in
+          let b = s .below k (omega arith) in
+          let d = here .forwards in
+          omega arith
+
+      RowOf : ℕ → ℕ → ℕ → Type 0
+      RowOf k from stop = Row (Nexts book table r (getD table k 0)) from stop cells′
+
+      row : (k : ℕ) → k < i + 1 → Dec (k ≡ i) → RowOf k (getD (set starts i at) k 0) (getD (set ends i to) k 0)
+      row k h (yes q) =
+          subst (λ (x : ℕ). RowOf x (getD (set starts i at) x 0) (getD (set ends i to) x 0)) (sym q)
+          (subst (λ (x : ℕ). RowOf i x (getD (set ends i to) i 0)) (sym start) (subst (λ (x : ℕ). RowOf i at x) (sym end) here))
+      row k h (no q) =
+          subst (λ (x : ℕ). RowOf k x (getD (set ends i to) k 0)) (sym (getD-set-other starts i k at 0 q))
+          (subst (λ (x : ℕ). RowOf k (getD starts k 0) x) (sym (getD-set-other ends i k to 0 q))
+          (row-kept _ _ _ cells cells′ (λ e l. f .keeps e (let b = s .below k (omega arith) in omega arith)) (s .rows k (omega arith))))
+
+  -- All rows are the moves forth.
+  pub stored-forth : (i at : ℕ) (starts ends cells : List ℕ) → i ≡ r → r ≤ length starts → r ≤ length ends → at ≤ length cells
+      → Stored book table r i at starts ends cells → Forth book table r starts ends cells
+  stored-forth i at starts ends cells q in-starts in-ends room s = record {
+    rows = record {
+      in-starts = in-starts;
+      in-ends = in-ends;
+      in-cells = λ k h. let a = s .below k (omega arith) in omega arith;
+      sound = λ k e h a b. s .rows k (omega arith) .sound e a b;
+      whole = λ k j h l m. s .rows k (omega arith) .whole j (l, m);
+    };
+    ascends = λ k e h a b. s .rows k (omega arith) .ascends e a b;
+  }
