@@ -4,3 +4,5 @@ pub mod Spreads
 pub mod Closed
 pub mod Turns
 pub mod Exact
+pub mod Lines
+pub mod Along

@@ -156,10 +156,13 @@ begins-opening book k table words r i left near b e = record {
   left-is = subst (λ (n : ℕ). left ≡ fars near n) e (b .left-is);
   few = let a = b .few in omega arith;
   first = record {
-    long = b .long;
-    struck = λ m h n. struck-is (b .each m (omega arith)) n;
-    each = λ m h z. by m h z (split (b .each m (omega arith)) z);
-    base = λ m h z g. base-is (b .each m (omega arith)) z (kept-true book k (getD table m 0) g);
+    sure = record {
+      long = b .long;
+      struck = λ m h n. struck-is (b .each m (omega arith)) n;
+      each = λ m h z. by m h z (split (b .each m (omega arith)) z);
+      base = λ m h z g. base-is (b .each m (omega arith)) z (kept-true book k (getD table m 0) g);
+    };
+    low = λ m h l. low-is (b .each m (omega arith)) l;
     steps = λ m n _ _ _ _ _ done. absurd (never (getD near n 0) n done);
   };
 }
@@ -183,15 +186,19 @@ begins-opening book k table words r i left near b e = record {
     split (there w g) z = inr (refl, g)
     split (waits w n) z = inl refl
 
+    low-is : {G : Type 0} {word v : ℕ} → Begun G word v → v < gone → (v ≤ 1) × (v ≤ 0 + 0)
+    low-is (out w) l = absurd (omega arith)
+    low-is (there w g) l = (omega arith, omega arith)
+    low-is (waits w n) l = absurd (omega arith)
+
     -- what an unstruck place's value says before the first layer is spread
     Says : ℕ → Type 0
-    Says m = (getD near m 0 ≡ far) ⊎ ((getD near m 0 ≤ 1) × (getD near m 0 ≤ 0 + 0)
-        × Way (bookSystem book) (Live table words r) (bookSystem book .Kept k) (getD near m 0) (getD table m 0))
+    Says m = (getD near m 0 ≡ far)
+        ⊎ ((getD near m 0 < gone) × Way (bookSystem book) (Live table words r) (bookSystem book .Kept k) (getD near m 0) (getD table m 0))
 
     by : (m : ℕ) → m < r → getD words m 0 ≡ 0 → (getD near m 0 ≡ far) ⊎ ((getD near m 0 ≡ 0) × keptIn book k (getD table m 0)) → Says m
     by m h z (inl q) = inl q
     by m h z (inr (q, t)) = inr (
-      omega arith,
       omega arith,
       subst (λ (x : ℕ). Way (bookSystem book) (Live table words r) (bookSystem book .Kept k) x (getD table m 0)) (sym q)
           ((m, h, refl, z), true-kept book k (getD table m 0) t),

@@ -95,7 +95,7 @@ module _ (book : List ℕ) (k : ℕ) (table words : List ℕ) (r : ℕ) where
     measuring-spreadable some = record {
       shaped = a .shaped;
       in-table = a .in-table;
-      long = m .so-far .long;
+      long = m .so-far .sure .long;
       small = let b = m .room in let c = a .few in omega arith;
       left-is = m .left-is;
       room = let b = m .room in let e = a .few in omega arith;
@@ -119,13 +119,11 @@ module _ (book : List ℕ) (k : ℕ) (table words : List ℕ) (r : ℕ) where
       measuring-quiet e =
           quiet-near (bookSystem book) (bookSystem book .Kept k) table words r d near
           (subst (λ (n : ℕ). LayeredBy book k table words r d r n near) e (l .spread-all k words a (m .so-far)))
-          (let b = m .room in let c = a .few in omega arith)
 
     -- and so does one after which no place is left.
     pub measuring-full : left ≡ 0 → Near (bookSystem book) (bookSystem book .Kept k) table words r old
     measuring-full e =
-        full-near (bookSystem book) (bookSystem book .Kept k) table words r d old (m .so-far)
-        (let b = m .room in let c = a .few in omega arith) (let b = m .left-is in omega arith)
+        full-near (bookSystem book) (bookSystem book .Kept k) table words r d old (m .so-far) (let b = m .left-is in omega arith)
 
 -- ---- the lent part
 

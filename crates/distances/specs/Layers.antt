@@ -62,13 +62,19 @@ pub record Spread (P : ℕ → Type 0) (d n : ℕ) (old new : List ℕ) (got : �
 abbrev pub Done : (d j m x : ℕ) → Type 0
 Done d j m x = (x < d) ⊎ ((x ≡ d) × (m < j))
 
--- what the values say while layer d is spread: its first j places are, and `got` places were added
-pub record Layered (S : System) (G : ℕ → Type 0) (table words : List ℕ) (r d j got : ℕ) (near : List ℕ) : Type 0 where
+-- what the values say at any time, whichever way they are found: a struck place is gone, an unstruck one has no number yet or that of a way,
+-- and one at the goal has 0
+pub record Sure (S : System) (G : ℕ → Type 0) (table words : List ℕ) (r : ℕ) (near : List ℕ) : Type 0 where
   pub long : length near ≡ r
   pub struck : (i : ℕ) → i < r → (getD words i 0 ≡ 0 → ⊥) → getD near i 0 ≡ gone
-  pub each : (i : ℕ) → i < r → getD words i 0 ≡ 0 → (getD near i 0 ≡ far)
-      ⊎ ((getD near i 0 ≤ suc d) × (getD near i 0 ≤ d + got) × Way S (Live table words r) G (getD near i 0) (getD table i 0))
+  pub each : (i : ℕ) → i < r → getD words i 0 ≡ 0
+      → (getD near i 0 ≡ far) ⊎ ((getD near i 0 < gone) × Way S (Live table words r) G (getD near i 0) (getD table i 0))
   pub base : (i : ℕ) → i < r → getD words i 0 ≡ 0 → G (getD table i 0) → getD near i 0 ≡ 0
+
+-- what they say while layer d is spread: its first j places are, and `got` places were added
+pub record Layered (S : System) (G : ℕ → Type 0) (table words : List ℕ) (r d j got : ℕ) (near : List ℕ) : Type 0 where
+  pub sure : Sure S G table words r near
+  pub low : (i : ℕ) → i < r → getD near i 0 < gone → (getD near i 0 ≤ suc d) × (getD near i 0 ≤ d + got)
   pub steps : (i m : ℕ) → i < r → m < r → getD words i 0 ≡ 0 → getD words m 0 ≡ 0 → S .Move (getD table i 0) (getD table m 0)
       → Done d j m (getD near m 0) → getD near i 0 ≤ suc (getD near m 0)
 

@@ -1,6 +1,6 @@
 // Distances to a promise: for every unstruck state of a table the fewest moves, through unstruck states only, to one where the promise is
-// kept. Found layer by layer, backwards from the states that keep it: each state of the last layer is looked at once, and only against the
-// states that are not reached yet.
+// kept. Found backwards from the states that keep it, in one of two ways: by tests of pairs, layer by layer, where each state of the last layer
+// is looked at once, and only against the states that are not reached yet; or along stored moves with a queue, in time linear in places and moves.
 
 ghost use mathlib.Core.Path.{_≡_};
 ghost use mathlib.Core.Bool.{_&&_};
@@ -9,7 +9,9 @@ ghost use lib.Dec.{eqb};
 ghost use lib.ListN.{length};
 ghost use Rattle.rules.specs.Book.{Shaped, gatherSize, packClear, bookSystem};
 ghost use Rattle.distances.specs.Far.{Measured, far, gone};
+ghost use Rattle.web.specs.Web.{Back};
 ghost use Rattle.distances.specs.Layers.{Measurable, Begun, Opening, Spreadable, LayerDone, Spread, Near, keptIn, clearOf};
+ghost use Rattle.distances.specs.Follow.{Followable, LinedUp, Ready, Followed};
 
 // What a place begins with: struck, at the goal, or not reached yet.
 fn start(book: &[u32], k: usize, s: u32, word: u32) -> u16
@@ -128,9 +130,8 @@ fn measure(book: &[u32], k: usize, table: &[u32], words: &[u32], r: usize, near:
     }
 }
 
-// The distances to promise k of the table's first r places, written from `from` on: 65534 for a struck place, 65535 where no path of
-// unstruck states leads to the promise.
-pub fn distances(
+// The same, written from `from` on.
+fn by_tests(
     book: &[u32],
     k: usize,
     table: &[u32],
@@ -145,4 +146,162 @@ pub fn distances(
 {
     let end = from + r;
     measure(book, k, table, words, r, &mut dist[from..end]);
+}
+
+// Puts the places at 0 into the queue, in order; how many those are.
+fn line_up(near: &[u16], r: usize, queue: &mut [u16]) -> usize
+    requires { ⌜ (r ≤ length (now near)) × (r ≤ length (now queue)) × (r ≤ 16384) ⌝ }
+    ensures { λ n. ⌜ LinedUp (now (near .entry)) r n (now (queue .exit)) × (length (now (queue .exit)) ≡ length (now (queue .entry))) ⌝ }
+{
+    let mut tail: usize = 0;
+    let mut i: usize = 0;
+    while i < r {
+        if near[i] == 0 {
+            queue[tail] = i as u16;
+            tail += 1;
+            i += 1;
+        } else {
+            i += 1;
+        }
+    }
+    tail
+}
+
+// Gives d to the places of a row that are not reached yet, and puts them into the queue behind its first `tail`; how many those are.
+fn follow_row(
+    cells: &[u16],
+    start: usize,
+    end: usize,
+    d: u16,
+    near: &mut [u16],
+    tail: usize,
+    queue: &mut [u16],
+) -> usize
+    requires { ⌜ Ready (now cells) start end d (length (now near)) (now near) (now queue) tail ⌝ }
+    ensures { λ got. ⌜ Followed (now (cells .entry)) start end d (length (now (near .entry))) (now (near .entry)) (now (near .exit)) tail
+        (now (queue .entry)) (now (queue .exit)) got ⌝ }
+{
+    let mut got: usize = 0;
+    let mut e: usize = start;
+    while e < end {
+        let v = cells[e];
+        let i = v as usize;
+        if near[i] == 65535 {
+            let at = tail + got;
+            near[i] = d;
+            queue[at] = v;
+            got += 1;
+            e += 1;
+        } else {
+            e += 1;
+        }
+    }
+    got
+}
+
+// The distances of the table's first r places, in a slice of that length, by the stored moves: from each place of the queue in turn, its
+// row is followed back.
+fn measure_back(
+    book: &[u32],
+    k: usize,
+    table: &[u32],
+    words: &[u32],
+    r: usize,
+    starts: &[u16],
+    ends: &[u16],
+    cells: &[u16],
+    queue: &mut [u16],
+    near: &mut [u16],
+)
+    requires { ⌜ Measurable (now book) k (now table) (now words) r × (length (now near) ≡ r)
+        × Back (now book) (now table) r (now starts) (now ends) (now cells) × (r ≤ length (now queue)) ⌝ }
+    ensures { λ _. ⌜ Near (bookSystem (now (book .entry))) (bookSystem (now (book .entry)) .Kept k) (now (table .entry)) (now (words .entry)) r
+        (now (near .exit)) × (length (now (queue .exit)) ≡ length (now (queue .entry))) ⌝ }
+{
+    begin(book, k, table, words, r, near);
+    let mut tail = line_up(near, r, queue);
+    let mut head: usize = 0;
+    while head < tail {
+        let j = queue[head] as usize;
+        let d = near[j] + 1;
+        let start = starts[j] as usize;
+        let end = ends[j] as usize;
+        let got = follow_row(cells, start, end, d, near, tail, queue);
+        tail += got;
+        head += 1;
+    }
+}
+
+// The same, written from `from` on.
+fn follow(
+    book: &[u32],
+    k: usize,
+    table: &[u32],
+    words: &[u32],
+    r: usize,
+    starts: &[u16],
+    ends: &[u16],
+    cells: &[u16],
+    queue: &mut [u16],
+    dist: &mut [u16],
+    from: usize,
+)
+    requires { ⌜ Measurable (now book) k (now table) (now words) r × (from + r ≤ length (now dist))
+        × Back (now book) (now table) r (now starts) (now ends) (now cells) × (r ≤ length (now queue)) ⌝ }
+    ensures { λ _. ⌜ Measured (bookSystem (now (book .entry))) (bookSystem (now (book .entry)) .Kept k) (now (table .entry)) (now (words .entry)) r from
+        (now (dist .entry)) (now (dist .exit)) × (length (now (queue .exit)) ≡ length (now (queue .entry))) ⌝ }
+{
+    let end = from + r;
+    measure_back(
+        book,
+        k,
+        table,
+        words,
+        r,
+        starts,
+        ends,
+        cells,
+        queue,
+        &mut dist[from..end],
+    );
+}
+
+// The distances to promise k of the table's first r places, written from `from` on: 65534 for a struck place, 65535 where no path of
+// unstruck states leads to the promise. By the stored moves if they are stored, else by tests of pairs.
+pub fn distances(
+    book: &[u32],
+    k: usize,
+    table: &[u32],
+    words: &[u32],
+    r: usize,
+    stored: bool,
+    starts: &[u16],
+    ends: &[u16],
+    cells: &[u16],
+    queue: &mut [u16],
+    dist: &mut [u16],
+    from: usize,
+)
+    requires { ⌜ Measurable (now book) k (now table) (now words) r × (from + r ≤ length (now dist))
+        × Followable (now book) (now table) r stored (now starts) (now ends) (now cells) (now queue) ⌝ }
+    ensures { λ _. ⌜ Measured (bookSystem (now (book .entry))) (bookSystem (now (book .entry)) .Kept k) (now (table .entry)) (now (words .entry)) r from
+        (now (dist .entry)) (now (dist .exit)) × (length (now (queue .exit)) ≡ length (now (queue .entry))) ⌝ }
+{
+    if stored {
+        follow(
+            book,
+            k,
+            table,
+            words,
+            r,
+            starts,
+            ends,
+            cells,
+            queue,
+            dist,
+            from,
+        );
+    } else {
+        by_tests(book, k, table, words, r, dist, from);
+    }
 }

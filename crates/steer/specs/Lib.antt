@@ -1,2 +1,3 @@
 pub mod Steered
+pub mod Stored
 pub mod Walk

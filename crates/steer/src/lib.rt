@@ -1,14 +1,18 @@
 // Walks the sample run: document 01, "The judge's two papers", first paragraph. The distances to every promise are computed once; a first
-// walk finds the moment b at which a pair of state and aim comes again, a second one writes the b states, if they fit.
+// walk finds the moment b at which a pair of state and aim comes again, a second one writes the b states, if they fit. Where there are many
+// states, the moves between them are stored once, if they have room, and the distances and every step look at stored moves only.
 
 ghost use mathlib.Core.Path.{_≡_};
 ghost use mathlib.Core.Bool.{_&&_};
 ghost use Prim.Native.Nat.{_+_, _-_, _*_, _^_, _≤_, _<_};
 ghost use lib.Bits.{bitOr};
 ghost use lib.Dec.{ltb, eqb};
-ghost use lib.ListN.{length};
+ghost use lib.ListN.{length, getD};
 ghost use Rattle.meaning.specs.Sample.{Passes};
 ghost use Rattle.rules.specs.Book.{Shaped, bookSystem, clausesOk, promisesOf, gatherSize};
+ghost use Rattle.web.specs.Web.{Storable, Room};
+ghost use Rattle.distances.specs.Follow.{Followable};
+ghost use Rattle.steer.specs.Stored.{Onward, Stores, BestAt, Lookable, NearestCell, cellAt};
 ghost use Rattle.steer.specs.Walk.{Ready, Told, aimsOf, Zero, Wiped, Ground, Rows, Laid, FirstPlace, passesAt, rowAt, Picked, Stepped, FirstAt, Pickable};
 ghost use Rattle.steer.specs.Walk.{bit, Ended, Known, BackFrom, Written};
 
@@ -85,28 +89,78 @@ fn count_aims(book: &[u32]) -> usize
 }
 
 // Row q, for each promise q.
-fn promise_rows(book: &[u32], table: &[u32], words: &[u32], dist: &mut [u16], k: usize, p: usize)
-    requires { ⌜ Ground (now book) (now table) (now words) k × (p ≡ promisesOf (now book)) × (1 ≤ p) × (p * k ≤ length (now dist)) ⌝ }
+fn promise_rows(
+    book: &[u32],
+    table: &[u32],
+    words: &[u32],
+    dist: &mut [u16],
+    k: usize,
+    p: usize,
+    stored: bool,
+    starts: &[u16],
+    ends: &[u16],
+    cells: &[u16],
+    queue: &mut [u16],
+)
+    requires { ⌜ Ground (now book) (now table) (now words) k × (p ≡ promisesOf (now book)) × (1 ≤ p) × (p * k ≤ length (now dist))
+        × Followable (now book) (now table) k stored (now starts) (now ends) (now cells) (now queue) ⌝ }
     ensures { λ _. ⌜ Rows (now (book .entry)) (now (table .entry)) k (now (dist .entry)) (now (dist .exit)) ⌝ }
 {
     let mut q = 0;
     while q < p {
         let from = q * k;
-        distances::distances(book, q, table, words, k, dist, from);
+        distances::distances(
+            book,
+            q,
+            table,
+            words,
+            k,
+            stored,
+            starts,
+            ends,
+            cells,
+            queue,
+            dist,
+            from,
+        );
         q += 1;
     }
 }
 
 // All rows: row q has the distances from the first k places to aim q.
-fn rows(book: &[u32], table: &[u32], words: &[u32], dist: &mut [u16], k: usize)
-    requires { ⌜ Ground (now book) (now table) (now words) k × (aimsOf (bookSystem (now book)) * k ≤ length (now dist)) ⌝ }
+fn rows(
+    book: &[u32],
+    table: &[u32],
+    words: &[u32],
+    dist: &mut [u16],
+    k: usize,
+    stored: bool,
+    starts: &[u16],
+    ends: &[u16],
+    cells: &[u16],
+    queue: &mut [u16],
+)
+    requires { ⌜ Ground (now book) (now table) (now words) k × (aimsOf (bookSystem (now book)) * k ≤ length (now dist))
+        × Followable (now book) (now table) k stored (now starts) (now ends) (now cells) (now queue) ⌝ }
     ensures { λ _. ⌜ Rows (now (book .entry)) (now (table .entry)) k (now (dist .entry)) (now (dist .exit)) ⌝ }
 {
     let p = rules::promises(book);
     if p == 0 {
         no_distances(dist, k);
     } else {
-        promise_rows(book, table, words, dist, k, p);
+        promise_rows(
+            book,
+            table,
+            words,
+            dist,
+            k,
+            p,
+            stored,
+            starts,
+            ends,
+            cells,
+            queue,
+        );
     }
 }
 
@@ -257,17 +311,86 @@ fn pick(
     nearest(table, dist, clauses, count, from, k)
 }
 
-// From one moment to the next.
-fn step(book: &[u32], table: &[u32], dist: &[u16], k: usize, place: usize, aim: usize) -> Moment
+// The best next place of `place` for that aim, sought among all places.
+fn seek(book: &[u32], table: &[u32], dist: &[u16], k: usize, place: usize, aim: usize) -> usize
     requires { ⌜ Laid (now book) (now table) (now dist) k × (place < k) × (aim < aimsOf (bookSystem (now book))) ⌝ }
+    ensures { λ r. ⌜ BestAt (bookSystem (now (book .entry))) (now (table .entry)) k place aim r ⌝ }
+{
+    let s = table[place];
+    let mut clauses = [0u32; 510];
+    let count = rules::gather_next(book, s, &mut clauses);
+    let from = aim * k;
+    pick(table, dist, &clauses, count, from, k, place)
+}
+
+// A stored number, to count with.
+fn wide(x: u16) -> usize
+    ensures { λ r. ⌜ r ≡ x ⌝ }
+{
+    x as usize
+}
+
+// The first of the nearest places in the stored row of `place`.
+fn nearest_in_row(
+    dist: &[u16],
+    from: usize,
+    starts: &[u16],
+    ends: &[u16],
+    cells: &[u16],
+    place: usize,
+) -> usize
+    requires { ⌜ Lookable (now dist) from (now starts) (now ends) (now cells) place ⌝ }
+    ensures { λ r. ⌜ NearestCell (cellAt (now (cells .entry))) (rowAt (now (dist .entry)) from)
+        (getD (now (starts .entry)) place 0) (getD (now (ends .entry)) place 0) r ⌝ }
+{
+    let start = wide(starts[place]);
+    let end = ends[place] as usize;
+    let mut best: usize = 0;
+    let mut least: u16 = 65535;
+    let mut e = start;
+    while e < end {
+        let x = cells[e] as usize;
+        let at = from + x;
+        let near = dist[at];
+        if near < least {
+            best = x;
+            least = near;
+            e += 1;
+        } else {
+            e += 1;
+        }
+    }
+    best
+}
+
+// From one moment to the next: where the moves are stored, only the row of `place` is looked at.
+fn step(
+    book: &[u32],
+    table: &[u32],
+    dist: &[u16],
+    k: usize,
+    place: usize,
+    aim: usize,
+    stored: bool,
+    starts: &[u16],
+    ends: &[u16],
+    cells: &[u16],
+) -> Moment
+    requires { ⌜ Laid (now book) (now table) (now dist) k × (place < k) × (aim < aimsOf (bookSystem (now book)))
+        × Onward (now book) (now table) k stored (now starts) (now ends) (now cells) ⌝ }
     ensures { λ r. ⌜ Stepped (bookSystem (now (book .entry))) (now (table .entry)) k place aim (r .place) (r .aim) ⌝ }
 {
     let s = table[place];
     let next = passed(book, aim, s);
-    let mut clauses = [0u32; 510];
-    let count = rules::gather_next(book, s, &mut clauses);
-    let from = next * k;
-    let best = pick(table, dist, &clauses, count, from, k, place);
+    if stored {
+        let from = next * k;
+        let near = nearest_in_row(dist, from, starts, ends, cells, place);
+        return Moment {
+            place: near,
+            aim: next,
+        };
+    }
+    let best = seek(book, table, dist, k, place, next);
     Moment {
         place: best,
         aim: next,
@@ -277,15 +400,37 @@ fn step(book: &[u32], table: &[u32], dist: &[u16], k: usize, place: usize, aim: 
 // ---- the two walks
 
 // Walks to the first moment whose pair of state and aim was met before.
-fn find_end(book: &[u32], table: &[u32], words: &mut [u32], dist: &[u16], k: usize) -> End
-    requires { ⌜ Laid (now book) (now table) (now dist) k × (k ≤ length (now words)) × Zero k (now words) ⌝ }
+fn find_end(
+    book: &[u32],
+    table: &[u32],
+    words: &mut [u32],
+    dist: &[u16],
+    k: usize,
+    stored: bool,
+    starts: &[u16],
+    ends: &[u16],
+    cells: &[u16],
+) -> End
+    requires { ⌜ Laid (now book) (now table) (now dist) k × (k ≤ length (now words)) × Zero k (now words)
+        × Onward (now book) (now table) k stored (now starts) (now ends) (now cells) ⌝ }
     ensures { λ r. ⌜ Ended (now (book .entry)) (now (table .entry)) (now (words .entry)) (now (words .exit)) k (r .b) (r .place) (r .aim) ⌝ }
 {
     let mut place = first_place(book, table, k);
     let mut aim: usize = 0;
     let mut b: usize = 0;
     while !met(words[place], aim) {
-        let next = step(book, table, dist, k, place, aim);
+        let next = step(
+            book,
+            table,
+            dist,
+            k,
+            place,
+            aim,
+            stored,
+            starts,
+            ends,
+            cells,
+        );
         words[place] = mark(words[place], aim);
         place = next.place;
         aim = next.aim;
@@ -316,8 +461,13 @@ fn write_run(
     b: usize,
     last: usize,
     goal: usize,
+    stored: bool,
+    starts: &[u16],
+    ends: &[u16],
+    cells: &[u16],
 ) -> usize
-    requires { ⌜ Known (now book) (now table) (now dist) (now run) k b last goal ⌝ }
+    requires { ⌜ Known (now book) (now table) (now dist) (now run) k b last goal
+        × Onward (now book) (now table) k stored (now starts) (now ends) (now cells) ⌝ }
     ensures { λ r. ⌜ Written (bookSystem (now (book .entry))) (now (table .entry)) b last goal (now (run .entry)) (now (run .exit)) r ⌝ }
 {
     let mut place = first_place(book, table, k);
@@ -327,7 +477,18 @@ fn write_run(
     while i < b {
         run[i] = table[place];
         a = back_from(a, i, place, last, aim, goal);
-        let next = step(book, table, dist, k, place, aim);
+        let next = step(
+            book,
+            table,
+            dist,
+            k,
+            place,
+            aim,
+            stored,
+            starts,
+            ends,
+            cells,
+        );
         place = next.place;
         aim = next.aim;
         i += 1;
@@ -343,41 +504,149 @@ fn walk(
     run: &mut [u32],
     dist: &mut [u16],
     k: usize,
+    stored: bool,
+    starts: &[u16],
+    ends: &[u16],
+    cells: &[u16],
+    starts_back: &[u16],
+    ends_back: &[u16],
+    cells_back: &[u16],
+    queue: &mut [u16],
 ) -> Steps
-    requires { ⌜ Ready (now book) (now table) (now words) k × (aimsOf (bookSystem (now book)) * k ≤ length (now dist)) ⌝ }
+    requires { ⌜ Ready (now book) (now table) (now words) k × (aimsOf (bookSystem (now book)) * k ≤ length (now dist))
+        × Onward (now book) (now table) k stored (now starts) (now ends) (now cells)
+        × Followable (now book) (now table) k stored (now «starts_back») (now «ends_back») (now «cells_back») (now queue) ⌝ }
     ensures { λ r. ⌜ Told (now (book .entry)) (now (words .entry)) (now (words .exit)) (now (run .entry)) (now (run .exit)) (r .a) (r .b) ⌝ }
 {
     wipe(words, k);
-    rows(book, table, words, dist, k);
-    let end = find_end(book, table, words, dist, k);
+    rows(
+        book,
+        table,
+        words,
+        dist,
+        k,
+        stored,
+        starts_back,
+        ends_back,
+        cells_back,
+        queue,
+    );
+    let end = find_end(book, table, words, dist, k, stored, starts, ends, cells);
     let b = end.b;
     let last = end.place;
     let goal = end.aim;
     let long = b as u32;
     if b <= run.len() {
-        let a = write_run(book, table, run, dist, k, b, last, goal);
+        let a = write_run(
+            book,
+            table,
+            run,
+            dist,
+            k,
+            b,
+            last,
+            goal,
+            stored,
+            starts,
+            ends,
+            cells,
+        );
         let back = a as u32;
         return Steps { a: back, b: long };
     }
     Steps { a: 0, b: long }
 }
 
-// With room for few distances, so that small sheets stay quick.
+// With room for few distances and for no moves, so that small sheets stay quick.
 fn walk_small(book: &[u32], table: &[u32], words: &mut [u32], run: &mut [u32], k: usize) -> Steps
     requires { ⌜ Ready (now book) (now table) (now words) k × (aimsOf (bookSystem (now book)) * k ≤ 8192) ⌝ }
     ensures { λ r. ⌜ Told (now (book .entry)) (now (words .entry)) (now (words .exit)) (now (run .entry)) (now (run .exit)) (r .a) (r .b) ⌝ }
 {
     let mut dist = [0u16; 8192];
-    walk(book, table, words, run, &mut dist, k)
+    let mut queue = [0u16; 1];
+    let none = [0u16; 1];
+    let row = &none[..0];
+    walk(
+        book,
+        table,
+        words,
+        run,
+        &mut dist,
+        k,
+        false,
+        row,
+        row,
+        row,
+        row,
+        row,
+        row,
+        &mut queue,
+    )
 }
 
-// With room for as many distances as there can be: 16 rows of 16,384.
+// Stores the moves of the first k places, forth and back; whether they had room.
+fn store(
+    book: &[u32],
+    table: &[u32],
+    k: usize,
+    starts: &mut [u16],
+    ends: &mut [u16],
+    cells: &mut [u16],
+    starts_back: &mut [u16],
+    ends_back: &mut [u16],
+    cells_back: &mut [u16],
+) -> bool
+    requires { ⌜ Storable (now book) (now table) k × Room k (now starts) (now ends) (now cells)
+        × Room k (now «starts_back») (now «ends_back») (now «cells_back») ⌝ }
+    ensures { λ b. ⌜ Stores (now (book .entry)) (now (table .entry)) k b (now (starts .exit)) (now (ends .exit)) (now (cells .exit))
+        (now («starts_back» .exit)) (now («ends_back» .exit)) (now («cells_back» .exit)) ⌝ }
+{
+    if web::forth(book, table, k, starts, ends, cells) {
+        return web::back(k, starts, ends, cells, starts_back, ends_back, cells_back);
+    }
+    false
+}
+
+// With room for as many distances as there can be, 16 rows of 16,384, and for the moves.
 fn walk_large(book: &[u32], table: &[u32], words: &mut [u32], run: &mut [u32], k: usize) -> Steps
     requires { ⌜ Ready (now book) (now table) (now words) k ⌝ }
     ensures { λ r. ⌜ Told (now (book .entry)) (now (words .entry)) (now (words .exit)) (now (run .entry)) (now (run .exit)) (r .a) (r .b) ⌝ }
 {
     let mut dist = [0u16; 262144];
-    walk(book, table, words, run, &mut dist, k)
+    let mut starts = [0u16; 16384];
+    let mut ends = [0u16; 16384];
+    let mut cells = [0u16; 32768];
+    let mut starts_back = [0u16; 16384];
+    let mut ends_back = [0u16; 16384];
+    let mut cells_back = [0u16; 32768];
+    let mut queue = [0u16; 16384];
+    let stored = store(
+        book,
+        table,
+        k,
+        &mut starts,
+        &mut ends,
+        &mut cells,
+        &mut starts_back,
+        &mut ends_back,
+        &mut cells_back,
+    );
+    walk(
+        book,
+        table,
+        words,
+        run,
+        &mut dist,
+        k,
+        stored,
+        &starts,
+        &ends,
+        &cells,
+        &starts_back,
+        &ends_back,
+        &cells_back,
+        &mut queue,
+    )
 }
 
 // Writes the sample run's states into `run` if they fit; a and b. The first k places of the table list the livable states.

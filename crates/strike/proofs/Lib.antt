@@ -1,4 +1,6 @@
 pub mod Answers
+pub mod Rows
+pub mod Storing
 pub mod Passes
 pub mod Fallen
 pub mod Marks

@@ -11,10 +11,10 @@ use lib.ListN.{length, getD, set, length-set}
 use lib.Seq.{getD-set-same, getD-set-other}
 use Rattle.meaning.specs.Strike.{SavedBy}
 use Rattle.rules.specs.Book.{bookSystem}
+use Rattle.web.specs.Web.{To}
 use Rattle.distances.specs.Far.{Live}
 use Rattle.strike.specs.Phases.{
   free,
-  To,
   Counts,
   Points,
   fresh,

@@ -9,11 +9,14 @@ use native.Mathlib.Nat.{suc-mul, zero-mul}
 use native.Mathlib.Omega.{arith}
 use lib.Arith.{digits-div, digits-mod}
 use lib.Dec.{eqb}
-use lib.ListN.{length, getD}
+use lib.ListN.{length, getD, take}
+use lib.Seq.{length-take-le, getD-take}
 use borrow.Author.Tests.{eqb-true, eqb-false}
 use Rattle.meaning.specs.System.{System}
 use Rattle.meaning.specs.Strike.{reasonOf, wordOf, Left}
+use Rattle.meaning.proofs.Lists.{rising-apart}
 use Rattle.rules.specs.Book.{bookSystem, promisesOf}
+use Rattle.web.specs.Web.{Storable}
 use Rattle.distances.proofs.Moves.{reached-lawful}
 use Rattle.strike.specs.Marked.{Word, unstruck, Marked}
 use Rattle.strike.specs.Phases.{Strikable, free, fresh, Pointers, Phased, Told, Unphased, Striking, Stricken}
@@ -97,6 +100,23 @@ module _ (book table words₀ scratch₀ : List ℕ) (r : ℕ) (asked : Strikabl
     few = asked .few;
     lawful = λ i h. reached-lawful book (getD table i 0) (place-reachable S table r (asked .in-table) (asked .lists) few i h);
   }
+
+  -- The moves between them can be stored.
+  pub strikable-storable : Storable book table r
+  strikable-storable = record {
+    shaped = asked .shaped;
+    in-table = asked .in-table;
+    few = asked .few;
+    lawful = strikable-told .lawful;
+    rises = λ i j h k. rising-apart _<_ (λ a b c p q. omega arith) (λ a p. omega arith) {f = λ m. getD table m 0} {n = r} next i j h k;
+  }
+    where
+      next : (i : ℕ) → suc i < r → getD table i 0 < getD table (suc i) 0
+      next i h =
+          let long : length (take r table) ≡ r = length-take-le r table (asked .in-table) in
+          let a : i < r = omega arith in
+          let low : getD (take r table) i 0 < getD (take r table) (suc i) 0 = asked .lists .rises i (omega arith) in
+          rw (getD-take r table i 0 a, getD-take r table (suc i) 0 h) at low
 
   -- Where every word is 0, the first phase comes next,
   pub running-none : (words : List ℕ) → length words ≡ length words₀ → ((i : ℕ) → i < r → getD words i 0 ≡ 0) → Running book table words₀ r words r 32 0 0

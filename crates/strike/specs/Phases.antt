@@ -9,6 +9,7 @@ use lib.ListN.{length, getD, take}
 use Rattle.meaning.specs.System.{System, Reachable, Lists}
 use Rattle.meaning.specs.Strike.{SavedBy}
 use Rattle.rules.specs.Book.{Shaped, bookLawful, bookSystem}
+use Rattle.web.specs.Web.{To}
 use Rattle.distances.specs.Far.{Live, far}
 use Rattle.distances.specs.Layers.{total}
 use Rattle.strike.specs.Marked.{Marked}
@@ -37,10 +38,6 @@ freeAt words i = 1 - getD words i 0
 
 abbrev pub free : List ℕ → ℕ → ℕ
 free words r = total (freeAt words) r
-
--- a move leads from place i to place m
-abbrev pub To : (book table : List ℕ) (i m : ℕ) → Type 0
-To book table i m = bookSystem book .Move (getD table i 0) (getD table m 0)
 
 -- A place's pointer: 0, or one more than the place of a next state, below which no next state is unstruck.
 pub data Points (book table words : List ℕ) (r i q : ℕ) : Type 0 where

@@ -1,5 +1,6 @@
 // Striking: the words of the strike list's rounds and reasons, for every reachable state. Phase by phase, reason 0 and then each promise,
-// round after round, until as many phases as there are reasons have struck nothing.
+// round after round, until as many phases as there are reasons have struck nothing. Where there are many states their moves are stored first,
+// forth and back, so that a phase follows them instead of testing pairs of states.
 
 ghost use mathlib.Core.Path.{_≡_};
 ghost use mathlib.Core.Bool.{true};
@@ -9,6 +10,8 @@ ghost use lib.ListN.{length, getD};
 ghost use Rattle.rules.specs.Book.{gatherSize, clausesOk, bookLawful, promisesOf};
 ghost use Rattle.strike.specs.Phases.{Strikable, Stricken, Striking, PhaseDone, Told, Unphased, Zeros, Wiped};
 ghost use Rattle.strike.specs.Phases.{Says, Counts, Sought, Pointing, Pending, FarFree, Fell};
+ghost use Rattle.strike.specs.Stored.{Readable, SoughtInRow, Stored, StoredRows};
+ghost use Rattle.web.specs.Web.{Forth, Storable, Room};
 
 // Whether a word counts as unstruck in the phase that gives `word`: what fell in this very phase still does.
 fn counts(x: u32, word: u32) -> bool
@@ -56,6 +59,70 @@ fn seek(
     0
 }
 
+// Whether place j is `lo` or above and counts.
+fn stands(words: &[u32], j: usize, lo: usize, word: u32) -> bool
+    requires { ⌜ j < length (now words) ⌝ }
+    ensures { λ b. ⌜ Says ((lo ≤ j) × Counts word (getD (now (words .entry)) j 0)) b ⌝ }
+{
+    if j < lo {
+        return false;
+    }
+    counts(words[j], word)
+}
+
+// The place after the first cell of place i's row that is `lo` or above and counts; 0 if there is none.
+fn seek_row(
+    words: &[u32],
+    i: usize,
+    word: u32,
+    lo: usize,
+    starts: &[u16],
+    ends: &[u16],
+    cells: &[u16],
+) -> usize
+    requires { ⌜ Readable i (now words) (now starts) (now ends) (now cells) ⌝ }
+    ensures { λ q. ⌜ SoughtInRow i (now (words .entry)) word lo (now (starts .entry)) (now (ends .entry)) (now (cells .entry)) q ⌝ }
+{
+    let end = ends[i] as usize;
+    let mut e = starts[i] as usize;
+    while e < end {
+        let j = cells[e] as usize;
+        if stands(words, j, lo, word) {
+            return j + 1;
+        }
+        e += 1;
+    }
+    0
+}
+
+// The place after the first one from `lo` on that counts and that place i moves to, looked for in its row where the moves are stored; 0 if
+// there is none.
+fn seek_from(
+    book: &[u32],
+    table: &[u32],
+    words: &[u32],
+    r: usize,
+    i: usize,
+    word: u32,
+    lo: usize,
+    stored: bool,
+    starts: &[u16],
+    ends: &[u16],
+    cells: &[u16],
+    clauses: &mut [u32],
+) -> usize
+    requires { ⌜ Told (now book) (now table) r × (r ≤ length (now words)) × (i < r) × (length (now clauses) ≡ gatherSize)
+        × (stored ≡ true → Forth (now book) (now table) r (now starts) (now ends) (now cells)) ⌝ }
+    ensures { λ q. ⌜ Sought (now (book .entry)) (now (table .entry)) (now (words .entry)) word r (getD (now (table .entry)) i 0) lo q
+        × (length (now (clauses .exit)) ≡ gatherSize) ⌝ }
+{
+    if stored {
+        return seek_row(words, i, word, lo, starts, ends, cells);
+    }
+    let s = table[i];
+    seek(book, s, table, words, r, word, lo, clauses)
+}
+
 // Whether the place that a pointer names still counts.
 fn points(words: &[u32], q: usize, word: u32) -> bool
     requires { ⌜ q ≤ length (now words) ⌝ }
@@ -90,9 +157,14 @@ fn dead_ends(
     scratch: &mut [u32],
     r: usize,
     word: u32,
+    stored: bool,
+    starts: &[u16],
+    ends: &[u16],
+    cells: &[u16],
     clauses: &mut [u32],
 ) -> usize
-    requires { ⌜ Striking (now book) (now table) (now words) (now scratch) r word × (length (now clauses) ≡ gatherSize) ⌝ }
+    requires { ⌜ Striking (now book) (now table) (now words) (now scratch) r word × (length (now clauses) ≡ gatherSize)
+        × (stored ≡ true → Forth (now book) (now table) r (now starts) (now ends) (now cells)) ⌝ }
     ensures { λ n. ⌜ PhaseDone (now (book .entry)) (now (table .entry)) r 0 word (now (words .entry)) (now (words .exit)) (now (scratch .entry))
         (now (scratch .exit)) n × (length (now (clauses .exit)) ≡ gatherSize) ⌝ }
 {
@@ -101,8 +173,20 @@ fn dead_ends(
     while i < r {
         let lo = scratch[i] as usize;
         if pending(words, i, lo, word) {
-            let s = table[i];
-            let q = seek(book, s, table, words, r, word, lo, clauses);
+            let q = seek_from(
+                book,
+                table,
+                words,
+                r,
+                i,
+                word,
+                lo,
+                stored,
+                starts,
+                ends,
+                cells,
+                clauses,
+            );
             if q == 0 {
                 words[i] = word;
                 n += 1;
@@ -146,19 +230,54 @@ fn phase(
     r: usize,
     reason: usize,
     word: u32,
+    stored: bool,
+    starts: &[u16],
+    ends: &[u16],
+    cells: &[u16],
+    starts_back: &[u16],
+    ends_back: &[u16],
+    cells_back: &[u16],
+    queue: &mut [u16],
     clauses: &mut [u32],
     dist: &mut [u16],
 ) -> usize
     requires { ⌜ Striking (now book) (now table) (now words) (now scratch) r word × (length (now clauses) ≡ gatherSize)
-        × (length (now dist) ≡ 16384) × (reason ≤ promisesOf (now book)) ⌝ }
+        × (r ≤ length (now dist)) × (reason ≤ promisesOf (now book))
+        × Stored (now book) (now table) r stored (now starts) (now ends) (now cells) (now «starts_back») (now «ends_back») (now «cells_back») (now queue) ⌝ }
     ensures { λ n. ⌜ PhaseDone (now (book .entry)) (now (table .entry)) r reason word (now (words .entry)) (now (words .exit)) (now (scratch .entry))
-        (now (scratch .exit)) n × (length (now (clauses .exit)) ≡ gatherSize) × (length (now (dist .exit)) ≡ 16384) ⌝ }
+        (now (scratch .exit)) n × (length (now (clauses .exit)) ≡ gatherSize) × (length (now (dist .exit)) ≡ length (now (dist .entry)))
+        × (length (now (queue .exit)) ≡ length (now (queue .entry))) ⌝ }
 {
     if reason == 0 {
-        return dead_ends(book, table, words, scratch, r, word, clauses);
+        return dead_ends(
+            book,
+            table,
+            words,
+            scratch,
+            r,
+            word,
+            stored,
+            starts,
+            ends,
+            cells,
+            clauses,
+        );
     }
     let k = reason - 1;
-    distances::distances(book, k, table, words, r, dist, 0);
+    distances::distances(
+        book,
+        k,
+        table,
+        words,
+        r,
+        stored,
+        starts_back,
+        ends_back,
+        cells_back,
+        queue,
+        dist,
+        0,
+    );
     fall(words, dist, r, word)
 }
 
@@ -215,11 +334,20 @@ fn rounds(
     words: &mut [u32],
     scratch: &mut [u32],
     r: usize,
+    stored: bool,
+    starts: &[u16],
+    ends: &[u16],
+    cells: &[u16],
+    starts_back: &[u16],
+    ends_back: &[u16],
+    cells_back: &[u16],
+    queue: &mut [u16],
     clauses: &mut [u32],
     dist: &mut [u16],
 ) -> usize
     requires { ⌜ Strikable (now book) (now table) (now words) (now scratch) r × Zeros (now words) r × Zeros (now scratch) r
-        × (length (now clauses) ≡ gatherSize) × (length (now dist) ≡ 16384) ⌝ }
+        × (length (now clauses) ≡ gatherSize) × (r ≤ length (now dist))
+        × Stored (now book) (now table) r stored (now starts) (now ends) (now cells) (now «starts_back») (now «ends_back») (now «cells_back») (now queue) ⌝ }
     ensures { λ left. ⌜ Stricken (now (book .entry)) (now (table .entry)) r (now (words .entry)) (now (words .exit)) (now (scratch .entry))
         (now (scratch .exit)) left ⌝ }
 {
@@ -230,13 +358,141 @@ fn rounds(
     let mut quiet: usize = 0;
     while quiet <= p {
         let word = base + (reason as u32);
-        let n = phase(book, table, words, scratch, r, reason, word, clauses, dist);
+        let n = phase(
+            book,
+            table,
+            words,
+            scratch,
+            r,
+            reason,
+            word,
+            stored,
+            starts,
+            ends,
+            cells,
+            starts_back,
+            ends_back,
+            cells_back,
+            queue,
+            clauses,
+            dist,
+        );
         left -= n;
         quiet = rested(quiet, n);
         base = base_after(base, reason, p);
         reason = reason_after(reason, p);
     }
     left
+}
+
+// Stores the moves of the table's first r states, forth and back; whether there was room for them.
+fn store(
+    book: &[u32],
+    table: &[u32],
+    r: usize,
+    starts: &mut [u16],
+    ends: &mut [u16],
+    cells: &mut [u16],
+    starts_back: &mut [u16],
+    ends_back: &mut [u16],
+    cells_back: &mut [u16],
+) -> bool
+    requires { ⌜ Storable (now book) (now table) r × Room r (now starts) (now ends) (now cells)
+        × Room r (now «starts_back») (now «ends_back») (now «cells_back») ⌝ }
+    ensures { λ b. ⌜ StoredRows (now (book .entry)) (now (table .entry)) r b (now (starts .exit)) (now (ends .exit)) (now (cells .exit))
+        (now («starts_back» .exit)) (now («ends_back» .exit)) (now («cells_back» .exit)) ⌝ }
+{
+    if web::forth(book, table, r, starts, ends, cells) {
+        return web::back(r, starts, ends, cells, starts_back, ends_back, cells_back);
+    }
+    false
+}
+
+// Strikes few states, from words and pointers that are all 0: storing their moves would cost more than it saves.
+fn strike_few(
+    book: &[u32],
+    table: &[u32],
+    words: &mut [u32],
+    scratch: &mut [u32],
+    r: usize,
+) -> usize
+    requires { ⌜ Strikable (now book) (now table) (now words) (now scratch) r × Zeros (now words) r × Zeros (now scratch) r × (r < 256) ⌝ }
+    ensures { λ left. ⌜ Stricken (now (book .entry)) (now (table .entry)) r (now (words .entry)) (now (words .exit)) (now (scratch .entry))
+        (now (scratch .exit)) left ⌝ }
+{
+    let none = [0u16; 1];
+    let empty = &none[..0];
+    let mut queue = [0u16; 1];
+    let mut clauses = [0u32; 510];
+    let mut dist = [0u16; 256];
+    rounds(
+        book,
+        table,
+        words,
+        scratch,
+        r,
+        false,
+        empty,
+        empty,
+        empty,
+        empty,
+        empty,
+        empty,
+        &mut queue,
+        &mut clauses,
+        &mut dist,
+    )
+}
+
+// Strikes many states, from words and pointers that are all 0, along their stored moves if there is room for these.
+fn strike_many(
+    book: &[u32],
+    table: &[u32],
+    words: &mut [u32],
+    scratch: &mut [u32],
+    r: usize,
+) -> usize
+    requires { ⌜ Strikable (now book) (now table) (now words) (now scratch) r × Zeros (now words) r × Zeros (now scratch) r ⌝ }
+    ensures { λ left. ⌜ Stricken (now (book .entry)) (now (table .entry)) r (now (words .entry)) (now (words .exit)) (now (scratch .entry))
+        (now (scratch .exit)) left ⌝ }
+{
+    let mut starts = [0u16; 16384];
+    let mut ends = [0u16; 16384];
+    let mut cells = [0u16; 32768];
+    let mut starts_back = [0u16; 16384];
+    let mut ends_back = [0u16; 16384];
+    let mut cells_back = [0u16; 32768];
+    let mut queue = [0u16; 16384];
+    let mut clauses = [0u32; 510];
+    let mut dist = [0u16; 16384];
+    let stored = store(
+        book,
+        table,
+        r,
+        &mut starts,
+        &mut ends,
+        &mut cells,
+        &mut starts_back,
+        &mut ends_back,
+        &mut cells_back,
+    );
+    rounds(
+        book,
+        table,
+        words,
+        scratch,
+        r,
+        stored,
+        &starts,
+        &ends,
+        &cells,
+        &starts_back,
+        &ends_back,
+        &cells_back,
+        &mut queue,
+        &mut clauses,
+        &mut dist,
+    )
 }
 
 // Gives each of the table's first r states, which are all reachable states, its word: 0 if it is livable, or else 32 times the round plus
@@ -252,9 +508,10 @@ pub fn strike(
     ensures { λ left. ⌜ Stricken (now (book .entry)) (now (table .entry)) r (now (words .entry)) (now (words .exit)) (now (scratch .entry))
         (now (scratch .exit)) left ⌝ }
 {
-    let mut clauses = [0u32; 510];
-    let mut dist = [0u16; 16384];
     wipe(words, r);
     wipe(scratch, r);
-    rounds(book, table, words, scratch, r, &mut clauses, &mut dist)
+    if r < 256 {
+        return strike_few(book, table, words, scratch, r);
+    }
+    strike_many(book, table, words, scratch, r)
 }

@@ -1,48 +1,40 @@
--- `distances::distances` meets its contract: the part is measured, and put back. Assumes nothing.
-use native.Mathlib.Omega.{arith}
-use Rattle.distances.proofs.Turns.{near-measured, part-long}
+-- `distances::distances` meets its contract: either method does. Assumes nothing.
+use mathlib.Core.Path.{refl}
 use Rattle.distances.proofs.distances.Statement.{statement}
 use Rattle.distances.proofs.distances.Tie as tie
 
-add-end : tie.Need-add-end
-add-end c = omega arith
+follow-requires : tie.Need-follow-requires
+follow-requires c κs =
+    let entry = c .before .before .before .before .before .before .before .before .before .before .before in
+    let stored = entry .pre .2 (c .before .before .if1 .taken) in
+    (entry .pre .0, entry .pre .1, stored .0, stored .1)
 
-mul-measure : tie.Need-mul-measure
-mul-measure c = omega arith
-
-sub-measure : tie.Need-sub-measure
-sub-measure c = omega arith
-
-part-measure-start : tie.Need-part-measure-start
-part-measure-start c = omega arith
-
-part-measure-end : tie.Need-part-measure-end
-part-measure-end c = omega arith
-
-measure-requires : tie.Need-measure-requires
-measure-requires c κs = (c .before .before .before .before .before .pre .0, part-long _ _ _ (c .before .before .before .before .before .pre .1))
+by-tests-requires : tie.Need-by-tests-requires
+by-tests-requires c κs = let entry = c .before .before .before .before .before .before .before .before .before .before in (entry .pre .0, entry .pre .1)
 
 same-length : tie.Need-same-length
-same-length c =
-    let at-measure = c .before .before in
-    let entry = at-measure .before .before .before .before .before .before in
-    near-measured _ _ _ _ _ _ _ _ (entry .pre .1) (at-measure .measure .ensures) .long
+same-length c = c .before .before .before .before .follow .ensures .1
+
+same-length-2 : tie.Need-same-length-2
+same-length-2 c = c .before .before .before .before .follow .ensures .0 .long
 
 returns : tie.Need-returns
-returns c =
-    let at-measure = c .before .before in
-    let entry = at-measure .before .before .before .before .before .before in
-    near-measured _ _ _ _ _ _ _ _ (entry .pre .1) (at-measure .measure .ensures)
+returns c = c .before .before .before .before .follow .ensures
+
+same-length-3 : tie.Need-same-length-3
+same-length-3 c = c .before .before .by-tests .ensures .long
+
+returns-2 : tie.Need-returns-2
+returns-2 c = (c .before .before .by-tests .ensures, refl)
 
 pub distances-spec : {M : Type 1} → statement M
 distances-spec =
     tie.close
     (tie.spec
-    add-end
-    mul-measure
-    sub-measure
-    part-measure-start
-    part-measure-end
-    measure-requires
+    follow-requires
+    by-tests-requires
     same-length
-    returns)
+    same-length-2
+    returns
+    same-length-3
+    returns-2)

@@ -82,7 +82,7 @@ loop-again c =
     )
 
 same-length-2 : tie.Need-same-length-2 Inv-loop μ-loop
-same-length-2 c = c .before .loop .inv .0 .so-far .long ∙ sym (c .before .before .before .before .before .before .before .before .before .before .pre .1)
+same-length-2 c = c .before .loop .inv .0 .so-far .sure .long ∙ sym (c .before .before .before .before .before .before .before .before .before .before .pre .1)
 
 returns-2 : tie.Need-returns-2 Inv-loop μ-loop
 returns-2 c =

@@ -17,11 +17,12 @@ no-distances-requires c κs = search needs
 
 promise-rows-requires : tie.Need-promise-rows-requires
 promise-rows-requires c κs =
-    let start = c .before .before .before .before .before .before .before in (
+    let start = c .before .before .before .before .before .before .before .before .before .before .before .before in (
       start .pre .0,
-      c .before .before .promises .ensures,
+      c .before .before .before .promises .ensures,
       omega arith,
       subst (λ (y : ℕ). y * start .args .k ≤ length (start .args .dist .now)) (omega (arith, promises-are (start .args .book .now))) (start .pre .1),
+      start .pre .2,
     )
 
 same-length : tie.Need-same-length
@@ -30,7 +31,7 @@ same-length c = search needs
 returns : tie.Need-returns
 returns c =
     let at-no-distances = c .before .before in
-    let start = at-no-distances .before .before .before .before .before .before .before .before in
+    let start = at-no-distances .before .before .before .before .before .before .before .before .before .before .before .before in
     record {
       rowed = rowed-of-none (start .pre .0 .livables) (omega (arith, promises-are (start .args .book .now)))
           (at-no-distances .no-distances .ensures .zero-below);
@@ -39,6 +40,9 @@ returns c =
 
 same-length-2 : tie.Need-same-length-2
 same-length-2 c = search needs
+
+same-length-3 : tie.Need-same-length-3
+same-length-3 c = search needs
 
 returns-2 : tie.Need-returns-2
 returns-2 c = search needs
@@ -53,4 +57,5 @@ rows-spec =
     same-length
     returns
     same-length-2
+    same-length-3
     returns-2)

@@ -1,10 +1,8 @@
--- `steer::step` meets its contract: the aim passes, and what the scan picks is the best next state. Assumes nothing.
-use mathlib.Core.Path.{refl}
+-- `steer::step` meets its contract: the aim passes, and what the row or the scan gives is the best next state. Assumes nothing.
 use native.Mathlib.Omega.{arith}
 use borrow.Author.Needs.{needs}
-use lib.ListN.{getD}
 use Rattle.steer.proofs.Distances.{row-within}
-use Rattle.steer.proofs.Nexts.{best-picked, next-not-nearer}
+use Rattle.steer.proofs.Stored.{best-in-row, row-lookable}
 use Rattle.steer.proofs.step.Statement.{statement}
 use Rattle.steer.proofs.step.Tie as tie
 
@@ -17,46 +15,39 @@ shared-slice-read-s c = search needs
 passed-requires : tie.Need-passed-requires
 passed-requires c κs = search needs
 
-slice-aggregate-gather-next : tie.Need-slice-aggregate-gather-next
-slice-aggregate-gather-next c = search needs
-
-gather-next-requires : tie.Need-gather-next-requires
-gather-next-requires c κs = search needs
-
 mul-from : tie.Need-mul-from
 mul-from c =
-    let at-passed = c .before .before .before in
-    let start = at-passed .before .before .before .before .before in
+    let at-passed = c .before in
+    let start = at-passed .before .before .before .before .before .before .before .before in
     omega (arith, row-within (start .pre .0) (at-passed .passed .result) (at-passed .passed .ensures .1))
 
-slice-aggregate-pick : tie.Need-slice-aggregate-pick
-slice-aggregate-pick c = search needs
-
-pick-requires : tie.Need-pick-requires
-pick-requires c κs =
-    let at-gather-next = c .before .before in
-    let at-passed = at-gather-next .before .before in
-    let start = at-passed .before .before .before .before .before in
-    record {
-      in-table = start .pre .0 .in-table;
-      in-dist = row-within (start .pre .0) (at-passed .passed .result) (at-passed .passed .ensures .1);
-      long = at-gather-next .gather-next .ensures .1;
-      few = at-gather-next .gather-next .ensures .0 .gathered .few;
-      inside = start .pre .1;
-      low = next-not-nearer (start .pre .0) (at-passed .passed .result) (getD (start .args .table .now) (start .args .place) 0) (at-passed .passed .ensures .1)
-          (start .pre .0 .livables .sound (start .args .place) (start .pre .1)) (at-gather-next .gather-next .last .1 .1 .0)
-          (at-gather-next .gather-next .result) (at-gather-next .gather-next .ensures .0) (start .args .place) (start .pre .1) refl;
-    }
+nearest-in-row-requires : tie.Need-nearest-in-row-requires
+nearest-in-row-requires c κs =
+    let at-passed = c .before in
+    let start = at-passed .before .before .before .before .before .before .before .before in
+    row-lookable (start .pre .0) (start .args .place) (at-passed .passed .result) (start .pre .1) (at-passed .passed .ensures .1) (start .pre .3 (c .if1 .taken))
 
 returns : tie.Need-returns
 returns c =
-    let at-gather-next = c .before .before .before in
-    let at-passed = at-gather-next .before .before in
-    let start = at-passed .before .before .before .before .before in
-    let best = best-picked (start .pre .0) (at-passed .passed .result) (getD (start .args .table .now) (start .args .place) 0) (at-passed .passed .ensures .1)
-    (start .pre .0 .livables .sound (start .args .place) (start .pre .1)) (at-gather-next .gather-next .last .1 .1 .0) (at-gather-next .gather-next .result)
-    (at-gather-next .gather-next .ensures .0) (c .pick .result) (c .pick .ensures) in
+    let at-if1 = c .before in
+    let at-passed = at-if1 .before in
+    let start = at-passed .before .before .before .before .before .before .before .before in
+    let best = best-in-row (start .pre .0) (start .args .place) (at-passed .passed .result) (start .pre .1) (at-passed .passed .ensures .1)
+    (start .pre .3 (at-if1 .if1 .taken)) (c .nearest-in-row .result) (c .nearest-in-row .ensures) in
     record { passes = at-passed .passed .ensures .0; aimed = at-passed .passed .ensures .1; best = best .1; inside = best .0 }
+
+seek-requires : tie.Need-seek-requires
+seek-requires c κs = search needs
+
+returns-2 : tie.Need-returns-2
+returns-2 c =
+    let at-passed = c .before .before in
+    record {
+      passes = at-passed .passed .ensures .0;
+      aimed = at-passed .passed .ensures .1;
+      best = c .seek .ensures .1;
+      inside = c .seek .ensures .0;
+    }
 
 pub step-spec : {M : Type 1} → statement M
 step-spec =
@@ -65,9 +56,8 @@ step-spec =
     mul-s
     shared-slice-read-s
     passed-requires
-    slice-aggregate-gather-next
-    gather-next-requires
     mul-from
-    slice-aggregate-pick
-    pick-requires
-    returns)
+    nearest-in-row-requires
+    returns
+    seek-requires
+    returns-2)

@@ -11,18 +11,19 @@ wipe-requires c κs = search needs
 
 rows-requires : tie.Need-rows-requires
 rows-requires c κs =
-    let at-wipe = c .before .before .before .before in
-    let start = at-wipe .before .before .before .before .before .before .before in
-    (ground-of (start .pre .0) (at-wipe .wipe .ensures), start .pre .1)
+    let at-wipe = c .before .before .before .before .before in
+    let start = at-wipe .before .before .before .before .before .before .before .before .before .before .before .before .before .before in
+    (ground-of (start .pre .0) (at-wipe .wipe .ensures), start .pre .1, start .pre .3)
 
 find-end-requires : tie.Need-find-end-requires
 find-end-requires c κs =
-    let at-rows = c .before .before .before .before in
-    let at-wipe = at-rows .before .before .before .before .before in
-    let start = at-wipe .before .before .before .before .before .before .before in (
+    let at-rows = c .before .before .before .before .before .before in
+    let at-wipe = at-rows .before .before .before .before .before .before in
+    let start = at-wipe .before .before .before .before .before .before .before .before .before .before .before .before .before .before in (
       laid-of (start .args .dist .now) (at-rows .rows .last .1 .1 .1 .0) (start .pre .0) (start .pre .1) (at-rows .rows .ensures),
       ground-of (start .pre .0) (at-wipe .wipe .ensures) .in-words,
       at-wipe .wipe .ensures .zero-below,
+      start .pre .2,
     )
 
 cast-long : tie.Need-cast-long
@@ -31,20 +32,25 @@ cast-long c = search needs
 write-run-requires : tie.Need-write-run-requires
 write-run-requires c κs =
     let at-find-end = c .before .before .before .before .before in
-    let at-rows = at-find-end .before .before .before .before .before in
-    let start = at-rows .before .before .before .before .before .before .before .before .before .before .before .before in
-    record {
-      laid = laid-of (start .args .dist .now) (at-rows .rows .last .1 .1 .1 .0) (start .pre .0) (start .pre .1) (at-rows .rows .ensures);
-      cut = at-find-end .find-end .ensures .cut;
-      inside = at-find-end .find-end .ensures .inside;
-      fits = omega (arith, c .before .before .if1 .taken);
-    }
+    let at-rows = at-find-end .before .before .before .before .before .before .before in
+    let at-wipe = at-rows .before .before .before .before .before .before in
+    let start = at-wipe .before .before .before .before .before .before .before .before .before .before .before .before .before .before in (
+      record {
+        laid = laid-of (start .args .dist .now) (at-rows .rows .last .1 .1 .1 .0) (start .pre .0) (start .pre .1) (at-rows .rows .ensures);
+        cut = at-find-end .find-end .ensures .cut;
+        inside = at-find-end .find-end .ensures .inside;
+        fits = omega (arith, c .before .before .if1 .taken);
+      },
+      start .pre .2,
+    )
 
 cast-back : tie.Need-cast-back
 cast-back c = search needs
 
 same-length : tie.Need-same-length
-same-length c = search needs
+same-length c =
+    let at-find-end = c .before .before .before .before .before .before .before .before in
+    at-find-end .find-end .ensures .long ∙ at-find-end .before .before .before .before .before .before .before .before .before .before .before .before .before .wipe .ensures .long
 
 same-length-2 : tie.Need-same-length-2
 same-length-2 c = search needs
@@ -52,30 +58,36 @@ same-length-2 c = search needs
 same-length-3 : tie.Need-same-length-3
 same-length-3 c = search needs
 
+same-length-4 : tie.Need-same-length-4
+same-length-4 c = search needs
+
 returns : tie.Need-returns
 returns c =
     let at-write-run = c .before .before in
     let at-if1 = at-write-run .before .before .before in
     let at-find-end = at-if1 .before .before .before in
-    let at-wipe = at-find-end .before .before .before .before .before .before .before .before .before .before in
-    let start = at-wipe .before .before .before .before .before .before .before in
+    let at-wipe = at-find-end .before .before .before .before .before .before .before .before .before .before .before .before .before in
+    let start = at-wipe .before .before .before .before .before .before .before .before .before .before .before .before .before .before in
     record {
       steered = steered-written (start .args .run .now) (at-write-run .write-run .last .1 .1 .0) (at-write-run .write-run .result)
           (at-write-run .write-run .ensures) (omega (arith, at-if1 .if1 .taken));
       long = at-find-end .find-end .ensures .long ∙ at-wipe .wipe .ensures .long;
     }
 
-same-length-4 : tie.Need-same-length-4
-same-length-4 c = search needs
-
 same-length-5 : tie.Need-same-length-5
 same-length-5 c = search needs
+
+same-length-6 : tie.Need-same-length-6
+same-length-6 c = search needs
+
+same-length-7 : tie.Need-same-length-7
+same-length-7 c = search needs
 
 returns-2 : tie.Need-returns-2
 returns-2 c =
     let at-find-end = c .before .before .before in
-    let at-wipe = at-find-end .before .before .before .before .before .before .before .before .before .before in
-    let start = at-wipe .before .before .before .before .before .before .before in
+    let at-wipe = at-find-end .before .before .before .before .before .before .before .before .before .before .before .before .before in
+    let start = at-wipe .before .before .before .before .before .before .before .before .before .before .before .before .before .before in
     record {
       steered = steered-short (start .args .run .now) 0 (at-find-end .find-end .ensures .cut) (omega (arith, c .if1 .left));
       long = at-find-end .find-end .ensures .long ∙ at-wipe .wipe .ensures .long;
@@ -94,7 +106,9 @@ walk-spec =
     same-length
     same-length-2
     same-length-3
-    returns
     same-length-4
+    returns
     same-length-5
+    same-length-6
+    same-length-7
     returns-2)

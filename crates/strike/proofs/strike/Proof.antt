@@ -1,5 +1,6 @@
 -- `strike::strike` meets its contract. Assumes nothing.
-use mathlib.Core.Path.{_∙_, refl}
+use mathlib.Core.Path.{_∙_}
+use native.Mathlib.Omega.{arith}
 use Rattle.strike.proofs.Running.{wiped-strikable, stricken-from}
 use Rattle.strike.proofs.strike.Statement.{statement}
 use Rattle.strike.proofs.strike.Tie as tie
@@ -10,42 +11,46 @@ wipe-requires c κs = c .before .before .before .before .before .pre .in-words
 wipe-requires-2 : tie.Need-wipe-requires-2
 wipe-requires-2 c κs = c .before .before .before .before .before .before .before .before .before .pre .in-scratch
 
-slice-aggregate-rounds : tie.Need-slice-aggregate-rounds
-slice-aggregate-rounds c = refl
-
-slice-aggregate-rounds-2 : tie.Need-slice-aggregate-rounds-2
-slice-aggregate-rounds-2 c = refl
-
-rounds-requires : tie.Need-rounds-requires
-rounds-requires c κs =
-    let at-wipe2 = c .before .before .before .before .before .before in
+strike-few-requires : tie.Need-strike-few-requires
+strike-few-requires c κs =
+    let at-wipe2 = c .before .before .before .before .before in
     let at-wipe = at-wipe2 .before .before .before .before in
     let entry = at-wipe .before .before .before .before .before .before in (
       wiped-strikable _ _ _ _ _ _ _ (entry .pre) (at-wipe .wipe .ensures .long) (at-wipe2 .wipe2 .ensures .long),
       at-wipe .wipe .ensures .zeros,
       at-wipe2 .wipe2 .ensures .zeros,
-      refl,
-      refl,
+      omega arith,
     )
 
 same-length : tie.Need-same-length
-same-length c =
-    let at-rounds = c .before .before .before .before .before .before in
-    let at-wipe = at-rounds .before .before .before .before .before .before .before .before .before .before .before in
-    at-rounds .rounds .ensures .words-long ∙ at-wipe .wipe .ensures .long
+same-length c = c .before .before .before .before .strike-few .ensures .words-long ∙ c .before .before .before .before .before .before .before .before .before .before .before .before .before .before .wipe .ensures .long
 
 same-length-2 : tie.Need-same-length-2
-same-length-2 c =
-    let at-rounds = c .before .before .before .before .before .before in
-    let at-wipe2 = at-rounds .before .before .before .before .before .before .before in
-    at-rounds .rounds .ensures .scratch-long ∙ at-wipe2 .wipe2 .ensures .long
+same-length-2 c = c .before .before .before .before .strike-few .ensures .scratch-long ∙ c .before .before .before .before .before .before .before .before .before .before .wipe2 .ensures .long
 
 returns : tie.Need-returns
 returns c =
-    let at-rounds = c .before .before .before .before .before .before in
-    let at-wipe2 = at-rounds .before .before .before .before .before .before .before in
+    stricken-from _ _ _ _ _ _ _ _ _ _ (c .before .before .before .before .strike-few .ensures) (c .before .before .before .before .before .before .before .before .before .before .before .before .before .before .wipe .ensures .long) (c .before .before .before .before .before .before .before .before .before .before .wipe2 .ensures .long)
+
+strike-many-requires : tie.Need-strike-many-requires
+strike-many-requires c κs =
+    let at-wipe2 = c .before .before .before .before .before in
     let at-wipe = at-wipe2 .before .before .before .before in
-    stricken-from _ _ _ _ _ _ _ _ _ _ (at-rounds .rounds .ensures) (at-wipe .wipe .ensures .long) (at-wipe2 .wipe2 .ensures .long)
+    let entry = at-wipe .before .before .before .before .before .before in (
+      wiped-strikable _ _ _ _ _ _ _ (entry .pre) (at-wipe .wipe .ensures .long) (at-wipe2 .wipe2 .ensures .long),
+      at-wipe .wipe .ensures .zeros,
+      at-wipe2 .wipe2 .ensures .zeros,
+    )
+
+same-length-3 : tie.Need-same-length-3
+same-length-3 c = c .before .before .before .before .strike-many .ensures .words-long ∙ c .before .before .before .before .before .before .before .before .before .before .before .before .before .before .wipe .ensures .long
+
+same-length-4 : tie.Need-same-length-4
+same-length-4 c = c .before .before .before .before .strike-many .ensures .scratch-long ∙ c .before .before .before .before .before .before .before .before .before .before .wipe2 .ensures .long
+
+returns-2 : tie.Need-returns-2
+returns-2 c =
+    stricken-from _ _ _ _ _ _ _ _ _ _ (c .before .before .before .before .strike-many .ensures) (c .before .before .before .before .before .before .before .before .before .before .before .before .before .before .wipe .ensures .long) (c .before .before .before .before .before .before .before .before .before .before .wipe2 .ensures .long)
 
 pub strike-spec : {M : Type 1} → statement M
 strike-spec =
@@ -53,9 +58,11 @@ strike-spec =
     (tie.spec
     wipe-requires
     wipe-requires-2
-    slice-aggregate-rounds
-    slice-aggregate-rounds-2
-    rounds-requires
+    strike-few-requires
     same-length
     same-length-2
-    returns)
+    returns
+    strike-many-requires
+    same-length-3
+    same-length-4
+    returns-2)

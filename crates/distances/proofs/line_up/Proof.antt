@@ -1,0 +1,91 @@
+-- `distances::line_up` meets its contract. The loop's invariant: the first i places are lined up. Assumes nothing.
+use mathlib.Core.Path.{_≡_, _∙_, refl}
+use Prim.Native.Nat.{_-_, _≤_}
+use native.Mathlib.Omega.{arith}
+use lib.ListN.{length, length-set}
+use Rattle.distances.specs.Follow.{LinedUp}
+use Rattle.distances.proofs.Lines.{lined-none, lined-past, lined-more, lined-all}
+use Rattle.distances.proofs.line_up.Statement.{statement}
+use Rattle.distances.proofs.line_up.Tie as tie
+
+abbrev Inv-loop : tie.InvT-loop
+Inv-loop near r queue₀ tail₀ i₀ queue tail i = (i ≤ r) × LinedUp near i tail queue × (length queue ≡ length queue₀)
+
+abbrev μ-loop : tie.MeasureT-loop
+μ-loop near r queue₀ tail₀ i₀ queue tail i = r - i
+
+loop-holds : tie.Need-loop-holds Inv-loop μ-loop
+loop-holds c = (omega arith, lined-none _ _, refl)
+
+mul-if1 : tie.Need-mul-if1 Inv-loop μ-loop
+mul-if1 c = omega arith
+
+shared-slice-read-if1 : tie.Need-shared-slice-read-if1 Inv-loop μ-loop
+shared-slice-read-if1 c = omega arith
+
+cast-queue : tie.Need-cast-queue Inv-loop μ-loop
+cast-queue c = omega arith
+
+mul-queue : tie.Need-mul-queue Inv-loop μ-loop
+mul-queue c = let l = c .before .before .before .loop .inv .1 .room in omega arith
+
+slice-write-queue : tie.Need-slice-write-queue Inv-loop μ-loop
+slice-write-queue c = let l = c .before .before .before .loop .inv .1 .room in omega arith
+
+add-tail : tie.Need-add-tail Inv-loop μ-loop
+add-tail c = let l = c .before .before .before .loop .inv .1 .room in omega arith
+
+add-i : tie.Need-add-i Inv-loop μ-loop
+add-i c = omega arith
+
+loop-less : tie.Need-loop-less Inv-loop μ-loop
+loop-less c = omega arith
+
+loop-again : tie.Need-loop-again Inv-loop μ-loop
+loop-again c =
+    let at-loop = c .before .before .before in
+    let l = at-loop .loop .inv .1 .room in (
+      omega arith,
+      lined-more _ _ _ _ (at-loop .loop .inv .1) (c .if1 .taken) (omega arith),
+      length-set (at-loop .loop .queue) (at-loop .loop .tail) (at-loop .loop .i) ∙ at-loop .loop .inv .2,
+    )
+
+add-i-2 : tie.Need-add-i-2 Inv-loop μ-loop
+add-i-2 c = omega arith
+
+loop-less-2 : tie.Need-loop-less-2 Inv-loop μ-loop
+loop-less-2 c = omega arith
+
+loop-again-2 : tie.Need-loop-again-2 Inv-loop μ-loop
+loop-again-2 c =
+    let at-loop = c .before .before .before in
+    let most = c .before .shared-slice-known .given (at-loop .loop .i) in
+    (omega arith, lined-past _ _ _ _ (at-loop .loop .inv .1) (omega arith) (c .if1 .left), at-loop .loop .inv .2)
+
+same-length : tie.Need-same-length Inv-loop μ-loop
+same-length c = c .before .loop .inv .2
+
+returns : tie.Need-returns Inv-loop μ-loop
+returns c = (lined-all _ _ _ _ _ (omega arith) (c .before .loop .inv .1), c .before .loop .inv .2)
+
+pub line-up-spec : {M : Type 1} → statement M
+line-up-spec =
+    tie.close
+    (tie.spec
+    Inv-loop
+    μ-loop
+    loop-holds
+    mul-if1
+    shared-slice-read-if1
+    cast-queue
+    mul-queue
+    slice-write-queue
+    add-tail
+    add-i
+    loop-less
+    loop-again
+    add-i-2
+    loop-less-2
+    loop-again-2
+    same-length
+    returns)

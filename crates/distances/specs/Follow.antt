@@ -1,0 +1,47 @@
+-- What the functions that follow stored moves back promise one another: who stands in the queue, and what one row of moves adds to it.
+-- Assumes nothing.
+use mathlib.Core.Path.{_≡_}
+use mathlib.Core.Bool.{Bool, true}
+use mathlib.Core.List.{List}
+use Prim.Native.Nat.{ℕ, _+_, _≤_, _<_}
+use lib.ListN.{length, getD}
+use Rattle.web.specs.Web.{Back}
+use Rattle.distances.specs.Far.{far, gone}
+use Rattle.distances.specs.Layers.{fars, Spread}
+
+-- if the moves are stored, the rows hold the moves back, and the queue has a place for each
+abbrev pub Followable : (book table : List ℕ) (r : ℕ) (stored : Bool) (starts ends cells queue : List ℕ) → Type 0
+Followable book table r stored starts ends cells queue = stored ≡ true → Back book table r starts ends cells × (r ≤ length queue)
+
+-- place i stands in a list, from `start` on and before `end`
+abbrev pub Stands : (list : List ℕ) (start end i : ℕ) → Type 0
+Stands list start end i = (t : ℕ) × (start ≤ t) × (t < end) × (getD list t 0 ≡ i)
+
+-- of the first n places exactly those at 0 stand in the queue's first `tail`, and there is room for those not reached yet
+pub record LinedUp (near : List ℕ) (n tail : ℕ) (queue : List ℕ) : Type 0 where
+  pub room : tail + fars near n ≤ n
+  pub zeros : (t : ℕ) → t < tail → (getD queue t 0 < n) × (getD near (getD queue t 0) 0 ≡ 0)
+  pub whole : (i : ℕ) → i < n → getD near i 0 ≡ 0 → Stands queue 0 tail i
+
+-- a row may be followed: its cells are places, and the queue has room for those not reached yet
+pub record Ready (cells : List ℕ) (start end d r : ℕ) (near queue : List ℕ) (tail : ℕ) : Type 0 where
+  pub in-cells : end ≤ length cells
+  pub places : (e : ℕ) → start ≤ e → e < end → getD cells e 0 < r
+  pub small : d < gone
+  pub long : length near ≡ r
+  pub few : r ≤ 16384
+  pub in-queue : r ≤ length queue
+  pub room : tail + fars near r ≤ r
+
+-- the places that got d stand in the queue behind its first `tail`, which are as they were, and no other place does
+pub record Joined (d r : ℕ) (old new : List ℕ) (tail : ℕ) (queue queue′ : List ℕ) (got : ℕ) : Type 0 where
+  pub long : length queue′ ≡ length queue
+  pub kept : (t : ℕ) → t < tail → getD queue′ t 0 ≡ getD queue t 0
+  pub added : (t : ℕ) → tail ≤ t → t < tail + got
+      → (getD queue′ t 0 < r) × (getD old (getD queue′ t 0) 0 ≡ far) × (getD new (getD queue′ t 0) 0 ≡ d)
+  pub whole : (i : ℕ) → i < r → getD old i 0 ≡ far → getD new i 0 ≡ d → Stands queue′ tail (tail + got) i
+
+-- a row is followed: exactly its places that were not reached yet have d now, and have joined the queue
+pub record Followed (cells : List ℕ) (start end d r : ℕ) (old new : List ℕ) (tail : ℕ) (queue queue′ : List ℕ) (got : ℕ) : Type 0 where
+  pub spread : Spread (Stands cells start end) d r old new got
+  pub joined : Joined d r old new tail queue queue′ got

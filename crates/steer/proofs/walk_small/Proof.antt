@@ -1,0 +1,50 @@
+-- `steer::walk_small` meets its contract: the rows of distances have room, and no moves are stored. Assumes nothing.
+use mathlib.Core.Path.{_≡_}
+use Prim.Native.Nat.{ℕ}
+use native.Mathlib.Omega.{arith}
+use borrow.Author.Needs.{needs}
+use Rattle.steer.proofs.walk_small.Statement.{statement}
+use Rattle.steer.proofs.walk_small.Tie as tie
+
+array-share-prefix-none : tie.Need-array-share-prefix-none
+array-share-prefix-none c = search needs
+
+slice-aggregate-row : tie.Need-slice-aggregate-row
+slice-aggregate-row c = search needs
+
+slice-aggregate-walk : tie.Need-slice-aggregate-walk
+slice-aggregate-walk c = search needs
+
+slice-aggregate-walk-2 : tie.Need-slice-aggregate-walk-2
+slice-aggregate-walk-2 c = search needs
+
+walk-requires : tie.Need-walk-requires
+walk-requires c κs =
+    let start = c .before .before .before .before .before .before .before .before .before in (
+      start .pre .0,
+      start .pre .1,
+      λ e. let z : _≡_ {A = ℕ} 0 1 = cc in absurd (omega arith),
+      λ e. let z : _≡_ {A = ℕ} 0 1 = cc in absurd (omega arith),
+    )
+
+same-length : tie.Need-same-length
+same-length c = search needs
+
+same-length-2 : tie.Need-same-length-2
+same-length-2 c = search needs
+
+returns : tie.Need-returns
+returns c = search needs
+
+pub walk-small-spec : {M : Type 1} → statement M
+walk-small-spec =
+    tie.close
+    (tie.spec
+    array-share-prefix-none
+    slice-aggregate-row
+    slice-aggregate-walk
+    slice-aggregate-walk-2
+    walk-requires
+    same-length
+    same-length-2
+    returns)

@@ -1,0 +1,59 @@
+-- Stored moves on their way through striking: where there is room for them, what storing them tells, and that the queue is only used.
+-- Assumes nothing.
+use mathlib.Core.Path.{_≡_}
+use mathlib.Core.Bool.{Bool, false}
+use mathlib.Core.List.{List}
+use Prim.Native.Nat.{ℕ, _≤_}
+use native.Mathlib.Omega.{arith}
+use lib.ListN.{length}
+use Rattle.web.specs.Web.{Forth, Room, Turnable, Turned}
+use Rattle.distances.proofs.Moves.{passes}
+use Rattle.strike.specs.Stored.{Stored, StoredRows}
+
+-- Slices of these lengths have room for the rows of r places.
+pub room-enough : (r : ℕ) (starts ends cells : List ℕ) → r ≤ 16384 → length starts ≡ 16384 → length ends ≡ 16384 → length cells ≡ 32768
+    → Room r starts ends cells
+room-enough r starts ends cells h a b c = record { in-starts = omega arith; in-ends = omega arith; few-cells = omega arith }
+
+-- Rows of moves forth can be turned.
+pub forth-turnable : (book table : List ℕ) (r : ℕ) (starts ends cells : List ℕ) → r ≤ 16384 → Forth book table r starts ends cells
+    → Turnable r starts ends cells
+forth-turnable book table r starts ends cells h F = record {
+  few = h;
+  in-starts = F .rows .in-starts;
+  in-ends = F .rows .in-ends;
+  in-cells = F .rows .in-cells;
+  places = λ i e inside l k. F .rows .sound i e inside l k .0;
+}
+
+-- Moves that are stored forth, and then turned, are stored both ways if the turning went well.
+pub rows-both : (book table : List ℕ) (r : ℕ) (b : Bool) (starts ends cells starts′ ends′ cells′ : List ℕ) → Forth book table r starts ends cells
+    → Turned r starts ends cells starts′ ends′ cells′ b → StoredRows book table r b starts ends cells starts′ ends′ cells′
+rows-both book table r b starts ends cells starts′ ends′ cells′ F turned =
+    record { forth = λ e. F; back = λ e. turned e book table (F .rows) }
+
+-- Where storing went badly nothing is said.
+pub rows-none : (book table : List ℕ) (r : ℕ) (starts ends cells starts′ ends′ cells′ : List ℕ)
+    → StoredRows book table r false starts ends cells starts′ ends′ cells′
+rows-none book table r starts ends cells starts′ ends′ cells′ =
+    record { forth = λ e. absurd (passes false e); back = λ e. absurd (passes false e) }
+
+-- Moves that are stored both ways serve striking, with a queue for all places;
+pub rows-stored : (book table : List ℕ) (r : ℕ) (b : Bool) (starts ends cells starts′ ends′ cells′ queue : List ℕ)
+    → StoredRows book table r b starts ends cells starts′ ends′ cells′ → r ≤ 16384 → length queue ≡ 16384
+    → Stored book table r b starts ends cells starts′ ends′ cells′ queue
+rows-stored book table r b starts ends cells starts′ ends′ cells′ queue k h long =
+    record { forth = k .forth; back = λ e. (k .back e, omega arith) }
+
+-- without any it goes too;
+pub none-stored : (book table : List ℕ) (r : ℕ) (starts ends cells starts′ ends′ cells′ queue : List ℕ)
+    → Stored book table r false starts ends cells starts′ ends′ cells′ queue
+none-stored book table r starts ends cells starts′ ends′ cells′ queue =
+    record { forth = λ e. absurd (passes false e); back = λ e. absurd (passes false e) }
+
+-- and a queue of the same length serves as well.
+pub stored-queue : (book table : List ℕ) (r : ℕ) (b : Bool) (starts ends cells starts′ ends′ cells′ queue queue′ : List ℕ)
+    → Stored book table r b starts ends cells starts′ ends′ cells′ queue → length queue′ ≡ length queue
+    → Stored book table r b starts ends cells starts′ ends′ cells′ queue′
+stored-queue book table r b starts ends cells starts′ ends′ cells′ queue queue′ s long =
+    record { forth = s .forth; back = λ e. let x = s .back e in (x .0, let h = x .1 in omega arith) }
