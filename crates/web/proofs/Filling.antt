@@ -1,6 +1,6 @@
 -- Rows of moves forth, written one after the other. Assumes nothing.
 use mathlib.Core.Path.{_≡_, refl, sym, subst, _∙_}
-use mathlib.Core.Bool.{true, false}
+use mathlib.Core.Bool.{true, false, true≢false}
 use mathlib.Core.Logic.{_⊎_, inl, inr}
 use mathlib.Core.List.{List}
 use Prim.Native.Nat.{ℕ, suc, _+_, _≤_, _<_}
@@ -11,7 +11,6 @@ use lib.Seq.{getD-set-same, getD-set-other}
 use Rattle.rules.specs.Book.{clausesOk}
 use Rattle.web.specs.Web.{Forth}
 use Rattle.web.specs.Storing.{Row, Fitting, Nexts, Filled}
-use Rattle.web.proofs.Moves.{no-both}
 
 -- ---- one row
 
@@ -123,6 +122,10 @@ pub filling-over : (P Q : ℕ → Type 0) {at to : ℕ} {old new : List ℕ} (ov
     → Filled Q at old new over
 filling-over P Q over h w = record { long = w .long; keeps = w .keeps; row = λ l. absurd (omega arith) }
 
+-- Where nothing was written for want of room, nothing is told.
+pub filled-over : (Q : ℕ → Type 0) (at over : ℕ) (cells : List ℕ) → length cells < over → Filled Q at cells cells over
+filled-over Q at over cells h = record { long = refl; keeps = λ e l. refl; row = λ l. absurd (omega arith) }
+
 -- A filled row of some places is one of the same places.
 pub filled-same : (P Q : ℕ → Type 0) {at to : ℕ} {old new : List ℕ} → ((j : ℕ) → P j → Q j) → ((j : ℕ) → Q j → P j) → Filled P at old new to
     → Filled Q at old new to
@@ -154,7 +157,7 @@ module _ (clauses : List ℕ) (count : ℕ) (table : List ℕ) where
       (λ i q. (by i q (ℕ-discrete i j), q .1)) w
     where
       by : (i : ℕ) → Fitting clauses count table (j + 1) i → Dec (i ≡ j) → i < j
-      by i q (yes d) = no-both (sym (q .1) ∙ subst (λ (x : ℕ). clausesOk clauses count (getD table x 0) ≡ false) (sym d) f)
+      by i q (yes d) = absurd (true≢false (sym (q .1) ∙ subst (λ (x : ℕ). clausesOk clauses count (getD table x 0) ≡ false) (sym d) f))
       by i q (no d) = let a = q .0 in omega arith
 
   -- Once all places are tested the row is filled.

@@ -1,3 +1,4 @@
 pub mod Moves
 pub mod Filling
+pub mod Lookups
 pub mod Turns

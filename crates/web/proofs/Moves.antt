@@ -25,10 +25,6 @@ both-true : (a b : Bool) → a ≡ true → b ≡ true → a && b ≡ true
 both-true true b e h = h
 both-true false b e h = e
 
--- An answer is not both.
-pub no-both : {A : Type 0} → true ≡ false → A
-no-both e = absurd (passes false (sym e))
-
 -- A move is allowed by the step rules.
 pub move-steps : (book : List ℕ) (s t : ℕ) → bookSystem book .Move s t → stepsOk book s t ≡ true
 unfolding bookSystem bookMoves

@@ -1,6 +1,6 @@
 -- `web::back` meets its contract. Assumes nothing.
 use mathlib.Core.Path.{refl, sym, _∙_}
-use Rattle.web.proofs.Moves.{no-both}
+use mathlib.Core.Bool.{true≢false}
 use Rattle.web.proofs.Turns.{turning-none, turning-back}
 use native.Mathlib.Omega.{arith}
 use Rattle.web.proofs.back.Statement.{statement}
@@ -95,7 +95,7 @@ returns-2 c =
     let at-lay = c .before .before .before .before .before in
     let at-count-rows = at-lay .before .before .before .before .before in
     let at-clear = at-count-rows .before .before .before .before in (
-      λ e. no-both (sym e),
+      λ e. absurd (true≢false (sym e)),
       record {
         starts-long = at-lay .lay .ensures .1;
         ends-long = at-lay .lay .ensures .2 ∙ at-count-rows .count-rows .ensures ∙ at-clear .clear .ensures;

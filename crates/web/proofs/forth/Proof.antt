@@ -2,19 +2,19 @@
 use mathlib.Core.Path.{_≡_, refl, sym, _∙_}
 use Prim.Native.Nat.{_-_, _≤_}
 use lib.ListN.{length, length-set}
-use Rattle.rules.specs.Book.{gatherSize}
 use Rattle.web.specs.Web.{AsLong}
-use Rattle.web.proofs.Moves.{no-both}
+use Rattle.web.specs.Storing.{listSize}
+use mathlib.Core.Bool.{true≢false}
 use Rattle.web.proofs.Filling.{Stored, stored-none, stored-more, stored-forth}
 use native.Mathlib.Omega.{arith}
 use Rattle.web.proofs.forth.Statement.{statement}
 use Rattle.web.proofs.forth.Tie as tie
 
 abbrev Inv-loop : tie.InvT-loop
-Inv-loop book table r starts₀ ends₀ cells₀ clauses₀ at₀ i₀ starts ends cells clauses at i = (i ≤ r) × (at ≤ length cells) × Stored book table r i at starts ends cells × AsLong starts₀ ends₀ cells₀ starts ends cells × (length clauses ≡ gatherSize)
+Inv-loop book table r starts₀ ends₀ cells₀ room₀ at₀ i₀ starts ends cells room at i = (i ≤ r) × (at ≤ length cells) × Stored book table r i at starts ends cells × AsLong starts₀ ends₀ cells₀ starts ends cells × (length room ≡ listSize)
 
 abbrev μ-loop : tie.MeasureT-loop
-μ-loop book table r starts₀ ends₀ cells₀ clauses₀ at₀ i₀ starts ends cells clauses at i = r - i
+μ-loop book table r starts₀ ends₀ cells₀ room₀ at₀ i₀ starts ends cells room at i = r - i
 
 loop-holds : tie.Need-loop-holds Inv-loop μ-loop
 loop-holds c = (omega arith, omega arith, stored-none _ _ _ _ _ _, record { starts-long = refl; ends-long = refl; cells-long = refl }, refl)
@@ -65,7 +65,7 @@ returns : tie.Need-returns Inv-loop μ-loop
 returns c =
     let at-row = c .before .before .before .before in
     let at-loop = at-row .before .before .before .before .before in (
-      λ e. no-both (sym e),
+      λ e. absurd (true≢false (sym e)),
       record {
         starts-long = at-loop .loop .inv .3 .starts-long;
         ends-long = at-loop .loop .inv .3 .ends-long;

@@ -1,0 +1,65 @@
+-- `web::list_row` meets its contract: the places of the listed next states are the places that s moves to. Assumes nothing.
+use mathlib.Core.Path.{_∙_}
+use Rattle.listing.proofs.Front.{front-long}
+use Rattle.web.proofs.Filling.{filled-over}
+use Rattle.web.proofs.Lookups.{storable-sorted, listing-sorted, listing-nexts}
+use native.Mathlib.Omega.{arith}
+use borrow.Author.Needs.{needs}
+use Rattle.web.proofs.list_row.Statement.{statement}
+use Rattle.web.proofs.list_row.Tie as tie
+
+next-states-requires : tie.Need-next-states-requires
+next-states-requires c κs = search needs
+
+add-result : tie.Need-add-result
+add-result c = search needs
+
+same-length : tie.Need-same-length
+same-length c = search needs
+
+returns : tie.Need-returns
+returns c =
+    let at-next-states = c .before .before .before in
+    let entry = at-next-states .before .before .before .before .before .before in
+    (filled-over _ _ _ _ (omega arith), front-long _ _ _ (at-next-states .next-states .ensures) ∙ entry .pre .2)
+
+look-up-requires : tie.Need-look-up-requires
+look-up-requires c κs =
+    let at-if1 = c .before .before in
+    let at-next-states = at-if1 .before .before .before in
+    let entry = at-next-states .before .before .before .before .before .before in (
+      storable-sorted _ _ _ (entry .pre .0),
+      entry .pre .0 .few,
+      listing-sorted (entry .args .book .now) (entry .args .s) _ _ _ (at-next-states .next-states .ensures) (let a = at-if1 .if1 .left in let b = front-long _ _ _ (at-next-states .next-states .ensures) in omega arith),
+      entry .pre .3,
+      entry .pre .4,
+    )
+
+same-length-2 : tie.Need-same-length-2
+same-length-2 c = search needs
+
+same-length-3 : tie.Need-same-length-3
+same-length-3 c = search needs
+
+returns-2 : tie.Need-returns-2
+returns-2 c =
+    let at-look-up = c .before .before in
+    let at-if1 = at-look-up .before .before .before in
+    let at-next-states = at-if1 .before .before .before in
+    let entry = at-next-states .before .before .before .before .before .before in (
+      listing-nexts (entry .args .book .now) (entry .args .s) _ _ _ (at-next-states .next-states .ensures) (let a = at-if1 .if1 .left in let b = front-long _ _ _ (at-next-states .next-states .ensures) in omega arith) (entry .args .table .now) _ _ (at-look-up .look-up .ensures),
+      front-long _ _ _ (at-next-states .next-states .ensures) ∙ entry .pre .2,
+    )
+
+pub list-row-spec : {M : Type 1} → statement M
+list-row-spec =
+    tie.close
+    (tie.spec
+    next-states-requires
+    add-result
+    same-length
+    returns
+    look-up-requires
+    same-length-2
+    same-length-3
+    returns-2)
