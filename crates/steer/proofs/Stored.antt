@@ -3,16 +3,16 @@ use mathlib.Core.Path.{_≡_, refl, sym, ap, subst, _∙_}
 use mathlib.Core.Logic.{_⊎_, inl, inr}
 use mathlib.Core.List.{List}
 use Prim.Native.Nat.{ℕ, zero, suc, _+_, _-_, _*_, _≤_, _<_}
-use native.Mathlib.Decide.{decLt, decLe}
+use native.Mathlib.Decide.{decLt}
 use native.Mathlib.Omega.{arith}
-use lib.ListN.{length, getD}
+use lib.ListN.{getD}
 use Rattle.meaning.specs.System.{System, Livable}
-use Rattle.meaning.specs.Sample.{Distance, Best}
+use Rattle.meaning.specs.Sample.{Distance}
 use Rattle.meaning.proofs.Unique.{distance-unique}
 use Rattle.meaning.proofs.Exists.{livable-next}
 use Rattle.distances.specs.Far.{far}
 use Rattle.rules.specs.Book.{bookSystem}
-use Rattle.web.specs.Web.{To, Forth, Storable, Turnable}
+use Rattle.web.specs.Web.{Forth, Storable, Turnable}
 use Rattle.steer.specs.Stored.{BestAt, Lookable, cellAt, FoundAt, Looked, NearestCell}
 use Rattle.steer.specs.Walk.{Ready, Livables, aimsOf, Laid, rowAt}
 use Rattle.steer.proofs.Books.{livable-lawful}
