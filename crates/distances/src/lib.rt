@@ -266,7 +266,7 @@ fn follow(
     );
 }
 
-// The distances to promise k of the table's first r places, written from `from` on: 65534 for a struck place, 65535 where no path of
+// The distances to promise k, counted from 0, of the table's first r places, written from `from` on: 65534 for a struck place, 65535 where no path of
 // unstruck states leads to the promise. By the stored moves if they are stored, else by tests of pairs.
 pub fn distances(
     book: &[u32],

@@ -9,7 +9,7 @@ ghost use lib.ListN.{length};
 ghost use Rattle.rules.specs.Book.{someAt, allAt, limitAt, limitOk, limitsOk, bookLawful, firstsOk, bookFirst, stepOk};
 ghost use Rattle.rules.specs.Book.{stepsOk, bookMoves, bookKept, lettersOf, limitsOf, firstsOf, stepsOf, promisesOf, Shaped};
 
-// Whether some literal of the masks at a place is true in s, and whether all are.
+// Whether some literal of the two masks at place `at` is true in s.
 pub fn some_at(l: &[u32], at: usize, s: u32) -> bool
     requires { ⌜ at + 1 < length (now l) ⌝ }
     ensures { λ r. ⌜ r ≡ someAt (now (l .entry)) at s ⌝ }
@@ -20,6 +20,7 @@ pub fn some_at(l: &[u32], at: usize, s: u32) -> bool
     some_true(s, held, unheld)
 }
 
+// Whether every literal of the two masks at place `at` is true in s.
 pub fn all_at(l: &[u32], at: usize, s: u32) -> bool
     requires { ⌜ at + 1 < length (now l) ⌝ }
     ensures { λ r. ⌜ r ≡ allAt (now (l .entry)) at s ⌝ }
@@ -63,7 +64,7 @@ pub fn limits_ok(book: &[u32], s: u32) -> bool
     true
 }
 
-// Whether s is lawful.
+// Whether s is lawful: below 2^n, and every limit holds in it.
 pub fn lawful(book: &[u32], s: u32) -> bool
     requires { ⌜ Shaped (now book) ⌝ }
     ensures { λ r. ⌜ r ≡ bookLawful (now (book .entry)) s ⌝ }
@@ -146,7 +147,7 @@ pub fn moves(book: &[u32], s: u32, t: u32) -> bool
     steps_ok(book, s, t)
 }
 
-// Whether promise k is kept in s.
+// Whether promise k, counted from 0, is kept in s; false past the last promise.
 pub fn kept(book: &[u32], k: usize, s: u32) -> bool
     requires { ⌜ Shaped (now book) ⌝ }
     ensures { λ r. ⌜ r ≡ bookKept (now (book .entry)) k s ⌝ }
@@ -159,7 +160,7 @@ pub fn kept(book: &[u32], k: usize, s: u32) -> bool
     some_at(book, at, s)
 }
 
-// How many letters and promises the sheet has.
+// How many letters the sheet has.
 pub fn letters(book: &[u32]) -> u32
     requires { ⌜ Shaped (now book) ⌝ }
     ensures { λ r. ⌜ r ≡ lettersOf (now (book .entry)) ⌝ }
@@ -167,6 +168,7 @@ pub fn letters(book: &[u32]) -> u32
     book[0]
 }
 
+// How many promises the sheet has.
 pub fn promises(book: &[u32]) -> usize
     requires { ⌜ Shaped (now book) ⌝ }
     ensures { λ r. ⌜ r ≡ promisesOf (now (book .entry)) ⌝ }

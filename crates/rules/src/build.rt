@@ -47,7 +47,7 @@ fn masks_of(sheet: &[u8], start: usize, end: usize) -> Pair
     Pair { held, unheld }
 }
 
-// Writes them at a place of the book.
+// Writes the two masks of the sheet's literals from `start` to `end` at places `at` and `at` + 1 of the book.
 pub fn put_masks(sheet: &[u8], start: usize, end: usize, book: &mut [u32], at: usize)
     requires { ⌜ ListSound (now sheet) start end × (at + 1 < length (now book)) ⌝ }
     ensures { λ _. ⌜ ListWritten (part start end (now (sheet .entry))) (now (book .entry)) at (now (book .exit)) ⌝ }

@@ -19,7 +19,7 @@ fn asks_too(book: &[u32], i: usize, u: u32, s: u32) -> bool
     }
 }
 
-// Whether every step rule does, so that u may move wherever s may.
+// True only if every step rule that asks something after u asks it after s, too, so that u may move wherever s may.
 pub fn freer(book: &[u32], u: u32, s: u32) -> bool
     requires { ⌜ Shaped (now book) ⌝ }
     ensures { λ b. ⌜ (b ≡ true → Freer (now (book .entry)) u s) ⌝ }

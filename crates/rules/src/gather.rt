@@ -20,7 +20,7 @@ fn copy(book: &[u32], from: usize, l: &mut [u32], to: usize)
     l[to_next] = unheld;
 }
 
-// Gathers the clauses that a first state must make true; how many there are.
+// Gathers the clauses that a first state must make true, into a slice of 510; how many there are.
 pub fn gather_first(book: &[u32], clauses: &mut [u32]) -> usize
     requires { ⌜ Shaped (now book) × (length (now clauses) ≡ gatherSize) ⌝ }
     ensures { λ r. ⌜ FirstClauses (now (book .entry)) (now (clauses .exit)) r × (length (now (clauses .exit)) ≡ gatherSize) ⌝ }
@@ -36,7 +36,7 @@ pub fn gather_first(book: &[u32], clauses: &mut [u32]) -> usize
     count
 }
 
-// Gathers the clauses that a state after s must make true.
+// Gathers the clauses that a state after s must make true, into a slice of 510; how many there are.
 pub fn gather_next(book: &[u32], s: u32, clauses: &mut [u32]) -> usize
     requires { ⌜ Shaped (now book) × (length (now clauses) ≡ gatherSize) ⌝ }
     ensures { λ r. ⌜ NextClauses (now (book .entry)) s (now (clauses .exit)) r × (length (now (clauses .exit)) ≡ gatherSize) ⌝ }
@@ -75,7 +75,7 @@ pub fn fits(clauses: &[u32], count: usize, t: u32) -> bool
     true
 }
 
-// Gathers the left sides that must not hold in a state before t.
+// Gathers the left sides that must not hold in a state before t, into a slice of 510; how many there are.
 pub fn gather_before(book: &[u32], t: u32, pack: &mut [u32]) -> usize
     requires { ⌜ Shaped (now book) × (length (now pack) ≡ gatherSize) ⌝ }
     ensures { λ r. ⌜ BeforePack (now (book .entry)) t (now (pack .exit)) r × (length (now (pack .exit)) ≡ gatherSize) ⌝ }

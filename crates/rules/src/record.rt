@@ -13,7 +13,8 @@ fn least(exact: bool, bound: u8) -> u32
     if exact { bound as u32 } else { 0 }
 }
 
-// A limit: its masks, the least and the most.
+// Compiles a limit: its masks, the least and the most. The record's length byte stands at `at`, its row begins at place `row` of the book;
+// answers where the next record begins.
 pub fn limit(sheet: &[u8], at: usize, book: &mut [u32], row: usize) -> usize
     requires { ⌜ LimitSound (now sheet) at × (row + 3 < length (now book)) ⌝ }
     ensures { λ r. ⌜ LimitWritten (now (sheet .entry)) at (now (book .entry)) row (now (book .exit)) r ⌝ }
@@ -29,7 +30,7 @@ pub fn limit(sheet: &[u8], at: usize, book: &mut [u32], row: usize) -> usize
     end
 }
 
-// A first rule or a promise: the masks of its literals.
+// Compiles a first rule or a promise, the same way: the masks of its literals.
 pub fn list(sheet: &[u8], at: usize, book: &mut [u32], row: usize) -> usize
     requires { ⌜ ListRecordSound (now sheet) at × (row + 1 < length (now book)) ⌝ }
     ensures { λ r. ⌜ RecordWritten (now (sheet .entry)) at (now (book .entry)) row (now (book .exit)) r ⌝ }
@@ -41,7 +42,7 @@ pub fn list(sheet: &[u8], at: usize, book: &mut [u32], row: usize) -> usize
     end
 }
 
-// A step rule: the masks of its left and of its right side.
+// Compiles a step rule, the same way: the masks of its left and of its right side.
 pub fn step(sheet: &[u8], at: usize, book: &mut [u32], row: usize) -> usize
     requires { ⌜ StepSound (now sheet) at × (row + 3 < length (now book)) ⌝ }
     ensures { λ r. ⌜ StepWritten (now (sheet .entry)) at (now (book .entry)) row (now (book .exit)) r ⌝ }

@@ -88,7 +88,7 @@ fn pledges(sheet: &[u8], from: usize, book: &mut [u32]) -> usize
     at
 }
 
-// Compiles a good sheet into its book.
+// Compiles a good sheet into its book, a slice of 1,698 numbers; what stood there does not matter.
 pub fn compile(sheet: &[u8], book: &mut [u32])
     requires { ⌜ (firstFault (now sheet) ≡ none) × (length (now book) ≡ bookSize) ⌝ }
     ensures { λ _. ⌜ BookOf (decode (now (sheet .entry))) (now (book .exit)) ⌝ }

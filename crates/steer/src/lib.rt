@@ -3,7 +3,7 @@
 // states, the moves between them are stored once, if they have room, and the distances and every step look at stored moves only.
 
 ghost use mathlib.Core.Path.{_≡_};
-ghost use mathlib.Core.Bool.{_&&_};
+ghost use mathlib.Core.Bool.{true, _&&_};
 ghost use Prim.Native.Nat.{_+_, _-_, _*_, _^_, _≤_, _<_};
 ghost use lib.Bits.{bitOr};
 ghost use lib.Dec.{ltb, eqb};
@@ -649,14 +649,22 @@ fn walk_large(book: &[u32], table: &[u32], words: &mut [u32], run: &mut [u32], k
     )
 }
 
-// Writes the sample run's states into `run` if they fit; a and b. The first k places of the table list the livable states.
+// Whether a small array holds the distances, and there are so few states that testing pairs is no more work than storing their moves.
+fn is_small(room: usize, k: usize) -> bool
+    ensures { λ b. ⌜ (b ≡ true → room ≤ 8192) ⌝ }
+{
+    if k <= 512 { room <= 8192 } else { false }
+}
+
+// Finds the sample run of the k livable states in the table's front. b is its length; if b places fit, run begins with its states and a is
+// the moment that it goes back to, else run is unchanged. The words are worked in.
 pub fn steer(book: &[u32], table: &[u32], words: &mut [u32], run: &mut [u32], k: usize) -> Steps
     requires { ⌜ Ready (now book) (now table) (now words) k ⌝ }
     ensures { λ r. ⌜ Told (now (book .entry)) (now (words .entry)) (now (words .exit)) (now (run .entry)) (now (run .exit)) (r .a) (r .b) ⌝ }
 {
     let aims = count_aims(book);
     let room = aims * k;
-    if room <= 8192 {
+    if is_small(room, k) {
         return walk_small(book, table, words, run, k);
     }
     walk_large(book, table, words, run, k)

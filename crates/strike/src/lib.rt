@@ -416,7 +416,7 @@ fn strike_few(
     scratch: &mut [u32],
     r: usize,
 ) -> usize
-    requires { ⌜ Strikable (now book) (now table) (now words) (now scratch) r × Zeros (now words) r × Zeros (now scratch) r × (r < 256) ⌝ }
+    requires { ⌜ Strikable (now book) (now table) (now words) (now scratch) r × Zeros (now words) r × Zeros (now scratch) r × (r < 512) ⌝ }
     ensures { λ left. ⌜ Stricken (now (book .entry)) (now (table .entry)) r (now (words .entry)) (now (words .exit)) (now (scratch .entry))
         (now (scratch .exit)) left ⌝ }
 {
@@ -424,7 +424,7 @@ fn strike_few(
     let empty = &none[..0];
     let mut queue = [0u16; 1];
     let mut clauses = [0u32; 510];
-    let mut dist = [0u16; 256];
+    let mut dist = [0u16; 512];
     rounds(
         book,
         table,
@@ -496,7 +496,7 @@ fn strike_many(
 }
 
 // Gives each of the table's first r states, which are all reachable states, its word: 0 if it is livable, or else 32 times the round plus
-// the reason for which it is struck; how many are left.
+// the reason for which it is struck; how many are left. The scratch is worked in.
 pub fn strike(
     book: &[u32],
     table: &[u32],
@@ -510,7 +510,7 @@ pub fn strike(
 {
     wipe(words, r);
     wipe(scratch, r);
-    if r < 256 {
+    if r < 512 {
         return strike_few(book, table, words, scratch, r);
     }
     strike_many(book, table, words, scratch, r)

@@ -25,14 +25,14 @@ ghost use Rattle.strikecheck.specs.Strikes.{Rising, ReasonsFit, StateOk,
 ghost use Rattle.strikecheck.specs.Strikes.{Follows, EntryAsks, EntriesAsk, Accepted, AllRight, PaperChecked};
 ghost use Rattle.strikecheck.specs.Windows.{pastAll, Window};
 
-// States and words as numbers.
+// Checks a strike list. 0 exactly if document 01 accepts it (then no run obeys the sheet), 1 to 10 for a bad sheet, else 14.
 pub fn check_strikes(sheet: &[u8], states: &[u32], words: &[u32]) -> u32
     ensures { λ r. ⌜ StrikesChecked (now (sheet .entry)) (now (states .entry)) (now (words .entry)) r ⌝ }
 {
     check(sheet, &sheet[..0], states, &sheet[..0], words)
 }
 
-// States and words as bytes, four each, big-endian.
+// The same with states and words as bytes, four each, big-endian; a length that is no multiple of four gets 14.
 pub fn check_strikes_bytes(sheet: &[u8], states: &[u8], words: &[u8]) -> u32
     ensures { λ r. ⌜ StrikesBytesChecked (now (sheet .entry)) (now (states .entry)) (now (words .entry)) r ⌝ }
 {

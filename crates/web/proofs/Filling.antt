@@ -1,6 +1,5 @@
 -- Rows of moves forth, written one after the other. Assumes nothing.
 use mathlib.Core.Path.{_≡_, refl, sym, subst, _∙_}
-use mathlib.Core.Bool.{true, false, true≢false}
 use mathlib.Core.Logic.{_⊎_, inl, inr}
 use mathlib.Core.List.{List}
 use Prim.Native.Nat.{ℕ, suc, _+_, _≤_, _<_}
@@ -8,9 +7,8 @@ use native.Mathlib.Decide.{ℕ-discrete}
 use native.Mathlib.Omega.{arith}
 use lib.ListN.{length, getD, set, length-set}
 use lib.Seq.{getD-set-same, getD-set-other}
-use Rattle.rules.specs.Book.{clausesOk}
 use Rattle.web.specs.Web.{Forth}
-use Rattle.web.specs.Storing.{Row, Fitting, Nexts, Filled}
+use Rattle.web.specs.Storing.{Row, Nexts, Filled}
 
 -- ---- one row
 
@@ -130,42 +128,6 @@ filled-over Q at over cells h = record { long = refl; keeps = λ e l. refl; row 
 pub filled-same : (P Q : ℕ → Type 0) {at to : ℕ} {old new : List ℕ} → ((j : ℕ) → P j → Q j) → ((j : ℕ) → Q j → P j) → Filled P at old new to
     → Filled Q at old new to
 filled-same P Q there back w = record { long = w .long; keeps = w .keeps; row = λ h. row-same P Q there back (w .row h) }
-
--- ---- by tests
-
-module _ (clauses : List ℕ) (count : ℕ) (table : List ℕ) where
-  -- No place is below the first.
-  pub fitting-none : (j : ℕ) → Fitting clauses count table 0 j → ⊥
-  fitting-none j (h, f) = omega arith
-
-  -- A place that fits is written.
-  pub fitting-more : (j at to : ℕ) (old new : List ℕ) → to < length old → Filling (Fitting clauses count table j) at old new to
-      → clausesOk clauses count (getD table j 0) ≡ true → Filling (Fitting clauses count table (j + 1)) at old (set new to j) (to + 1)
-  fitting-more j at to old new room w f =
-      filling-more (Fitting clauses count table j) (Fitting clauses count table (j + 1)) at to j old new room w (λ i p. p .0)
-      (λ i p. (let a = p .0 in omega arith, p .1)) (omega arith, f) (λ i q. by i q (ℕ-discrete i j))
-    where
-      by : (i : ℕ) → Fitting clauses count table (j + 1) i → Dec (i ≡ j) → Fitting clauses count table j i ⊎ (i ≡ j)
-      by i q (yes d) = inr d
-      by i q (no d) = inl (let a = q .0 in omega arith, q .1)
-
-  -- Any other is passed by.
-  pub fitting-past : (j at to : ℕ) (old new : List ℕ) → Filling (Fitting clauses count table j) at old new to
-      → clausesOk clauses count (getD table j 0) ≡ false → Filling (Fitting clauses count table (j + 1)) at old new to
-  fitting-past j at to old new w f =
-      filling-same (Fitting clauses count table j) (Fitting clauses count table (j + 1)) (λ i p. (let a = p .0 in omega arith, p .1))
-      (λ i q. (by i q (ℕ-discrete i j), q .1)) w
-    where
-      by : (i : ℕ) → Fitting clauses count table (j + 1) i → Dec (i ≡ j) → i < j
-      by i q (yes d) = absurd (true≢false (sym (q .1) ∙ subst (λ (x : ℕ). clausesOk clauses count (getD table x 0) ≡ false) (sym d) f))
-      by i q (no d) = let a = q .0 in omega arith
-
-  -- Once all places are tested the row is filled.
-  pub fitting-filled : (r j at to : ℕ) (old new : List ℕ) → j ≡ r → Filling (Fitting clauses count table j) at old new to
-      → Filled (Fitting clauses count table r) at old new to
-  fitting-filled r j at to old new e w =
-      filling-filled (Fitting clauses count table j) (Fitting clauses count table r) (λ i p. (let a = p .0 in omega arith, p .1))
-      (λ i p. (let a = p .0 in omega arith, p .1)) w
 
 -- ---- row after row
 

@@ -1,4 +1,3 @@
-pub mod Moves
 pub mod Filling
 pub mod Lookups
 pub mod Turns

@@ -15,11 +15,16 @@ mul-room c =
     let start = c .before .before .before .before .before in
     omega (arith, few-rows (start .pre .shaped) (c .count-aims .result) (start .args .k) (c .count-aims .ensures) (start .pre .few))
 
+is-small-requires : tie.Need-is-small-requires
+is-small-requires c κs = search needs
+
 walk-small-requires : tie.Need-walk-small-requires
 walk-small-requires c κs =
-    let at-count-aims = c .before .before .before in
+    let at-if1 = c .before .before in
+    let at-is-small = at-if1 .before in
+    let at-count-aims = at-is-small .before in
     let start = at-count-aims .before .before .before .before .before in
-    (start .pre, subst (λ (y : ℕ). y * start .args .k ≤ 8192) (at-count-aims .count-aims .ensures) (c .before .before .if1 .taken))
+    (start .pre, subst (λ (y : ℕ). y * start .args .k ≤ 8192) (at-count-aims .count-aims .ensures) (at-is-small .is-small .ensures (at-if1 .if1 .taken)))
 
 same-length : tie.Need-same-length
 same-length c = search needs
@@ -48,6 +53,7 @@ steer-spec =
     (tie.spec
     count-aims-requires
     mul-room
+    is-small-requires
     walk-small-requires
     same-length
     same-length-2

@@ -19,7 +19,7 @@ fn families() -> Vec<Family> {
         named("12 letters, nearly every move", make::dense(12)),
         named("counter of 12 letters", make::counter(12)),
         named("counter of 12 letters to a dead end", make::counter_to_dead_end(12)),
-        named("chain of promises, one state at a time", make::falling_promises(6)),
+        named("chain of promises, one state at a time", make::falling_promises(8)),
         named("run of K x p moments", make::long_run(12, 16)),
         named("24 letters, no rules: too many states", make::free(24)),
     ]

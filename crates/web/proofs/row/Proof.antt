@@ -1,12 +1,12 @@
--- `web::list_row` meets its contract: the places of the listed next states are the places that s moves to. Assumes nothing.
+-- `web::row` meets its contract: the places of the listed next states are the places that s moves to. Assumes nothing.
 use mathlib.Core.Path.{_∙_}
 use Rattle.listing.proofs.Front.{front-long}
 use Rattle.web.proofs.Filling.{filled-over}
 use Rattle.web.proofs.Lookups.{storable-sorted, listing-sorted, listing-nexts}
 use native.Mathlib.Omega.{arith}
 use borrow.Author.Needs.{needs}
-use Rattle.web.proofs.list_row.Statement.{statement}
-use Rattle.web.proofs.list_row.Tie as tie
+use Rattle.web.proofs.row.Statement.{statement}
+use Rattle.web.proofs.row.Tie as tie
 
 next-states-requires : tie.Need-next-states-requires
 next-states-requires c κs = search needs
@@ -51,8 +51,8 @@ returns-2 c =
       front-long _ _ _ (at-next-states .next-states .ensures) ∙ entry .pre .2,
     )
 
-pub list-row-spec : {M : Type 1} → statement M
-list-row-spec =
+pub row-spec : {M : Type 1} → statement M
+row-spec =
     tie.close
     (tie.spec
     next-states-requires
