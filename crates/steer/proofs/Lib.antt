@@ -1,4 +1,4 @@
-pub mod Marks
+pub mod Wiping
 pub mod Books
 pub mod Places
 pub mod Distances

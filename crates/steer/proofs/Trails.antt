@@ -14,8 +14,9 @@ use Rattle.meaning.specs.Sample.{Passes, Best, Sample}
 use Rattle.meaning.proofs.Unique.{best-unique, passes-unique}
 use Rattle.meaning.proofs.SampleRun.{aim-below}
 use Rattle.rules.specs.Book.{Shaped, bookSystem, bookFirst}
-use Rattle.steer.specs.Walk.{Livables, aimsOf, Zero, FirstPlace, Stepped, bit, Cut}
-use Rattle.steer.proofs.Marks.{bit-none, bit-marked, bit-unmarked}
+use Rattle.steer.specs.Walk.{Livables, aimsOf, Zero, FirstPlace, Stepped, Cut}
+use Rattle.marks.specs.Marks.{bit}
+use Rattle.marks.proofs.Marks.{bit-none, bit-marked, bit-unmarked}
 use Rattle.steer.proofs.Books.{clash, promises-are, first-is, first-true, finite-book}
 use Rattle.steer.proofs.Places.{same-place, places-rise, the-sample, some-first, pairs-within}
 

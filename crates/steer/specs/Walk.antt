@@ -4,7 +4,7 @@ use mathlib.Core.Path.{_≡_}
 use mathlib.Core.Bool.{Bool, true, false, _&&_}
 use mathlib.Core.Logic.{_⊎_}
 use mathlib.Core.List.{List}
-use Prim.Native.Nat.{ℕ, zero, suc, _+_, _-_, _*_, _/_, _%_, _≤_, _<_}
+use Prim.Native.Nat.{ℕ, suc, _+_, _-_, _*_, _≤_, _<_}
 use lib.Dec.{eqb}
 use lib.ListN.{length, getD, take}
 use Rattle.meaning.specs.System.{System, Livable, Lists}
@@ -129,11 +129,6 @@ pub record Stepped (S : System) (table : List ℕ) (k place aim place′ aim′ 
   pub inside : place′ < k
 
 -- ---- the walk
-
--- bit k of x: 0 or 1
-abbrev pub bit : ℕ → ℕ → ℕ
-bit zero x = x % 2
-bit (suc k) x = bit k (x / 2)
 
 -- The sample run meets its first pair of state and aim for the second time at moment b, and the pair is that of `place` and `aim`.
 pub record Cut (S : System) (table : List ℕ) (b place aim : ℕ) : Type 0 where

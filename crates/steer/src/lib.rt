@@ -4,8 +4,7 @@
 
 ghost use mathlib.Core.Path.{_≡_};
 ghost use mathlib.Core.Bool.{true, _&&_};
-ghost use Prim.Native.Nat.{_+_, _-_, _*_, _^_, _≤_, _<_};
-ghost use lib.Bits.{bitOr};
+ghost use Prim.Native.Nat.{_+_, _-_, _*_, _≤_, _<_};
 ghost use lib.Dec.{ltb, eqb};
 ghost use lib.ListN.{length, getD};
 ghost use Rattle.meaning.specs.Sample.{Passes};
@@ -14,7 +13,7 @@ ghost use Rattle.web.specs.Web.{Storable, Room};
 ghost use Rattle.distances.specs.Follow.{Followable};
 ghost use Rattle.steer.specs.Stored.{Onward, Stores, BestAt, Lookable, NearestCell, cellAt};
 ghost use Rattle.steer.specs.Walk.{Ready, Told, aimsOf, Zero, Wiped, Ground, Rows, Laid, FirstPlace, passesAt, rowAt, Picked, Stepped, FirstAt, Pickable};
-ghost use Rattle.steer.specs.Walk.{bit, Ended, Known, BackFrom, Written};
+ghost use Rattle.steer.specs.Walk.{Ended, Known, BackFrom, Written};
 
 // a, the moment that the run goes back to, and b, how many states it has.
 pub struct Steps {
@@ -36,22 +35,6 @@ pub struct End {
 }
 
 // ---- marks: bit `aim` of a place's word says that the pair was met
-
-// Whether the pair was met.
-fn met(word: u32, aim: usize) -> bool
-    requires { ⌜ aim < 32 ⌝ }
-    ensures { λ r. ⌜ r ≡ eqb (bit aim word) 1 ⌝ }
-{
-    (word >> (aim as u32)) % 2 == 1
-}
-
-// The word with the pair marked.
-fn mark(word: u32, aim: usize) -> u32
-    requires { ⌜ aim < 32 ⌝ }
-    ensures { λ r. ⌜ r ≡ bitOr word (2 ^ aim) ⌝ }
-{
-    word | (1u32 << (aim as u32))
-}
 
 // Takes all marks away.
 fn wipe(words: &mut [u32], k: usize)
@@ -418,7 +401,7 @@ fn find_end(
     let mut place = first_place(book, table, k);
     let mut aim: usize = 0;
     let mut b: usize = 0;
-    while !met(words[place], aim) {
+    while !marks::met(words[place], aim) {
         let next = step(
             book,
             table,
@@ -431,7 +414,7 @@ fn find_end(
             ends,
             cells,
         );
-        words[place] = mark(words[place], aim);
+        words[place] = marks::mark(words[place], aim);
         place = next.place;
         aim = next.aim;
         b += 1;

@@ -6,7 +6,7 @@ use native.Mathlib.Omega.{arith}
 use lib.ListN.{length, length-set, set}
 use Rattle.rules.specs.Book.{bookSystem}
 use Rattle.steer.specs.Walk.{aimsOf}
-use Rattle.steer.proofs.Marks.{marked-of, unmarked-of}
+use Rattle.marks.proofs.Marks.{marked-of, unmarked-of}
 use Rattle.steer.proofs.Trails.{Trail, few-aims, few-pairs, trail-aimed, trail-ends, trail-goes, trail-room, trail-starts}
 use Rattle.steer.proofs.find_end.Statement.{statement}
 use Rattle.steer.proofs.find_end.Tie as tie

@@ -3,7 +3,7 @@ use Prim.Native.Nat.{_-_, _≤_}
 use native.Mathlib.Omega.{arith}
 use lib.ListN.{length, length-set}
 use Rattle.steer.specs.Walk.{Wiped}
-use Rattle.steer.proofs.Marks.{wiped-more, wiped-none, wiped-to}
+use Rattle.steer.proofs.Wiping.{wiped-more, wiped-none, wiped-to}
 use Rattle.steer.proofs.wipe.Statement.{statement}
 use Rattle.steer.proofs.wipe.Tie as tie
 
