@@ -25,7 +25,7 @@
  *
  * Link libfirmware.a (both checkers), libjudge.a (naxxurbi_judge) or libreader.a (naxxurbi_read); each stands alone.
  *
- * Stack, measured by host/c/stack.c: 538 KB for the judge, 7.1 KB for the run checker, 12 KB for the strike checker.
+ * Stack, measured by host/c/stack.c: 833 KB for the judge, 7.1 KB for the run checker, 12.1 KB for the strike checker.
  *
  * Time. The run checker looks at each state once for each rule and promise. The strike checker counts, for the first states and for each
  * entry that asks for something new, the states that may come next, and stops once there are more than the list could hold. It settles

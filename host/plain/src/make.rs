@@ -677,6 +677,32 @@ pub fn counter_to_dead_end(letters: u8) -> Draft {
     draft
 }
 
+/// A counter with a few of its rules left out, so that some letters are free at
+/// some moves; with a few promises; sometimes with states that have no way on:
+/// many states with few next states each, in all kinds of circles and chains.
+pub fn loosened_counter(rng: &mut Rng, letters: u8) -> Draft {
+    let mut draft = counter(letters);
+    for _ in 0..rng.below(4) {
+        let rule = rng.below(draft.steps.len());
+        draft.steps.remove(rule);
+    }
+    let literal = |rng: &mut Rng| {
+        let letter = rng.within(1, letters as usize) as i8;
+        if rng.below(2) == 0 { letter } else { -letter }
+    };
+    for _ in 0..rng.below(4) {
+        let promised = literal(rng);
+        draft.promise(promised);
+    }
+    for _ in 0..rng.below(3) {
+        let mut held: Vec<i8> = (0..rng.within(3, 8)).map(|_| literal(rng)).collect();
+        held.sort();
+        held.dedup();
+        draft.step(held, []);
+    }
+    draft
+}
+
 /// A chain of promises that falls one state and mostly one round at a time.
 ///
 /// The lowest `bits` letters count laps; the 16 letters above are places,

@@ -118,8 +118,13 @@ pub fn large(rng: &mut Rng, _: usize) -> bool {
         make::counter_to_dead_end(8),
         make::falling_promises(4),
         make::long_run(7, 16),
+        make::long_run(9, 5),
+        make::counter_to_dead_end(10),
+        make::falling_promises(6),
     ];
     sheets.extend(drafts.iter().map(|draft| draft.bytes()));
+    // Many states with few next states each: these the judge stores the moves of.
+    sheets.extend((0..48).map(|_| make::loosened_counter(rng, 10).bytes()));
     for sheet in &sheets {
         let lent = filled(rng, [1100, 1100, 2200, 4096]);
         if !agree(&mut tally, sheet, &lent) || !good(rng, &mut tally, sheet) {
