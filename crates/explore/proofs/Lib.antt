@@ -1,4 +1,3 @@
 pub mod Places
 pub mod Adding
-pub mod Lawful
 pub mod Going

@@ -9,4 +9,5 @@ pub mod Summing
 pub mod RowLaws
 pub mod SectionLaws
 pub mod BookLaws
+pub mod Facts
 pub mod FreerLaws

@@ -11,8 +11,9 @@ use borrow.Author.Count.{below-more}
 use lib.ListN.{length, getD}
 use Rattle.meaning.specs.System.{System}
 use Rattle.meaning.specs.Papers.{Listed, EntryRight, StrikesAccepted}
-use Rattle.rules.specs.Book.{bookLawful, bookSystem}
-use Rattle.rules.proofs.FreerLaws.{pass-true, freer-moves}
+use Rattle.rules.specs.Book.{bookSystem}
+use Rattle.rules.proofs.Facts.{lawful-true}
+use Rattle.rules.proofs.FreerLaws.{freer-moves}
 use Rattle.papers.specs.Paper.{Says}
 use Rattle.papers.proofs.Verdict.{clash, says-no, says-as}
 use Rattle.papers.proofs.Loops.{Passed, passed-none, passed-more}
@@ -141,9 +142,8 @@ shown-none = record { lawful = λ e. absurd (clash e refl); nexts = λ e. absurd
 -- So the next states of a state that may move only where that one may are there too.
 pub shown-follows : {book states : List ℕ} {any : Bool} {wide within s m : ℕ} → Shown (bookSystem book) states any wide within
     → Follows book any wide within s m → NextsWithin (bookSystem book) s states m
-unfolding bookSystem
 shown-follows {book} {states} {any} {wide} {within} {s} {m} shown f t move =
-    let lawful = pass-true (bookLawful book wide) (shown .lawful (f .shown)) in
+    let lawful = lawful-true book wide (shown .lawful (f .shown)) in
     let a = shown .nexts (f .shown) t (freer-moves book wide s lawful (f .freer) t move) in
     (a .0, omega (arith, a .1, f .no-more), a .2)
 

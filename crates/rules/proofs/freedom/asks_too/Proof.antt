@@ -1,6 +1,6 @@
 -- `asks_too` meets its contract. Assumes nothing.
 use mathlib.Core.Path.{sym, _∙_}
-use Rattle.rules.proofs.FreerLaws.{no-both}
+use Rattle.rules.proofs.Facts.{no-both}
 use borrow.Author.Needs.{needs}
 use Rattle.rules.proofs.freedom.asks_too.Statement.{statement}
 use Rattle.rules.proofs.freedom.asks_too.Tie as tie
