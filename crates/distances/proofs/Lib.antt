@@ -1,5 +1,4 @@
 pub mod Totals
-pub mod Moves
 pub mod Spreads
 pub mod Closed
 pub mod Turns

@@ -13,10 +13,10 @@ use lib.ListN.{length, getD, set, length-set}
 use lib.Seq.{getD-set-same, getD-set-other}
 use Rattle.meaning.specs.Strike.{Way}
 use Rattle.rules.specs.Book.{bookSystem}
+use Rattle.rules.proofs.Facts.{passes, kept-is, kept-true}
 use Rattle.distances.specs.Far.{Live, far, gone}
 use Rattle.distances.specs.Layers.{Begun, out, there, waits, fars, Reaches, as-was, reached, Spread, Done, Opening, keptIn}
 use Rattle.distances.proofs.Totals.{total-set-past}
-use Rattle.distances.proofs.Moves.{kept-true, true-kept, passes}
 
 -- a place that is set to d counts as far no more, and nothing before it changes
 pub fars-set : (near : List ℕ) (i d : ℕ) → i < length near → fars (set near i d) (suc i) ≡ fars near i + (d - gone)
@@ -201,5 +201,5 @@ begins-opening book k table words r i left near b e = record {
     by m h z (inr (q, t)) = inr (
       omega arith,
       subst (λ (x : ℕ). Way (bookSystem book) (Live table words r) (bookSystem book .Kept k) x (getD table m 0)) (sym q)
-          ((m, h, refl, z), true-kept book k (getD table m 0) t),
+          ((m, h, refl, z), kept-is book k (getD table m 0) t),
     )

@@ -8,9 +8,9 @@ use lib.ListN.{length, getD, take, drop, length-drop, length-append, List·getD-
 use lib.Seq.{length-take-le, getD-append-add, getD-take}
 use Rattle.meaning.specs.System.{System}
 use Rattle.rules.specs.Book.{BeforePack, bookSystem}
+use Rattle.rules.proofs.Facts.{move-steps, steps-move}
 use Rattle.distances.specs.Far.{Place, Live, Measured}
 use Rattle.distances.specs.Layers.{Measurable, clearOf, fars, Spread, Layered, Spreadable, LayerDone, Opening, Near}
-use Rattle.distances.proofs.Moves.{move-steps, steps-move}
 use Rattle.distances.proofs.Closed.{layered-past, layered-spread, layered-full, layered-next, quiet-near, full-near}
 
 -- what the values say of promise k and these words

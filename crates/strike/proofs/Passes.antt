@@ -11,6 +11,7 @@ use lib.ListN.{length, getD, set, length-set}
 use lib.Seq.{getD-set-same, getD-set-other}
 use Rattle.meaning.specs.Strike.{SavedBy}
 use Rattle.rules.specs.Book.{bookSystem}
+use Rattle.rules.proofs.Facts.{passes}
 use Rattle.web.specs.Web.{To}
 use Rattle.distances.specs.Far.{Live}
 use Rattle.strike.specs.Phases.{
@@ -36,7 +37,6 @@ use Rattle.strike.specs.Phases.{
   PhaseDone,
   Unphased,
 }
-use Rattle.distances.proofs.Moves.{passes}
 use Rattle.strike.proofs.Fallen.{free-set, points-fewer, phased-free}
 
 module _ (book table : List ℕ) (r v : ℕ) (old : List ℕ) where

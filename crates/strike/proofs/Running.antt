@@ -16,16 +16,11 @@ use Rattle.meaning.specs.System.{System}
 use Rattle.meaning.specs.Strike.{reasonOf, wordOf, Left}
 use Rattle.meaning.proofs.Lists.{rising-apart}
 use Rattle.rules.specs.Book.{bookSystem, promisesOf}
+use Rattle.rules.proofs.Facts.{promises-are, reached-lawful}
 use Rattle.web.specs.Web.{Storable}
-use Rattle.distances.proofs.Moves.{reached-lawful}
 use Rattle.strike.specs.Marked.{Word, unstruck, Marked}
 use Rattle.strike.specs.Phases.{Strikable, free, fresh, Pointers, Phased, Told, Unphased, Striking, Stricken}
 use Rattle.strike.proofs.Marks.{Mark, Standing, place-reachable, marks-unphased, standing-more, standing-livable}
-
--- the number of a book's promises is its system's
-pub promises-is : (book : List ℕ) → bookSystem book .promises ≡ promisesOf book
-unfolding bookSystem
-promises-is book = refl
 
 -- ---- phase numbers: phase round * (p + 1) + reason
 
@@ -87,7 +82,7 @@ module _ (book table words₀ scratch₀ : List ℕ) (r : ℕ) (asked : Strikabl
   S = bookSystem book
 
   few : S .promises < 32
-  few = let a = promises-is book in let b = asked .shaped .few-promises in omega arith
+  few = let a = promises-are book in let b = asked .shaped .few-promises in omega arith
 
   abbrev StandingAt : (words : List ℕ) (n quiet : ℕ) → Type 0
   StandingAt words n quiet = Standing S table r words n quiet
@@ -167,7 +162,7 @@ module _ (book table words₀ scratch₀ : List ℕ) (r : ℕ) (asked : Strikabl
 
     -- The next reason is one of the sheet's,
     pub running-within : reason ≤ promisesOf book
-    running-within = let a = promises-is book in let b = R .within in omega arith
+    running-within = let a = promises-are book in let b = R .within in omega arith
 
     -- its number is small,
     pub running-reason : reason ≤ 16
@@ -176,7 +171,7 @@ module _ (book table words₀ scratch₀ : List ℕ) (r : ℕ) (asked : Strikabl
     -- and so is its round's, while the rounds go on.
     pub running-base : (p : ℕ) → p ≡ promisesOf book → quiet ≤ p → base < 1000000
     running-base p is-p h =
-        let a = promises-is book in
+        let a = promises-are book in
         let b = R .early (omega arith) in
         let c = R .base-is in
         let d = asked .few in
@@ -200,7 +195,7 @@ module _ (book table words₀ scratch₀ : List ℕ) (r : ℕ) (asked : Strikabl
               new fallen quiet′ reason-is word-is phased q
 
           most : ((fallen ≡ 0) × (quiet′ ≡ suc quiet)) ⊎ ((fallen ≡ 0 → ⊥) × (quiet′ ≡ 0)) → quiet′ ≤ suc (S .promises)
-          most (inl (a, e)) = let d = promises-is book in omega arith
+          most (inl (a, e)) = let d = promises-are book in omega arith
           most (inr (a, e)) = omega arith
 
           left-now : left - fallen ≡ free new r
@@ -217,13 +212,13 @@ module _ (book table words₀ scratch₀ : List ℕ) (r : ℕ) (asked : Strikabl
               → suc (R .round) + (left - fallen) ≤ r
           same-struck (inl (a, e)) l = let d = R .struck-in (omega arith) in omega arith
           same-struck (inr (a, e)) l =
-              let d = R .early (let f = promises-is book in omega arith) in let g = running-fewer in omega arith
+              let d = R .early (let f = promises-are book in omega arith) in let g = running-fewer in omega arith
 
           -- the next round begins
           next-early : reason ≡ p → ((fallen ≡ 0) × (quiet′ ≡ suc quiet)) ⊎ ((fallen ≡ 0 → ⊥) × (quiet′ ≡ 0)) → quiet′ ≤ S .promises
               → suc (R .round) + (left - fallen) ≤ r
-          next-early g (inl (a, e)) l = let f = promises-is book in let d = R .struck-in (omega arith) in omega arith
-          next-early g (inr (a, e)) l = let f = promises-is book in let d = R .early (omega arith) in let k = running-fewer in omega arith
+          next-early g (inl (a, e)) l = let f = promises-are book in let d = R .struck-in (omega arith) in omega arith
+          next-early g (inr (a, e)) l = let f = promises-are book in let d = R .early (omega arith) in let k = running-fewer in omega arith
 
           by : ((reason < p) × (base′ ≡ base)) ⊎ ((reason ≡ p) × (base′ ≡ base + 32))
               → ((reason < p) × (reason′ ≡ suc reason)) ⊎ ((reason ≡ p) × (reason′ ≡ 0))
@@ -233,12 +228,12 @@ module _ (book table words₀ scratch₀ : List ℕ) (r : ℕ) (asked : Strikabl
           by (inl (l, e)) (inl (m, f)) = record {
             round = R .round;
             base-is = e ∙ R .base-is;
-            within = let d = promises-is book in omega arith;
+            within = let d = promises-are book in omega arith;
             stands = subst (λ (n : ℕ). StandingAt new n quiet′) (omega arith) next;
             left-is = left-now;
             long = long-now;
             quiet-most = most q;
-            early = λ _. stay-early (R .early (let d = promises-is book in omega arith));
+            early = λ _. stay-early (R .early (let d = promises-are book in omega arith));
             struck-in = λ s. same-struck q (omega arith);
           }
           by (inr (l, e)) (inr (m, f)) = record {
@@ -246,7 +241,7 @@ module _ (book table words₀ scratch₀ : List ℕ) (r : ℕ) (asked : Strikabl
             base-is = let a = R .base-is in omega arith;
             within = omega arith;
             stands = subst (λ (n : ℕ). StandingAt new n quiet′)
-                (let d = promises-is book in let g = suc-mul (R .round) (suc (S .promises)) in omega arith) next;
+                (let d = promises-are book in let g = suc-mul (R .round) (suc (S .promises)) in omega arith) next;
             left-is = left-now;
             long = long-now;
             quiet-most = most q;
@@ -259,7 +254,7 @@ module _ (book table words₀ scratch₀ : List ℕ) (r : ℕ) (asked : Strikabl
     running-marked p is-p h = record { left-is = R .left-is ∙ unstruck-free words r; word = λ i l. by (getD words i 0) (R .stands .marks i l) }
       where
         done : quiet ≡ suc (S .promises)
-        done = let a = promises-is book in let b = R .quiet-most in omega arith
+        done = let a = promises-are book in let b = R .quiet-most in omega arith
 
         by : {s : ℕ} (w : ℕ) → Mark S (phaseOf S (R .round) reason) s w → Word S s w
         by {s} w (inl (z, l)) = inl (

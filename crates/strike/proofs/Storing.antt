@@ -6,8 +6,8 @@ use mathlib.Core.List.{List}
 use Prim.Native.Nat.{ℕ, _≤_}
 use native.Mathlib.Omega.{arith}
 use lib.ListN.{length}
+use Rattle.rules.proofs.Facts.{passes}
 use Rattle.web.specs.Web.{Forth, Room, Turnable, Turned}
-use Rattle.distances.proofs.Moves.{passes}
 use Rattle.strike.specs.Stored.{Stored, StoredRows}
 
 -- Slices of these lengths have room for the rows of r places.
