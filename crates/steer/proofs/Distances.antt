@@ -16,8 +16,8 @@ use Rattle.meaning.proofs.SampleRun.{kept-of-met}
 use Rattle.meaning.proofs.Exists.{livable-way}
 use Rattle.distances.specs.Far.{Live, far, Place, near, never, struck, Measured}
 use Rattle.rules.specs.Book.{bookSystem, promisesOf}
+use Rattle.rules.proofs.Facts.{promises-are}
 use Rattle.steer.specs.Walk.{Livables, aimsOf, Rowed, Zero, Ground, Laid}
-use Rattle.steer.proofs.Books.{promises-are}
 
 -- A way is a way wherever its states and its goal hold more.
 way-both : (S : System) (U W G H : ℕ → Type 0) → ((s : ℕ) → U s → W s) → ((s : ℕ) → G s → H s) → (n s : ℕ) → Way S U G n s → Way S W H n s

@@ -16,8 +16,9 @@ use Rattle.meaning.proofs.SampleRun.{kept-of-met, next-aim-on, next-aim-back}
 use Rattle.meaning.proofs.Exists.{livable-next}
 use Rattle.distances.specs.Far.{far}
 use Rattle.rules.specs.Book.{bookSystem, bookKept, clausesOk, NextClauses}
+use Rattle.rules.proofs.Facts.{no-both, kept-is, kept-true, move-steps, steps-move}
 use Rattle.steer.specs.Walk.{aimsOf, Laid, Scanned, passesAt, rowAt, Picked, FirstAt}
-use Rattle.steer.proofs.Books.{clash, kept-is, kept-true, move-is, move-steps, livable-lawful}
+use Rattle.steer.proofs.Books.{livable-lawful}
 use Rattle.steer.proofs.Places.{places-rise}
 
 -- ---- the aim
@@ -44,7 +45,7 @@ passed-back book aim s e h = (inl (inr (kept-is book aim s e), sym (next-aim-bac
 pub passed-not : (book : List ℕ) (aim s : ℕ) → bookKept book aim s ≡ false → 1 ≤ bookSystem book .promises → aim < aimsOf (bookSystem book)
     → Passed (bookSystem book) aim s aim
 passed-not book aim s e h l =
-    (inr (λ m. clash (bookKept book aim s) (kept-true book aim s (kept-of-met (bookSystem book) aim s h m)) e, refl), l)
+    (inr (λ m. no-both (bookKept book aim s) (kept-true book aim s (kept-of-met (bookSystem book) aim s h m)) e, refl), l)
 
 -- ---- the scan
 
@@ -149,7 +150,7 @@ module _ {book table dist : List ℕ} {k : ℕ} (laid : Laid book table dist k) 
   next-not-nearer place inside same x h ok =
       let here : Livable (bookSystem book) (getD table x 0) = laid .livables .sound x h in
       let own = subst (Distance (bookSystem book) aim (rowAt dist (aim * k) place)) same (laid .rowed .distance aim place aimed inside) in
-      let move = move-is book s (getD table x 0) (livable-lawful book s alive) (livable-lawful book (getD table x 0) here)
+      let move = steps-move book s (getD table x 0) (livable-lawful book s alive) (livable-lawful book (getD table x 0) here)
       (sym (next .says (getD table x 0)) ∙ ok) in
       let fewest : rowAt dist (aim * k) place ≤ suc (rowAt dist (aim * k) x)
       = own .fewest (suc (rowAt dist (aim * k) x)) (alive, (getD table x 0, move, laid .rowed .distance aim x aimed h .way)) in
@@ -181,7 +182,7 @@ module _ {book table dist : List ℕ} {k : ℕ} (laid : Laid book table dist k) 
       by (inr w) = (
         w .0,
         record {
-          move = move-is book s (getD table r 0) (livable-lawful book s alive) (livable-lawful book (getD table r 0) here)
+          move = steps-move book s (getD table r 0) (livable-lawful book s alive) (livable-lawful book (getD table r 0) here)
               (sym (next .says (getD table r 0)) ∙ w .1);
           livable = here;
           far = d r;

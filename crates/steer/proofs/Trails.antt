@@ -14,10 +14,11 @@ use Rattle.meaning.specs.Sample.{Passes, Best, Sample}
 use Rattle.meaning.proofs.Unique.{best-unique, passes-unique}
 use Rattle.meaning.proofs.SampleRun.{aim-below}
 use Rattle.rules.specs.Book.{Shaped, bookSystem, bookFirst}
+use Rattle.rules.proofs.Facts.{no-both, promises-are, first-is, first-true}
 use Rattle.steer.specs.Walk.{Livables, aimsOf, Zero, FirstPlace, Stepped, Cut}
 use Rattle.marks.specs.Marks.{bit}
 use Rattle.marks.proofs.Marks.{bit-none, bit-marked, bit-unmarked}
-use Rattle.steer.proofs.Books.{clash, promises-are, first-is, first-true, finite-book}
+use Rattle.steer.proofs.Books.{finite-book}
 use Rattle.steer.proofs.Places.{same-place, places-rise, the-sample, some-first, pairs-within}
 
 -- ---- moments
@@ -31,7 +32,7 @@ first-inside {book} {table} {k} L h r p = by (decLt r k)
     by (no l) =
         let w = some-first L h in
         let s = getD table (w .0) 0 in
-        absurd (clash (bookFirst book s) (first-true book s (w .2)) (p .earlier (w .0) (omega (arith, w .1, p .inside))))
+        absurd (no-both (bookFirst book s) (first-true book s (w .2)) (p .earlier (w .0) (omega (arith, w .1, p .inside))))
 
 -- The first place with a first state holds the sample run's first state.
 pub sample-starts : {book table : List ℕ} {k : ℕ} → Livables (bookSystem book) table k → {f aim : ℕ → ℕ} → Sample (bookSystem book) f aim
@@ -42,7 +43,7 @@ sample-starts {book} {table} {k} L {f} x r p h = by (decLt (w .0) r)
     w = L .whole (f 0) (x .livable)
 
     by : Dec (w .0 < r) → f 0 ≡ getD table r 0
-    by (yes l) = absurd (clash (bookFirst book (getD table (w .0) 0))
+    by (yes l) = absurd (no-both (bookFirst book (getD table (w .0) 0))
         (first-true book (getD table (w .0) 0) (subst (bookSystem book .First) (sym (w .2)) (x .first))) (p .earlier (w .0) l))
     by (no l) = omega (
       arith,

@@ -1,7 +1,7 @@
 -- `steer::count_aims` meets its contract: with no promises there is one aim. Assumes nothing.
 use native.Mathlib.Omega.{arith}
 use borrow.Author.Needs.{needs}
-use Rattle.steer.proofs.Books.{promises-are}
+use Rattle.rules.proofs.Facts.{promises-are}
 use Rattle.steer.proofs.count_aims.Statement.{statement}
 use Rattle.steer.proofs.count_aims.Tie as tie
 

@@ -3,7 +3,7 @@ use mathlib.Core.Path.{sym, _∙_}
 use native.Mathlib.Omega.{arith}
 use borrow.Author.Needs.{needs}
 use Rattle.rules.specs.Book.{bookSystem}
-use Rattle.steer.proofs.Books.{promises-are}
+use Rattle.rules.proofs.Facts.{promises-are}
 use Rattle.steer.proofs.Nexts.{passed-back, passed-none, passed-not, passed-on}
 use Rattle.steer.proofs.passed.Statement.{statement}
 use Rattle.steer.proofs.passed.Tie as tie

@@ -4,7 +4,8 @@ use Prim.Native.Nat.{_-_, _≤_}
 use native.Mathlib.Omega.{arith}
 use lib.ListN.{getD, length}
 use Rattle.rules.specs.Book.{bookSystem}
-use Rattle.steer.proofs.Books.{livable-lawful, promises-are}
+use Rattle.rules.proofs.Facts.{promises-are}
+use Rattle.steer.proofs.Books.{livable-lawful}
 use Rattle.steer.proofs.Distances.{RowsTo, one-more-row, row-room, rowed-of-rows}
 use Rattle.steer.proofs.promise_rows.Statement.{statement}
 use Rattle.steer.proofs.promise_rows.Tie as tie

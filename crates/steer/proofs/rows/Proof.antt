@@ -4,7 +4,7 @@ use Prim.Native.Nat.{ℕ, _*_, _≤_}
 use native.Mathlib.Omega.{arith}
 use borrow.Author.Needs.{needs}
 use lib.ListN.{length}
-use Rattle.steer.proofs.Books.{promises-are}
+use Rattle.rules.proofs.Facts.{promises-are}
 use Rattle.steer.proofs.Distances.{rowed-of-none}
 use Rattle.steer.proofs.rows.Statement.{statement}
 use Rattle.steer.proofs.rows.Tie as tie
