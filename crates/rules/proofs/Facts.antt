@@ -1,5 +1,5 @@
 -- A book's tests as the facts of its system: a lawful state, a first state, a kept promise and a move are tests passed, and what is
--- reached is lawful. The crates above take these facts from here, so that none of them looks into the system. Assumes nothing.
+-- reached is lawful. The crates above take these facts from here and need not look into the system for them. Assumes nothing.
 use mathlib.Core.Path.{_≡_, refl, sym, subst}
 use mathlib.Core.Bool.{Bool, true, false, _&&_}
 use mathlib.Core.List.{List}

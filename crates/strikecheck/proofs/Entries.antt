@@ -1,7 +1,7 @@
 -- What an entry must show, by the words: the words never fall, so the states listed with words below a limit are those at the first
 -- places, as many as have such words (among-listed, listed-among); and an entry is right if no promise of its reason is kept and its next
 -- states are there (entry-says). Assumes nothing.
-use mathlib.Core.Path.{_≡_, refl, sym, _∙_, ap, subst}
+use mathlib.Core.Path.{_≡_, refl, sym, ap, subst}
 use mathlib.Core.Bool.{Bool, true, false}
 use mathlib.Core.List.{List}
 use Prim.Native.Nat.{ℕ, zero, suc, _+_, _-_, _%_, _≤_, _<_}
@@ -15,7 +15,7 @@ use Rattle.rules.specs.Book.{bookSystem}
 use Rattle.rules.proofs.Facts.{lawful-true}
 use Rattle.rules.proofs.FreerLaws.{freer-moves}
 use Rattle.papers.specs.Paper.{Says}
-use Rattle.papers.proofs.Verdict.{clash, says-no, says-as}
+use Rattle.papers.proofs.Verdict.{clash, says-as}
 use Rattle.papers.proofs.Loops.{Passed, passed-none, passed-more}
 use Rattle.covers.specs.Counts.{Among}
 use Rattle.covers.specs.Asks.{AllLawful, FirstsListed, NextsWithin}
