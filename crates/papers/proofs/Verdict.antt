@@ -6,15 +6,16 @@ use mathlib.Core.Logic.{_↔_}
 use mathlib.Core.Bool.{Bool, true, false}
 use mathlib.Core.Option.{Option, none, some}
 use mathlib.Core.List.{List}
-use Prim.Native.Nat.{ℕ, _≤_, _<_}
+use Prim.Native.Nat.{ℕ}
 use native.Mathlib.Omega.{arith}
 use lib.Dec.{T}
 use Rattle.meaning.specs.System.{System}
-use Rattle.meaning.specs.Sheet.{Fault, numberOf, firstFault, decode}
+use Rattle.meaning.specs.Sheet.{Fault, firstFault, decode}
 use Rattle.meaning.specs.Rules.{systemOf}
 use Rattle.meaning.specs.Promises.{ReadSays, readNumber, systemIn, Checked, faulty, accepted, refused}
 use Rattle.meaning.proofs.Demands.{fault-number}
 use Rattle.meaning.proofs.Promised.{bad-not-good}
+use Rattle.rules.proofs.Facts.{passed, passes}
 use Rattle.papers.specs.Paper.{Says}
 
 -- ---- what a test says
@@ -30,20 +31,9 @@ says-yes p = record { yes = λ e. p; never = λ e _. clash refl e }
 pub says-no : {P : Type 0} → (P → ⊥) → Says P false
 says-no n = record { yes = λ e. absurd (clash e refl); never = λ e. n }
 
--- A test that came out true holds, one that came out false does not, and one that holds is true.
-pub true-holds : {b : Bool} → b ≡ true → T b
-true-holds {b} e = subst T (sym e) tt
-
-pub false-fails : {b : Bool} → b ≡ false → T b → ⊥
-false-fails {b} e t = subst T e t
-
-pub holds-true : (b : Bool) → T b → b ≡ true
-holds-true true t = refl
-holds-true false t = absurd t
-
 -- A test's own value says whether it holds.
 pub says-test : {r : Bool} (b : Bool) → r ≡ b → Says (T b) r
-says-test b e = record { yes = λ t. true-holds (sym e ∙ t); never = λ f. false-fails (sym e ∙ f) }
+says-test b e = record { yes = λ t. passes b (sym e ∙ t); never = λ f h. clash (passed b h) (sym e ∙ f) }
 
 -- A test says as much of what holds exactly if it does.
 pub says-as : {P Q : Type 0} {r : Bool} → (P → Q) → (Q → P) → Says P r → Says Q r
