@@ -31,7 +31,7 @@
  * entry that asks for something new, the states that may come next, and stops once there are more than the list could hold. It settles
  * the letters one at a time and drops what a limit or a rule rules out; on a sheet made so that this shows only at the last letters, that
  * is a walk of 2 to the power n steps for each such entry. Measured (docs/BENCHMARK.md, "late clash"): one entry of a sheet with 24
- * letters, 0.23 s under 4 step rules and 3.3 s under 255; each letter less halves it. Firmware that takes papers from strangers should
+ * letters, 0.23 s under 4 step rules and 3.0 s under 255; each letter less halves it. Firmware that takes papers from strangers should
  * bound the letters or the entries that it accepts. Repeated states are judged exactly, and can cost as many comparisons as the cube of
  * the list's length.
  */
