@@ -12,7 +12,7 @@ use Rattle.meaning.proofs.Unique.{distance-unique}
 use Rattle.meaning.proofs.Exists.{livable-next}
 use Rattle.distances.specs.Far.{far}
 use Rattle.rules.specs.Book.{bookSystem}
-use Rattle.web.specs.Web.{Forth, Storable, Turnable}
+use Rattle.web.specs.Web.{Forth, Storable}
 use Rattle.steer.specs.Stored.{BestAt, Lookable, cellAt, FoundAt, Looked, NearestCell}
 use Rattle.steer.specs.Walk.{Ready, Livables, aimsOf, Laid, rowAt}
 use Rattle.steer.proofs.Books.{livable-lawful}
@@ -166,13 +166,3 @@ storable-of {book} {table} {words} {k} r = record {
   where
     places : Livables (bookSystem book) table k
     places = livables-of table k (r .in-table) (r .livable)
-
--- Rows of moves forth can be turned.
-pub turnable-of : {book table starts ends cells : List ℕ} {k : ℕ} → k ≤ 16384 → Forth book table k starts ends cells → Turnable k starts ends cells
-turnable-of h f = record {
-  few = h;
-  in-starts = f .rows .in-starts;
-  in-ends = f .rows .in-ends;
-  in-cells = f .rows .in-cells;
-  places = λ i e p q l. f .rows .sound i e p q l .0;
-}

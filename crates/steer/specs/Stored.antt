@@ -8,16 +8,11 @@ use lib.ListN.{length, getD}
 use Rattle.meaning.specs.System.{System}
 use Rattle.meaning.specs.Sample.{Best}
 use Rattle.distances.specs.Far.{far}
-use Rattle.web.specs.Web.{Forth, Back}
+use Rattle.web.specs.Web.{Forth}
 
 -- where the moves are stored, the rows hold the moves forth
 abbrev pub Onward : (book table : List ℕ) (k : ℕ) (stored : Bool) (starts ends cells : List ℕ) → Type 0
 Onward book table k stored starts ends cells = stored ≡ true → Forth book table k starts ends cells
-
--- what storing tells: whether the moves are stored, both ways
-abbrev pub Stores : (book table : List ℕ) (k : ℕ) (stored : Bool) (starts ends cells starts′ ends′ cells′ : List ℕ) → Type 0
-Stores book table k stored starts ends cells starts′ ends′ cells′ =
-    stored ≡ true → Forth book table k starts ends cells × Back book table k starts′ ends′ cells′
 
 -- the state at place r is the best next state of the one at `place`, for that aim
 abbrev pub BestAt : (S : System) (table : List ℕ) (k place aim r : ℕ) → Type 0

@@ -9,9 +9,8 @@ ghost use lib.Dec.{ltb, eqb};
 ghost use lib.ListN.{length, getD};
 ghost use Rattle.meaning.specs.Sample.{Passes};
 ghost use Rattle.rules.specs.Book.{Shaped, bookSystem, clausesOk, promisesOf, gatherSize};
-ghost use Rattle.web.specs.Web.{Storable, Room};
 ghost use Rattle.distances.specs.Follow.{Followable};
-ghost use Rattle.steer.specs.Stored.{Onward, Stores, BestAt, Lookable, NearestCell, cellAt};
+ghost use Rattle.steer.specs.Stored.{Onward, BestAt, Lookable, NearestCell, cellAt};
 ghost use Rattle.steer.specs.Walk.{Ready, Told, aimsOf, Zero, Wiped, Ground, Rows, Laid, FirstPlace, passesAt, rowAt, Picked, Stepped, FirstAt, Pickable};
 ghost use Rattle.steer.specs.Walk.{Ended, Known, BackFrom, Written};
 
@@ -567,29 +566,6 @@ fn walk_small(book: &[u32], table: &[u32], words: &mut [u32], run: &mut [u32], k
     )
 }
 
-// Stores the moves of the first k places, forth and back; whether they had room.
-fn store(
-    book: &[u32],
-    table: &[u32],
-    k: usize,
-    starts: &mut [u16],
-    ends: &mut [u16],
-    cells: &mut [u16],
-    starts_back: &mut [u16],
-    ends_back: &mut [u16],
-    cells_back: &mut [u16],
-) -> bool
-    requires { ⌜ Storable (now book) (now table) k × Room k (now starts) (now ends) (now cells)
-        × Room k (now «starts_back») (now «ends_back») (now «cells_back») ⌝ }
-    ensures { λ b. ⌜ Stores (now (book .entry)) (now (table .entry)) k b (now (starts .exit)) (now (ends .exit)) (now (cells .exit))
-        (now («starts_back» .exit)) (now («ends_back» .exit)) (now («cells_back» .exit)) ⌝ }
-{
-    if web::forth(book, table, k, starts, ends, cells) {
-        return web::back(k, starts, ends, cells, starts_back, ends_back, cells_back);
-    }
-    false
-}
-
 // With room for as many distances as there can be, 16 rows of 16,384, and for the moves.
 fn walk_large(book: &[u32], table: &[u32], words: &mut [u32], run: &mut [u32], k: usize) -> Steps
     requires { ⌜ Ready (now book) (now table) (now words) k ⌝ }
@@ -603,7 +579,7 @@ fn walk_large(book: &[u32], table: &[u32], words: &mut [u32], run: &mut [u32], k
     let mut ends_back = [0u16; 16384];
     let mut cells_back = [0u16; 32768];
     let mut queue = [0u16; 16384];
-    let stored = store(
+    let stored = web::store(
         book,
         table,
         k,

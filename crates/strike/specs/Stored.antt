@@ -4,7 +4,7 @@ use mathlib.Core.Bool.{Bool, true}
 use mathlib.Core.List.{List}
 use Prim.Native.Nat.{ℕ, _≤_, _<_}
 use lib.ListN.{length, getD}
-use Rattle.web.specs.Web.{Forth, Back}
+use Rattle.web.specs.Web.{Forth}
 use Rattle.distances.specs.Follow.{Followable}
 use Rattle.strike.specs.Phases.{Sought}
 
@@ -24,8 +24,3 @@ SoughtInRow i words v lo starts ends cells q =
 pub record Stored (book table : List ℕ) (r : ℕ) (stored : Bool) (starts ends cells starts′ ends′ cells′ queue : List ℕ) : Type 0 where
   pub forth : stored ≡ true → Forth book table r starts ends cells
   pub back : Followable book table r stored starts′ ends′ cells′ queue
-
--- what storing tells: if it went well, the moves forth and the moves back are there
-pub record StoredRows (book table : List ℕ) (r : ℕ) (b : Bool) (starts ends cells starts′ ends′ cells′ : List ℕ) : Type 0 where
-  pub forth : b ≡ true → Forth book table r starts ends cells
-  pub back : b ≡ true → Back book table r starts′ ends′ cells′

@@ -10,8 +10,8 @@ ghost use lib.ListN.{length, getD};
 ghost use Rattle.rules.specs.Book.{gatherSize, clausesOk, bookLawful, promisesOf};
 ghost use Rattle.strike.specs.Phases.{Strikable, Stricken, Striking, PhaseDone, Told, Unphased, Zeros, Wiped};
 ghost use Rattle.strike.specs.Phases.{Says, Counts, Sought, Pointing, Pending, FarFree, Fell};
-ghost use Rattle.strike.specs.Stored.{Readable, SoughtInRow, Stored, StoredRows};
-ghost use Rattle.web.specs.Web.{Forth, Storable, Room};
+ghost use Rattle.strike.specs.Stored.{Readable, SoughtInRow, Stored};
+ghost use Rattle.web.specs.Web.{Forth};
 
 // Whether a word counts as unstruck in the phase that gives `word`: what fell in this very phase still does.
 fn counts(x: u32, word: u32) -> bool
@@ -385,29 +385,6 @@ fn rounds(
     left
 }
 
-// Stores the moves of the table's first r states, forth and back; whether there was room for them.
-fn store(
-    book: &[u32],
-    table: &[u32],
-    r: usize,
-    starts: &mut [u16],
-    ends: &mut [u16],
-    cells: &mut [u16],
-    starts_back: &mut [u16],
-    ends_back: &mut [u16],
-    cells_back: &mut [u16],
-) -> bool
-    requires { ⌜ Storable (now book) (now table) r × Room r (now starts) (now ends) (now cells)
-        × Room r (now «starts_back») (now «ends_back») (now «cells_back») ⌝ }
-    ensures { λ b. ⌜ StoredRows (now (book .entry)) (now (table .entry)) r b (now (starts .exit)) (now (ends .exit)) (now (cells .exit))
-        (now («starts_back» .exit)) (now («ends_back» .exit)) (now («cells_back» .exit)) ⌝ }
-{
-    if web::forth(book, table, r, starts, ends, cells) {
-        return web::back(r, starts, ends, cells, starts_back, ends_back, cells_back);
-    }
-    false
-}
-
 // Strikes few states, from words and pointers that are all 0: storing their moves would cost more than it saves.
 fn strike_few(
     book: &[u32],
@@ -465,7 +442,7 @@ fn strike_many(
     let mut queue = [0u16; 16384];
     let mut clauses = [0u32; 510];
     let mut dist = [0u16; 16384];
-    let stored = store(
+    let stored = web::store(
         book,
         table,
         r,

@@ -59,3 +59,8 @@ pub record Turnable (r : ℕ) (starts ends cells : List ℕ) : Type 0 where
 abbrev pub Turned : (r : ℕ) (starts ends cells starts′ ends′ cells′ : List ℕ) (b : Bool) → Type 0
 Turned r starts ends cells starts′ ends′ cells′ b =
     b ≡ true → (book table : List ℕ) → Rows (To book table) r starts ends cells → Back book table r starts′ ends′ cells′
+
+-- what storing tells: if it went well, the moves forth and the moves back are there
+pub record StoredRows (book table : List ℕ) (r : ℕ) (b : Bool) (starts ends cells starts′ ends′ cells′ : List ℕ) : Type 0 where
+  pub forth : b ≡ true → Forth book table r starts ends cells
+  pub back : b ≡ true → Back book table r starts′ ends′ cells′

@@ -1,8 +1,8 @@
 -- `steer::walk_large` meets its contract: 16 rows of 16,384 distances have room, and the moves are stored both ways or not used.
 -- Assumes nothing.
 use mathlib.Core.Path.{refl}
-use native.Mathlib.Omega.{arith}
 use borrow.Author.Needs.{needs}
+use Rattle.web.proofs.Both.{room-enough}
 use Rattle.steer.proofs.Stored.{storable-of}
 use Rattle.steer.proofs.Trails.{few-rows}
 use Rattle.steer.proofs.walk_large.Statement.{statement}
@@ -30,8 +30,8 @@ store-requires : tie.Need-store-requires
 store-requires c κs =
     let start = c .before .before .before .before .before .before .before .before .before .before in (
       storable-of (start .pre),
-      record { in-starts = start .pre .few; in-ends = start .pre .few; few-cells = omega arith },
-      record { in-starts = start .pre .few; in-ends = start .pre .few; few-cells = omega arith },
+      room-enough _ _ _ _ (start .pre .few) refl refl refl,
+      room-enough _ _ _ _ (start .pre .few) refl refl refl,
     )
 
 slice-aggregate-walk : tie.Need-slice-aggregate-walk
@@ -64,8 +64,8 @@ walk-requires c κs =
     let start = at-store .before .before .before .before .before .before .before .before .before .before .before in (
       start .pre,
       few-rows (start .pre .shaped) _ (start .args .k) refl (start .pre .few),
-      λ e. at-store .store .ensures e .0,
-      λ e. (at-store .store .ensures e .1, start .pre .few),
+      λ e. at-store .store .ensures .forth e,
+      λ e. (at-store .store .ensures .back e, start .pre .few),
     )
 
 same-length : tie.Need-same-length

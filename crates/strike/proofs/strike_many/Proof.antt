@@ -1,8 +1,9 @@
 -- `strike::strike_many` meets its contract. Assumes nothing.
 use mathlib.Core.Path.{refl}
 use borrow.Author.Needs.{needs}
+use Rattle.web.proofs.Both.{room-enough}
 use Rattle.strike.proofs.Running.{strikable-storable}
-use Rattle.strike.proofs.Storing.{room-enough, rows-stored}
+use Rattle.strike.proofs.Storing.{rows-stored}
 use Rattle.strike.proofs.strike_many.Statement.{statement}
 use Rattle.strike.proofs.strike_many.Tie as tie
 

@@ -1,7 +1,7 @@
--- `strike::store` meets its contract. Assumes nothing.
-use Rattle.strike.proofs.Storing.{forth-turnable, rows-both, rows-none}
-use Rattle.strike.proofs.store.Statement.{statement}
-use Rattle.strike.proofs.store.Tie as tie
+-- `web::store` meets its contract. Assumes nothing.
+use Rattle.web.proofs.Both.{forth-turnable, rows-both, rows-none}
+use Rattle.web.proofs.store.Statement.{statement}
+use Rattle.web.proofs.store.Tie as tie
 
 forth-requires : tie.Need-forth-requires
 forth-requires c κs = let entry = c .before .before .before .before .before .before .before .before .before .before .before in (entry .pre .0, entry .pre .1)
