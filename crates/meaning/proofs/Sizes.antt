@@ -4,7 +4,7 @@ use mathlib.Core.Path.{_≡_, sym, ap, subst}
 use mathlib.Core.Logic.{_↔_, _⊎_, inl, inr}
 use mathlib.Core.Option.{none}
 use mathlib.Core.List.{List}
-use Prim.Native.Nat.{ℕ, suc, _+_, _*_, _/_, _^_, _≤_, _<_, min}
+use Prim.Native.Nat.{ℕ, suc, _+_, _*_, _/_, _^_, _≤_, _<_}
 use native.Mathlib.Decide.{decLt, ℕ-discrete}
 use native.Mathlib.Nat.{div-lt-iff-lt-mul, mul-le-mul}
 use native.Mathlib.Omega.{arith}
@@ -85,16 +85,12 @@ run-states-small sheet {states} {a} good ok i h = by (decLt (suc i) (length stat
 
 -- ---- C and b
 
--- a number is at most the least of four, the third halved, exactly if it is at most each
-least : (t w s c : ℕ) → (c ≤ min (min t w) (min (s / 2) 16384)) ↔ ((c ≤ t) × (c ≤ w) × (2 * c ≤ s) × (c ≤ 16384))
-least t w s c = (λ h. (omega arith, omega arith, omega arith, omega arith), λ (p, q, r, h). omega arith)
-
 -- "C is the least of the table's length, the words' length, half the scratch length rounded down, and 16,384": c states have room exactly
 -- if there are c places in the table, c in the words and twice c in the scratch, and c is at most 16,384.
 pub capacity-exactly : (lent : Lent) (c : ℕ) → (c ≤ capacity lent)
     ↔ ((c ≤ length (lent .table)) × (c ≤ length (lent .words)) × (2 * c ≤ length (lent .scratch)) × (c ≤ 16384))
 unfolding capacity
-capacity-exactly lent c = least (length (lent .table)) (length (lent .words)) (length (lent .scratch)) c
+capacity-exactly lent c = (λ h. (omega arith, omega arith, omega arith, omega arith), λ (t, w, s, most). omega arith)
 
 -- b is at most 16 times C, whatever the sheet.
 run-within : (sheet : List ℕ) (lent : Lent) {states : List ℕ} {a : ℕ} → Roomy sheet lent → RunPaper (systemIn sheet) states a → length states ≤ 262144

@@ -19,9 +19,9 @@ pub run-paper-bytes : (sheet : List ℕ) {states : List ℕ} {a : ℕ} → first
     → Whole stateBytes (bytesOf stateBytes states) × RunAccepted (systemIn sheet) (numbersIn stateBytes (bytesOf stateBytes states)) a
 unfolding stateBytes
 run-paper-bytes sheet {states} {a} good ok = (
-  written-whole 4 states,
+  written-whole stateBytes states,
   subst (λ (l : List ℕ). RunAccepted (systemIn sheet) l a)
-      (sym (read-back 4 states (omega arith) (λ i h. omega (arith, run-states-small sheet good ok i h)))) ok,
+      (sym (read-back stateBytes states (omega arith) (λ i h. omega (arith, run-states-small sheet good ok i h)))) ok,
 )
 
 -- The strike list is accepted as bytes.
@@ -31,9 +31,9 @@ pub strike-paper-bytes : (sheet : List ℕ) {states words : List ℕ} → firstF
     × StrikesAccepted (systemIn sheet) (numbersIn stateBytes (bytesOf stateBytes states)) (numbersIn wordBytes (bytesOf wordBytes words))
 unfolding stateBytes wordBytes
 strike-paper-bytes sheet {states} {words} good list ok = (
-  written-whole 4 states,
-  written-whole 4 words,
+  written-whole stateBytes states,
+  written-whole wordBytes words,
   subst₂ (StrikesAccepted (systemIn sheet))
-      (sym (read-back 4 states (omega arith) (λ i h. omega (arith, struck-states-small sheet good ok i h))))
-      (sym (read-back 4 words (omega arith) (λ i h. omega (arith, words-small sheet good list i h)))) ok,
+      (sym (read-back stateBytes states (omega arith) (λ i h. omega (arith, struck-states-small sheet good ok i h))))
+      (sym (read-back wordBytes words (omega arith) (λ i h. omega (arith, words-small sheet good list i h)))) ok,
 )
