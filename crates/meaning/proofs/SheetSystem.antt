@@ -23,7 +23,11 @@ use Rattle.meaning.specs.Sheet.{
   nextAt,
   bodies,
   lettersIn,
+  leastBytes,
+  mostBytes,
   mostLetters,
+  mostLimits,
+  mostPromises,
   firstFault,
   Sheet,
   decode,
@@ -89,28 +93,28 @@ length-bodies bytes zero at = refl
 length-bodies bytes (suc count) at = ap suc (length-bodies bytes count (nextAt bytes at))
 
 -- The check on byte 7 passed in a good sheet: it comes behind those on the size, the version, the length, the letters and the limits.
-byte-7-checked : (bytes : List ℕ) → firstFault bytes ≡ none → T (leb (byte bytes 7) 16)
+byte-7-checked : (bytes : List ℕ) → firstFault bytes ≡ none → T (leb (byte bytes 7) mostPromises)
 unfolding firstFault
 byte-7-checked bytes e =
     let n : ℕ = length bytes in
-    let past-size = second-none (unless (leb 8 n && leb n 4096) badSize 0) _ e in
+    let past-size = second-none (unless (leb leastBytes n && leb n mostBytes) badSize 0) _ e in
     let past-version = second-none (unless (eqb (byte bytes 0) 1) badVersion 0) _ past-size in
     let past-length = second-none (unless (eqb (byte bytes 1 * 256 + byte bytes 2) n) badLength 1) _ past-version in
     let past-letters = second-none (unless (leb 1 (lettersIn bytes) && leb (lettersIn bytes) mostLetters) badLetters 3) _ past-length in
-    let past-limits = second-none (unless (leb (byte bytes 4) 32) tooMany 4) _ past-letters in
-    none-passes (leb (byte bytes 7) 16) tooMany 7 (first-none _ _ past-limits)
+    let past-limits = second-none (unless (leb (byte bytes 4) mostLimits) tooMany 4) _ past-letters in
+    none-passes (leb (byte bytes 7) mostPromises) tooMany 7 (first-none _ _ past-limits)
 
 -- A good sheet has at most 16 promises.
-pub few-promises : (bytes : List ℕ) → firstFault bytes ≡ none → systemIn bytes .promises ≤ 16
+pub few-promises : (bytes : List ℕ) → firstFault bytes ≡ none → systemIn bytes .promises ≤ mostPromises
 unfolding systemIn systemOf decode
-few-promises bytes e = rw (length-map, length-bodies) (leb→le (byte bytes 7) 16 (byte-7-checked bytes e))
+few-promises bytes e = rw (length-map, length-bodies) (leb→le (byte bytes 7) mostPromises (byte-7-checked bytes e))
 
 -- The check on the letters passed in a good sheet: it comes behind those on the size, the version and the length.
 letters-checked : (bytes : List ℕ) → firstFault bytes ≡ none → T (leb 1 (lettersIn bytes) && leb (lettersIn bytes) mostLetters)
 unfolding firstFault
 letters-checked bytes e =
     let n : ℕ = length bytes in
-    let past-size = second-none (unless (leb 8 n && leb n 4096) badSize 0) _ e in
+    let past-size = second-none (unless (leb leastBytes n && leb n mostBytes) badSize 0) _ e in
     let past-version = second-none (unless (eqb (byte bytes 0) 1) badVersion 0) _ past-size in
     let past-length = second-none (unless (eqb (byte bytes 1 * 256 + byte bytes 2) n) badLength 1) _ past-version in
     none-passes (leb 1 (lettersIn bytes) && leb (lettersIn bytes) mostLetters) badLetters 3 (first-none _ _ past-length)
