@@ -5,3 +5,4 @@ pub mod Findings
 pub mod Steps
 pub mod Sheets
 pub mod Corollaries
+pub mod Accepted

@@ -3,7 +3,7 @@
 -- form a rising chain. Reachability is the way back: a way in the reversed system. Assumes nothing.
 use mathlib.Core.Path.{subst}
 use mathlib.Core.Logic.{_⊎_, inl, inr, Dec·and, Dec·not}
-use Prim.Native.Nat.{ℕ, zero, suc, _+_, _<_}
+use Prim.Native.Nat.{ℕ, zero, suc, _+_, _*_, _≤_, _<_}
 use native.Mathlib.Decide.{map-dec, decLt}
 use native.Mathlib.Omega.{arith}
 use Rattle.meaning.specs.System.{System, Run, Livable, ReachedIn, Reachable, Finite}
@@ -103,11 +103,16 @@ left? {S} F (suc n) s = Dec·and (left? F n s) (saved? F (left? F n) (reasonOf S
 pub struck? : {S : System} → Finite S → (n s : ℕ) → Dec (Struck S n s)
 struck? {S} F n s = Dec·and (left? F n s) (Dec·not (saved? F (left? F n) (reasonOf S n) s))
 
--- Before some phase n, no state that is left is struck in the next p + 1 phases.
-pub quiet-exists : {S : System} → Finite S → (n : ℕ) × ((s : ℕ) → Left S n s → Left S (suc (S .promises) + n) s)
-quiet-exists {S} F =
+-- Before some phase n, at most p + 1 for each number below the bound, no state that is left is struck in the next p + 1 phases.
+pub quiet-within : {S : System} (F : Finite S)
+    → (n : ℕ) × (n ≤ F .bound * suc (S .promises)) × ((s : ℕ) → Left S n s → Left S (suc (S .promises) + n) s)
+quiet-within {S} F =
     let r = settles-falling {P = Left S} (λ n s l. l .0) (left? F) (F .bound) (suc (S .promises)) in
-    (r .0, λ s l. r .2 s (reachable-below F (left-reachable (r .0) l)) l)
+    (r .0, r .1, λ s l. r .2 s (reachable-below F (left-reachable (r .0) l)) l)
+
+-- So there is a quiet phase.
+pub quiet-exists : {S : System} → Finite S → (n : ℕ) × ((s : ℕ) → Left S n s → Left S (suc (S .promises) + n) s)
+quiet-exists F = let (n, within, quiet) = quiet-within F in (n, quiet)
 
 -- A reachable state is struck in some phase before n, or still left before phase n.
 pub struck-or-left : {S : System} → Finite S → (n : ℕ) {s : ℕ} → Reachable S s → ((m : ℕ) × (m < n) × Struck S m s) ⊎ Left S n s

@@ -238,6 +238,17 @@ cannot-hands-over {sheet} {lent} {o} j thirteen =
           (over-front words (zeros (lent .words)));
     })
 
+-- Whatever is not a fault and not 11 is said of a good sheet whose states have room.
+pub roomy-at-0 : {sheet : List ℕ} {lent : Lent} {o : Outcome} → Judged sheet lent o → o .answer ≡ 0 → Roomy sheet lent
+roomy-at-0 {lent = lent} j zero = let (l, states, a, same) = can-at-0 lent (j .finding) (answer-of j ∙ zero) in judged-as j same .0 .0
+
+pub roomy-at-12 : {sheet : List ℕ} {lent : Lent} {o : Outcome} → Judged sheet lent o → o .answer ≡ 12 → Roomy sheet lent
+roomy-at-12 {lent = lent} j twelve = let (b, same) = short-at-12 lent (j .finding) (answer-of j ∙ twelve) in judged-as j same .0 .0
+
+pub roomy-at-13 : {sheet : List ℕ} {lent : Lent} {o : Outcome} → Judged sheet lent o → o .answer ≡ 13 → Roomy sheet lent
+roomy-at-13 {lent = lent} j thirteen =
+    let (states, words, same) = cannot-at-13 lent (j .finding) (answer-of j ∙ thirteen) in judged-as j same .0 .0
+
 -- ---- demand 2
 
 -- "Can be kept" exactly when an endless run obeying the sheet exists.

@@ -183,6 +183,17 @@ unfolding firstFault
 always-14-strikes check meets always =
     omega (arith, w5-strikes-accepted (meets w5 (0 ∷ 1 ∷ []) (32 ∷ 32 ∷ [])), always w5 (0 ∷ 1 ∷ []) (32 ∷ 32 ∷ []) refl)
 
+-- W1's first states are listed by no empty strike list: it is refused.
+pub w1-no-strikes-refused : {n : ℕ} → StrikesChecked w1 [] [] n → n ≡ 14
+unfolding StrikesChecked firstFault systemIn
+w1-no-strikes-refused c = strikes-checked-unique w1 [] [] c (refused refl (λ r. let (i, h, e) = r .firsts 0 tt in omega (arith, h)) refl)
+
+-- It accepts every strike list on a good sheet.
+pub always-0-strikes : (check : StrikeChecker) → MeetsStrikes check
+    → ((sheet states words : List ℕ) → firstFault sheet ≡ none → check sheet states words ≡ 0) → ⊥
+unfolding firstFault
+always-0-strikes check meets always = omega (arith, w1-no-strikes-refused (meets w1 [] []), always w1 [] [] refl)
+
 -- ---- builds that touch nothing
 
 -- a list has one first place
@@ -250,11 +261,11 @@ pub record RunGlanced (S : System) (states : List ℕ) (a n c : ℕ) : Type 0 wh
   pub keeps : (k : ℕ) → k < S .promises → (i : ℕ) × (c ≤ i) × (i < length states) × S .Kept k (getD states i 0)
 
 -- An accepted run is one that is seen whole, with the promises looked for from a on.
-accepted-glanced : {S : System} {states : List ℕ} {a : ℕ} → RunAccepted S states a → RunGlanced S states a (length states) a
+pub accepted-glanced : {S : System} {states : List ℕ} {a : ℕ} → RunAccepted S states a → RunGlanced S states a (length states) a
 accepted-glanced r = record { back = r .back; first = r .first; moves = λ i h. r .moves i; closes = r .closes; keeps = r .keeps }
 
 -- a run so seen is tested
-unfoldable glanced? : {S : System} → Testable S → (states : List ℕ) (a n c : ℕ) → Test (RunGlanced S states a n c)
+unfoldable pub glanced? : {S : System} → Testable S → (states : List ℕ) (a n c : ℕ) → Test (RunGlanced S states a n c)
 unfolding both? le? same? each? any? if? as?
 glanced? {S} F states a n c = as?
     (λ w. record {

@@ -17,10 +17,14 @@ pub mod Parts
 pub mod SheetSystem
 pub mod Judging
 pub mod Promised
+pub mod Bytes
 pub mod Meetable
 pub mod Demands
+pub mod Sizes
 pub mod Tests
 pub mod Tables
 pub mod Walled
+pub mod Written
 pub mod Idle
+pub mod Cornered
 pub mod Logic

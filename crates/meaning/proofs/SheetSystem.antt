@@ -1,5 +1,5 @@
 -- The system of a sheet: its states lie below 2 to the power of its letters and all its tests can be made, so the theorems that something
--- exists apply to it; what is reached in it is lawful; and the system of a good sheet has at most 16 promises. Assumes nothing.
+-- exists apply to it; what is reached in it is lawful; and a good sheet has at most 24 letters and at most 16 promises. Assumes nothing.
 use mathlib.Core.Path.{_≡_, refl, ap}
 use mathlib.Core.Bool.{Bool, true, false, _&&_}
 use mathlib.Core.Option.{Option, none, some}
@@ -23,14 +23,18 @@ use Rattle.meaning.specs.Sheet.{
   nextAt,
   bodies,
   lettersIn,
+  leastBytes,
+  mostBytes,
   mostLetters,
+  mostLimits,
+  mostPromises,
   firstFault,
   Sheet,
   decode,
 }
 use Rattle.meaning.specs.Rules.{lawful, firstState, moves, kept, systemOf}
 use Rattle.meaning.specs.Promises.{systemIn}
-use Rattle.meaning.proofs.Parts.{T?, lawful-below, first-parts, move-parts}
+use Rattle.meaning.proofs.Parts.{T?, and-parts, lawful-below, first-parts, move-parts}
 
 -- The system of a sheet is finite.
 pub finite-of : (sheet : Sheet) → Finite (systemOf sheet)
@@ -50,6 +54,11 @@ pub finite-in : (bytes : List ℕ) → Finite (systemIn bytes)
 unfolding systemIn
 finite-in bytes = finite-of (decode bytes)
 
+-- Its states lie below 2 to the power of the letters.
+pub bound-in : (bytes : List ℕ) → finite-in bytes .bound ≡ 2 ^ decode bytes .letters
+unfolding finite-in finite-of
+bound-in bytes = refl
+
 -- What is reached in a sheet's system is lawful.
 pub reachable-lawful : (sheet : Sheet) (s : ℕ) → Reachable (systemOf sheet) s → systemOf sheet .Lawful s
 unfolding systemOf
@@ -61,7 +70,7 @@ pub reachable-lawful-in : (bytes : List ℕ) (s : ℕ) → Reachable (systemIn b
 unfolding systemIn
 reachable-lawful-in bytes = reachable-lawful (decode bytes)
 
--- ---- the number of promises
+-- ---- the numbers of letters and promises
 
 -- where the first of two checks finds nothing, and then the second, both found nothing
 first-none : (x y : Option Fault) → x then y ≡ none → x ≡ none
@@ -84,18 +93,33 @@ length-bodies bytes zero at = refl
 length-bodies bytes (suc count) at = ap suc (length-bodies bytes count (nextAt bytes at))
 
 -- The check on byte 7 passed in a good sheet: it comes behind those on the size, the version, the length, the letters and the limits.
-byte-7-checked : (bytes : List ℕ) → firstFault bytes ≡ none → T (leb (byte bytes 7) 16)
+byte-7-checked : (bytes : List ℕ) → firstFault bytes ≡ none → T (leb (byte bytes 7) mostPromises)
 unfolding firstFault
 byte-7-checked bytes e =
     let n : ℕ = length bytes in
-    let past-size = second-none (unless (leb 8 n && leb n 4096) badSize 0) _ e in
+    let past-size = second-none (unless (leb leastBytes n && leb n mostBytes) badSize 0) _ e in
     let past-version = second-none (unless (eqb (byte bytes 0) 1) badVersion 0) _ past-size in
     let past-length = second-none (unless (eqb (byte bytes 1 * 256 + byte bytes 2) n) badLength 1) _ past-version in
     let past-letters = second-none (unless (leb 1 (lettersIn bytes) && leb (lettersIn bytes) mostLetters) badLetters 3) _ past-length in
-    let past-limits = second-none (unless (leb (byte bytes 4) 32) tooMany 4) _ past-letters in
-    none-passes (leb (byte bytes 7) 16) tooMany 7 (first-none _ _ past-limits)
+    let past-limits = second-none (unless (leb (byte bytes 4) mostLimits) tooMany 4) _ past-letters in
+    none-passes (leb (byte bytes 7) mostPromises) tooMany 7 (first-none _ _ past-limits)
 
 -- A good sheet has at most 16 promises.
-pub few-promises : (bytes : List ℕ) → firstFault bytes ≡ none → systemIn bytes .promises ≤ 16
+pub few-promises : (bytes : List ℕ) → firstFault bytes ≡ none → systemIn bytes .promises ≤ mostPromises
 unfolding systemIn systemOf decode
-few-promises bytes e = rw (length-map, length-bodies) (leb→le (byte bytes 7) 16 (byte-7-checked bytes e))
+few-promises bytes e = rw (length-map, length-bodies) (leb→le (byte bytes 7) mostPromises (byte-7-checked bytes e))
+
+-- The check on the letters passed in a good sheet: it comes behind those on the size, the version and the length.
+letters-checked : (bytes : List ℕ) → firstFault bytes ≡ none → T (leb 1 (lettersIn bytes) && leb (lettersIn bytes) mostLetters)
+unfolding firstFault
+letters-checked bytes e =
+    let n : ℕ = length bytes in
+    let past-size = second-none (unless (leb leastBytes n && leb n mostBytes) badSize 0) _ e in
+    let past-version = second-none (unless (eqb (byte bytes 0) 1) badVersion 0) _ past-size in
+    let past-length = second-none (unless (eqb (byte bytes 1 * 256 + byte bytes 2) n) badLength 1) _ past-version in
+    none-passes (leb 1 (lettersIn bytes) && leb (lettersIn bytes) mostLetters) badLetters 3 (first-none _ _ past-length)
+
+-- A good sheet has at most 24 letters.
+pub few-letters : (bytes : List ℕ) → firstFault bytes ≡ none → decode bytes .letters ≤ mostLetters
+unfolding decode
+few-letters bytes e = leb→le (lettersIn bytes) mostLetters (and-parts (leb 1 (lettersIn bytes)) _ .0 (letters-checked bytes e) .1)

@@ -5,5 +5,7 @@ pub mod Papers
 pub mod Sheet
 pub mod Rules
 pub mod Promises
+pub mod Bytes
 pub mod Wall
+pub mod Corners
 pub mod Logic

@@ -89,7 +89,7 @@ fn moves_on(book: &[u32], bytes: &[u8], numbers: &[u32]) -> bool
         if !rules::moves(book, s, t) {
             return false;
         }
-        i += 1;
+        i = next;
     }
     true
 }

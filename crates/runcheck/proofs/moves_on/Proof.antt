@@ -52,9 +52,6 @@ returns c =
     (not-true _ (c .if1 .taken))))
     (each-moves S states moves))
 
-add-i : tie.Need-add-i Inv-loop μ-loop
-add-i c = omega arith
-
 loop-less : tie.Need-loop-less Inv-loop μ-loop
 loop-less c = omega arith
 
@@ -85,7 +82,6 @@ moves-on-spec =
     number-at-requires-2
     moves-requires
     returns
-    add-i
     loop-less
     loop-again
     returns-2)
