@@ -2,36 +2,55 @@
 
 use crate::picture::layout::Spot;
 
-/// How far an arrow's middle may be bent aside, to the left of its way, in the order in which bends are tried.
-const BENDS: [f64; 14] = [0.0, 24.0, -24.0, 48.0, -48.0, 80.0, -80.0, 120.0, -120.0, 170.0, -170.0, 240.0, -240.0, 320.0];
-/// An arrow with an opposite one is bent to its own side.
-const APART: [f64; 8] = [24.0, 48.0, 80.0, 120.0, 170.0, 240.0, 320.0, 420.0];
+/// How far an arrow's middle may be bent aside, in the order in which bends are tried.
+const BENDS: [f64; 12] = [24.0, 45.0, 70.0, 95.0, 120.0, 145.0, 170.0, 200.0, 240.0, 290.0, 350.0, 420.0];
 /// So many points of an arrow are held against the boxes.
 const POINTS: usize = 24;
 /// Arrows keep so far away from boxes that they pass.
 const MARGIN: f64 = 6.0;
 
-type Point = (f64, f64);
+/// A place, from the left and from the top.
+pub type Point = (f64, f64);
 
-/// The path of an arrow from one box to another, as SVG writes it.
-pub fn arrow(spots: &[Spot], from: usize, to: usize, opposite: bool) -> String {
+/// An arrow as SVG writes its path, and the corners of the room that it takes.
+pub struct Arrow {
+    /// The path.
+    pub path: String,
+    /// The upper left corner.
+    pub low: Point,
+    /// The lower right corner.
+    pub high: Point,
+}
+
+/// An arrow from one box to another; one with an opposite keeps to its own side.
+pub fn arrow(spots: &[Spot], from: usize, to: usize, opposite: bool) -> Arrow {
     if from == to {
         return round_trip(&spots[from]);
     }
     let (start, end) = ((spots[from].x, spots[from].y), (spots[to].x, spots[to].y));
-    let bends: &[f64] = if opposite { &APART } else { &BENDS };
-    let free = |&&bend: &&f64| passes(spots, from, to, start, aside(start, end, bend), end);
-    let bend = bends.iter().find(free).unwrap_or(&bends[0]);
-    let middle = aside(start, end, *bend);
+    // A short arrow is not bent into a wide one; rather it passes behind a box.
+    let most = 60.0 + 0.45 * (end.0 - start.0).hypot(end.1 - start.1);
+    let free = |&bend: &f64| bend.abs() <= most && passes(spots, from, to, start, aside(start, end, bend), end);
+    let bend = if opposite {
+        BENDS.into_iter().find(free).unwrap_or(BENDS[0])
+    } else {
+        let both_sides = BENDS.into_iter().flat_map(|bend| [bend, -bend]);
+        [0.0].into_iter().chain(both_sides).find(free).unwrap_or(0.0)
+    };
+    let middle = aside(start, end, bend);
     let (a, b) = (edge(&spots[from], start, middle, end, false), edge(&spots[to], start, middle, end, true));
-    format!("M{:.1} {:.1}Q{:.1} {:.1} {:.1} {:.1}", a.0, a.1, middle.0, middle.1, b.0, b.1)
+    let path = format!("M{:.1} {:.1}Q{:.1} {:.1} {:.1} {:.1}", a.0, a.1, middle.0, middle.1, b.0, b.1);
+    let points: Vec<Point> = (0..=POINTS).map(|i| at(a, middle, b, i as f64 / POINTS as f64)).collect();
+    let corner = |pick: fn(f64, f64) -> f64| points.iter().fold(a, |so_far, point| (pick(so_far.0, point.0), pick(so_far.1, point.1)));
+    Arrow { path, low: corner(f64::min), high: corner(f64::max) }
 }
 
-/// An arrow from a box to itself, over its upper right corner.
-fn round_trip(spot: &Spot) -> String {
+/// An arrow from a box to itself, over its upper side.
+fn round_trip(spot: &Spot) -> Arrow {
     let (right, top) = (spot.x + spot.width / 2.0, spot.y - spot.height / 2.0);
-    let (leave, come) = (right - 30.0, top + 16.0);
-    format!("M{leave:.1} {top:.1}C{leave:.1} {:.1} {:.1} {come:.1} {right:.1} {come:.1}", top - 46.0, right + 46.0)
+    let (leave, come, over) = (right - 46.0, right - 18.0, top - 44.0);
+    let path = format!("M{leave:.1} {top:.1}C{:.1} {over:.1} {:.1} {over:.1} {come:.1} {top:.1}", leave - 14.0, come + 14.0);
+    Arrow { path, low: (leave - 10.0, over + 8.0), high: (come + 10.0, top) }
 }
 
 /// The bent arrow's middle point of control.

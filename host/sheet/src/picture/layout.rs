@@ -23,28 +23,28 @@ pub struct Spot {
 /// Gaps between boxes, wide enough for arrows.
 const GAP: (f64, f64) = (110.0, 72.0);
 
-/// A box for each state, of one size, and the size of the whole.
-pub fn lay_out(graph: &Graph, width: f64, height: f64) -> (Vec<Spot>, f64, f64) {
+/// A box for each state, all of one size.
+pub fn lay_out(graph: &Graph, width: f64, height: f64) -> Vec<Spot> {
     let columns = columns(graph);
     let mut spots = vec![Spot { x: 0.0, y: 0.0, width, height }; graph.states.len()];
-    let (mut top, mut right, mut bottom) = (0.0, 0.0f64, 0.0f64);
-    for band in columns.chunks(MOST_WIDE) {
+    let mut top = 0.0;
+    for (turn, band) in columns.chunks(MOST_WIDE).enumerate() {
         let highest = band.iter().map(Vec::len).max().unwrap_or(0);
         let all = highest as f64 * (height + GAP.1) - GAP.1;
-        for (across, column) in band.iter().enumerate() {
+        for (at, column) in band.iter().enumerate() {
+            // Every other band runs back, so that a chain turns at its end.
+            let across = if turn % 2 == 0 { at } else { columns.len().min(MOST_WIDE) - 1 - at };
             let own = column.len() as f64 * (height + GAP.1) - GAP.1;
-            // A lower column stands in the middle of its band, a little off the others, so that arrows pass between boxes.
+            // A lower column stands in the middle of its band.
             for (down, &place) in column.iter().enumerate() {
                 let spot = &mut spots[place];
                 spot.x = across as f64 * (width + GAP.0) + width / 2.0;
                 spot.y = top + (all - own) / 2.0 + down as f64 * (height + GAP.1) + height / 2.0;
-                right = right.max(spot.x + width / 2.0);
-                bottom = bottom.max(spot.y + height / 2.0);
             }
         }
         top += all + 1.6 * GAP.1;
     }
-    (spots, right, bottom)
+    spots
 }
 
 /// The states by their depth, each column put in an order in which arrows cross little, long ones parted.

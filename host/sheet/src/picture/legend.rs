@@ -55,8 +55,9 @@ pub fn width(notes: &[Note]) -> f64 {
 }
 
 /// The notes, one below the other.
-pub fn draw(notes: &[Note], top: f64) -> String {
-    notes.iter().enumerate().map(|(at, note)| one(note, top + at as f64 * LINE)).collect()
+pub fn draw(notes: &[Note], left: f64, top: f64) -> String {
+    let lines: String = notes.iter().enumerate().map(|(at, note)| one(note, at as f64 * LINE)).collect();
+    format!("<g transform=\"translate({left:.1} {top:.1})\">\n{lines}</g>\n")
 }
 
 fn one(note: &Note, y: f64) -> String {

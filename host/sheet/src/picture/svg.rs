@@ -2,7 +2,7 @@
 
 use crate::model::{Sheet, State};
 use crate::paper::{print::heading, REASONS};
-use crate::picture::curve::arrow;
+use crate::picture::curve::{arrow, Point};
 use crate::picture::graph::Graph;
 use crate::picture::layout::{lay_out, Spot};
 use crate::picture::legend;
@@ -19,6 +19,8 @@ const MOST_CHARACTERS: usize = 20;
 const BORDER: f64 = 60.0;
 /// The space that the title takes.
 const TITLE: f64 = 60.0;
+/// About the width of a character of the title.
+const TITLE_CHARACTER: f64 = 15.6;
 /// With more moves than this they are drawn paler.
 const MANY_MOVES: usize = 90;
 /// So many moments are written at a state; of more, the first.
@@ -46,18 +48,33 @@ pub fn draw(picture: &Picture<'_>) -> String {
     let captions = f64::from(u8::from(struck)) + f64::from(u8::from(kept));
     let width = (longest as f64 * CHARACTER + 32.0).max(if struck { 186.0 } else { 120.0 });
     let height = most_lines as f64 * LINE + captions * SMALL_LINE + 22.0;
-    let (spots, right, bottom) = lay_out(picture.graph, width, height);
+    let spots = lay_out(picture.graph, width, height);
+    let (low, high) = extent(picture.graph, &spots);
     let notes = legend::lines(picture);
-    let page = (right.max(legend::width(&notes)) + 2.0 * BORDER, bottom + 2.0 * BORDER + TITLE + legend::height(&notes));
-    let mut svg = head(page.0, page.1, &picture.title);
-    svg += &format!("<g transform=\"translate({BORDER:.0} {:.0})\">\n", BORDER + TITLE);
+    let wide = (high.0 - low.0).max(legend::width(&notes)).max(picture.title.chars().count() as f64 * TITLE_CHARACTER);
+    let mut svg = head(wide + 2.0 * BORDER, high.1 - low.1 + 2.4 * BORDER + TITLE + legend::height(&notes), &picture.title);
+    svg += &format!("<g transform=\"translate({:.1} {:.1})\">\n", BORDER - low.0, BORDER + TITLE - low.1);
     svg += &moves(picture, &spots);
+    svg += &run_arrows(picture, &spots);
     for (place, spot) in spots.iter().enumerate() {
         svg += &state_box(picture, place, spot, &labels[place]);
     }
-    svg += &sample_run(picture, &spots);
-    svg += &legend::draw(&notes, bottom + BORDER);
+    svg += &run_moments(picture, &spots);
+    svg += &legend::draw(&notes, low.0, high.1 + BORDER);
     svg + "</g>\n</svg>\n"
+}
+
+/// The corners of the room that boxes and arrows take.
+fn extent(graph: &Graph, spots: &[Spot]) -> (Point, Point) {
+    let boxes = spots.iter().map(|spot| {
+        let half = (spot.width / 2.0, spot.height / 2.0);
+        ((spot.x - half.0, spot.y - half.1), (spot.x + half.0, spot.y + half.1))
+    });
+    let arrows = graph.moves.iter().enumerate().flat_map(|(from, tos)| tos.iter().map(move |&to| (from, to)));
+    let arrows = arrows.map(|(from, to)| arrow(spots, from, to, graph.moves[to].contains(&from))).map(|arrow| (arrow.low, arrow.high));
+    boxes.chain(arrows).fold(((0.0, 0.0), (0.0, 0.0)), |(low, high): (Point, Point), (lower, higher)| {
+        ((low.0.min(lower.0), low.1.min(lower.1)), (high.0.max(higher.0), high.1.max(higher.1)))
+    })
 }
 
 /// The size, the styles, the title.
@@ -91,7 +108,7 @@ fn moves(picture: &Picture<'_>, spots: &[Spot]) -> String {
     for (from, tos) in graph.moves.iter().enumerate() {
         for &to in tos {
             let opposite = graph.moves[to].contains(&from);
-            svg += &format!("<path d=\"{}\" marker-end=\"url(#move)\"/>\n", arrow(spots, from, to, opposite));
+            svg += &format!("<path d=\"{}\" marker-end=\"url(#move)\"/>\n", arrow(spots, from, to, opposite).path);
         }
     }
     svg += "</g>\n<g fill=\"none\" stroke=\"#777777\" stroke-width=\"2.6\">\n";
@@ -143,23 +160,32 @@ pub fn colours(word: Option<u32>) -> (&'static str, &'static str) {
     }
 }
 
-/// The sample run on top: blue arrows, and its moments at the states.
-fn sample_run(picture: &Picture<'_>, spots: &[Spot]) -> String {
-    let Some((run, a)) = picture.run else {
-        return String::new();
-    };
-    let places: Vec<usize> = run.iter().filter_map(|&state| picture.graph.place_of(state)).collect();
+/// The sample run's places, moment by moment; none without a run.
+fn run_places(picture: &Picture<'_>) -> Vec<usize> {
+    let states = picture.run.map_or(&[][..], |(run, _)| run);
+    states.iter().filter_map(|&state| picture.graph.place_of(state)).collect()
+}
+
+/// The sample run's moves, on top of the others: blue arrows.
+fn run_arrows(picture: &Picture<'_>, spots: &[Spot]) -> String {
+    let (places, back) = (run_places(picture), picture.run.map_or(0, |(_, a)| a as usize));
     let mut drawn: Vec<(usize, usize)> = Vec::new();
     let mut svg = "<g fill=\"none\" stroke=\"#1557b0\" stroke-width=\"3.4\">\n".to_string();
     for (moment, &from) in places.iter().enumerate() {
-        let to = *places.get(moment + 1).unwrap_or(&places[a as usize]);
+        let to = *places.get(moment + 1).unwrap_or(&places[back]);
         if !drawn.contains(&(from, to)) {
             drawn.push((from, to));
             let opposite = picture.graph.moves[to].contains(&from);
-            svg += &format!("<path d=\"{}\" marker-end=\"url(#run)\"/>\n", arrow(spots, from, to, opposite));
+            svg += &format!("<path d=\"{}\" marker-end=\"url(#run)\"/>\n", arrow(spots, from, to, opposite).path);
         }
     }
-    svg += "</g>\n";
+    svg + "</g>\n"
+}
+
+/// The sample run's moments at the states.
+fn run_moments(picture: &Picture<'_>, spots: &[Spot]) -> String {
+    let places = run_places(picture);
+    let mut svg = String::new();
     for (place, spot) in spots.iter().enumerate() {
         let moments: Vec<String> = (0..places.len()).filter(|&moment| places[moment] == place).map(|moment| moment.to_string()).collect();
         if !moments.is_empty() {
