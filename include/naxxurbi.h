@@ -2,7 +2,8 @@
  * Naxxurbi: a judge for rule sheets, and two checkers for its papers.
  *
  * A rule sheet is a string of bytes (docs/GUIDE.md shows one). The calls take any bytes and any numbers: none has a precondition, each
- * returns, and each is proved to keep the promise that is stated for it in crates/meaning/specs/Promises.antt.
+ * returns, and each is proved to keep the promise that is stated for it in crates/meaning/specs/Promises.antt. Of the pointers themselves C
+ * callers owe what is listed below.
  *
  * Numbers returned:
  *    0        good sheet / paper accepted / the sheet can be kept
@@ -21,11 +22,22 @@
  * A state is a number below 2 to the power n, n the sheet's number of letters: letter k holds in it when the bit worth 2 to the power k - 1
  * is set. What is read from outside comes as bytes, four to a number with the highest first; the judge's own slices are plain numbers.
  *
- * A pointer may be null where its length is 0. Slices must not overlap. Nothing is kept between calls, and no memory is allocated.
+ * Nothing is kept between calls, and no memory is allocated. What the calls take for granted, and cannot check:
+ *
+ *    - the machine is x86-64 under Linux;
+ *    - a pointer is valid for its length: so many bytes, or numbers of four bytes, can be read there, and in the judge's slices and in
+ *      `out` also written. A pointer may be null where its length is 0; `out` has room for four numbers and is never null;
+ *    - a pointer to uint32_t is aligned for it, to 4 bytes. Bytes may stand anywhere;
+ *    - the judge's four slices and `out` lie apart: from one another, and from the sheet;
+ *    - no slice has 2 to the power 63 bytes or more; for one of numbers, that is below 2 to the power 61 of them;
+ *    - while a call runs, nobody else writes what it was given, nor reads what it may write;
+ *    - the stack has room, as follows.
+ *
+ * Stack, in pages of 4,096 bytes: 205 for the judge, 4 for the strike checker, 2 for the run checker, 1 for the reader; what the caller
+ * and signal handlers take comes on top. host/c/stack.c runs each call on a fenced stack of just this size, on sheets of 24 letters that are
+ * judged to the end, and prints what they take: at most 835,296, 12,128, 7,128 and 216 bytes.
  *
  * Link libfirmware.a (both checkers), libjudge.a (naxxurbi_judge) or libreader.a (naxxurbi_read); each stands alone.
- *
- * Stack, measured by host/c/stack.c: 833 KB for the judge, 7.1 KB for the run checker, 12.1 KB for the strike checker.
  *
  * Time. The run checker looks at each state once for each rule and promise. The strike checker counts, for the first states and for each
  * entry that asks for something new, the states that may come next, and stops once there are more than the list could hold. It settles

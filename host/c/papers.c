@@ -1,11 +1,14 @@
 /*
  * The two checkers as firmware calls them: the wall's papers W1 to W6 and W15, right, and damaged in every way.
  *
- * A row is a sheet, a paper and the number document 01 gives. Some damage leaves a paper that is right as well; then the row says so.
+ * A row is a sheet, a paper and the number document 01 gives. Some damage leaves a paper that is right as well; then the row says so. Every
+ * call is made three times: on the row's own bytes, and on copies that may only be read, fenced directly before and directly behind.
  */
+#define _DEFAULT_SOURCE
 #include <string.h>
 
 #include "naxxurbi.h"
+#include "fence.h"
 #include "test.h"
 
 enum { MOST = 6 };
@@ -186,14 +189,47 @@ static const struct strikes lists[] = {
     {&bad, "empty", 0, {0}, 0, {0}, 2},
 };
 
+/* What a call answers that does not always answer the same. */
+enum { UNSTEADY = 99 };
+
+static uint32_t read_sheet(const struct sheet *sheet)
+{
+    uint32_t answer = naxxurbi_read(sheet->bytes, sheet->len);
+    for (int place = 0; place < PLACES; place++) {
+        struct fenced copy = fence_to_read(sheet->bytes, sheet->len, place);
+        answer = naxxurbi_read(copy.at, copy.len) == answer ? answer : UNSTEADY;
+        unfence(copy);
+    }
+    return answer;
+}
+
 static uint32_t check_run(const struct sheet *sheet, const uint8_t *states, size_t len, uint32_t a)
 {
-    return naxxurbi_check_run(sheet->bytes, sheet->len, states, len, a);
+    uint32_t answer = naxxurbi_check_run(sheet->bytes, sheet->len, states, len, a);
+    for (int place = 0; place < PLACES; place++) {
+        struct fenced copy = fence_to_read(sheet->bytes, sheet->len, place);
+        struct fenced paper = fence_to_read(states, len, place);
+        answer = naxxurbi_check_run(copy.at, copy.len, paper.at, paper.len, a) == answer ? answer : UNSTEADY;
+        unfence(copy);
+        unfence(paper);
+    }
+    return answer;
 }
 
 static uint32_t check_strikes(const struct sheet *sheet, const uint8_t *states, size_t len, const uint8_t *words, size_t words_len)
 {
-    return naxxurbi_check_strikes(sheet->bytes, sheet->len, states, len, words, words_len);
+    uint32_t answer = naxxurbi_check_strikes(sheet->bytes, sheet->len, states, len, words, words_len);
+    for (int place = 0; place < PLACES; place++) {
+        struct fenced copy = fence_to_read(sheet->bytes, sheet->len, place);
+        struct fenced paper = fence_to_read(states, len, place);
+        struct fenced marks = fence_to_read(words, words_len, place);
+        uint32_t again = naxxurbi_check_strikes(copy.at, copy.len, paper.at, paper.len, marks.at, marks.len);
+        answer = again == answer ? answer : UNSTEADY;
+        unfence(copy);
+        unfence(paper);
+        unfence(marks);
+    }
+    return answer;
 }
 
 static void run_rows(void)
@@ -272,9 +308,9 @@ static void sheets_are_good(void)
 {
     static const struct sheet *const good[] = {&w1, &w2, &w3, &w4, &w5, &w6, &w15, &falls};
     for (size_t i = 0; i < sizeof good / sizeof good[0]; i++) {
-        expect(good[i]->name, "read", naxxurbi_read(good[i]->bytes, good[i]->len), 0);
+        expect(good[i]->name, "read", read_sheet(good[i]), 0);
     }
-    expect(bad.name, "read", naxxurbi_read(bad.bytes, bad.len), 2);
+    expect(bad.name, "read", read_sheet(&bad), 2);
 }
 
 int main(void)

@@ -1,101 +1,109 @@
 /*
- * How much stack each call takes: prints it, and fails if the judge's reaches 1 MiB or a checker's 16 KiB. Each call runs on a stack of its
- * own that was painted beforehand; what is no longer paint was used, and what a call of nothing uses is taken off.
+ * The stack that each call takes: runs it on a stack of exactly as many pages as the header states, between two fences, and prints how much
+ * of it was used. A call that took more would be ended by a fence. Sheets have up to 24 letters and are judged to the end.
  */
-#define _DEFAULT_SOURCE
-#include <pthread.h>
+#define _GNU_SOURCE
 #include <stdio.h>
-#include <stdlib.h>
-#include <string.h>
-#include <sys/mman.h>
+#include <ucontext.h>
 
 #include "naxxurbi.h"
+#include "fence.h"
+#include "make.h"
+#include "test.h"
 
-enum { SIZE = 4 << 20, PAINT = 0xA5, STATES = 16384, RUN = 300000 };
+/* What the header states, in pages of 4,096 bytes; and how wide the fences are: a call may take all its stack at once. */
+enum { READ_PAGES = 1, RUN_PAGES = 2, STRIKES_PAGES = 4, JUDGE_PAGES = 205, FENCE = 4 << 20 };
 
-static uint32_t table[STATES], words[STATES], scratch[2 * STATES], run[RUN], out[4];
-static uint8_t sheet[4096], paper[4 * STATES], marks[4 * STATES];
-static size_t sheet_len;
+enum { STATES = 16384, MOMENTS = 262144 };
 
-static void *nothing(void *unused) {
-    return unused;
+static uint32_t table[STATES], words[STATES], scratch[2 * STATES], run[MOMENTS], out[4], answer;
+static uint8_t states_paper[4 * MOMENTS], words_paper[4 * STATES];
+static size_t states_len, words_len;
+
+static void call_read(void)
+{
+    answer = naxxurbi_read(made, made_len);
 }
 
-static void *judge(void *unused) {
-    (void)unused;
-    naxxurbi_judge(sheet, sheet_len, table, STATES, words, STATES, scratch, 2 * STATES, run, RUN, out);
-    return NULL;
+static void call_judge(void)
+{
+    naxxurbi_judge(made, made_len, table, STATES, words, STATES, scratch, (size_t)2 * STATES, run, MOMENTS, out);
+    answer = out[0];
 }
 
-static void *check_run(void *unused) {
-    (void)unused;
-    out[0] = naxxurbi_check_run(sheet, sheet_len, paper, sizeof paper, 0);
-    return NULL;
+static void call_check_run(void)
+{
+    answer = naxxurbi_check_run(made, made_len, states_paper, states_len, out[2]);
 }
 
-static void *check_strikes(void *unused) {
-    (void)unused;
-    out[0] = naxxurbi_check_strikes(sheet, sheet_len, paper, sizeof paper, marks, sizeof marks);
-    return NULL;
+static void call_check_strikes(void)
+{
+    answer = naxxurbi_check_strikes(made, made_len, states_paper, states_len, words_paper, words_len);
 }
 
-/* The bytes of stack that a call used, with what starting a thread uses. */
-static size_t used(void *(*call)(void *)) {
-    uint8_t *stack = mmap(NULL, SIZE, PROT_READ | PROT_WRITE, MAP_PRIVATE | MAP_ANONYMOUS, -1, 0);
-    pthread_attr_t attributes;
-    pthread_t thread;
-    size_t untouched = 0;
-    if (stack == MAP_FAILED) {
-        exit(2);
+/* Runs a call on a fenced stack of so many pages, painted beforehand, and gives back how many bytes are no longer paint. */
+static size_t used(void (*call)(void), size_t pages)
+{
+    static ucontext_t here, there;
+    size_t size = pages * PAGE, untouched = 0;
+    uint8_t *stack = fenced_pages(size, FENCE);
+    memset(stack, PAINT, size);
+    if (getcontext(&there) != 0) {
+        abort();
     }
-    memset(stack, PAINT, SIZE);
-    if (pthread_attr_init(&attributes) || pthread_attr_setstack(&attributes, stack, SIZE) || pthread_create(&thread, &attributes, call, NULL) ||
-        pthread_join(thread, NULL)) {
-        exit(2);
+    there.uc_stack.ss_sp = stack;
+    there.uc_stack.ss_size = size;
+    there.uc_link = &here;
+    makecontext(&there, call, 0);
+    if (swapcontext(&here, &there) != 0) {
+        abort();
     }
-    while (untouched < SIZE && stack[untouched] == PAINT) {
+    while (untouched < size && stack[untouched] == PAINT) {
         untouched++;
     }
-    munmap(stack, SIZE);
-    return SIZE - untouched;
+    munmap(stack - FENCE, size + 2 * (size_t)FENCE);
+    return size - untouched;
 }
 
-/* n letters, no rules, p promises of letter 1: every state is livable, and p rows of distances are kept. */
-static void make(uint8_t letters, uint8_t promises) {
-    uint8_t i;
-    memset(sheet, 0, sizeof sheet);
-    sheet_len = 8u + 2u * promises;
-    sheet[0] = 1;
-    sheet[2] = (uint8_t)sheet_len;
-    sheet[3] = letters;
-    sheet[7] = promises;
-    for (i = 0; i < promises; i++) {
-        sheet[8 + 2 * i] = 1;
-        sheet[9 + 2 * i] = 1;
-    }
+/* One test: the call returns on its stack, with this answer. */
+static void on_its_stack(const char *name, const char *what, void (*call)(void), size_t pages, uint32_t wanted)
+{
+    printf("%-46s %-14s", name, what);
+    fflush(stdout);
+    printf(" %6zu of %6zu bytes of stack\n", used(call, pages), pages * PAGE);
+    expect(name, what, answer, wanted);
 }
 
-/* One line for each call: what it used, and whether that is within its bound. */
-static int within(const char *name, void *(*call)(void *), size_t bound) {
-    size_t bytes = used(call) - used(nothing);
-    printf("%-52s %7zu bytes of stack\n", name, bytes);
-    return bytes < bound;
+/* Reads and judges the sheet, and has the judge's paper checked, each on its stack. */
+static void all_calls(const char *name, uint32_t judged)
+{
+    on_its_stack(name, "reader", call_read, READ_PAGES, 0);
+    on_its_stack(name, "judge", call_judge, JUDGE_PAGES, judged);
+    states_len = write_numbers(states_paper, judged == 0 ? run : table, judged == 0 ? out[3] : out[1]);
+    words_len = write_numbers(words_paper, words, judged == 0 ? 0 : out[1]);
+    on_its_stack(name, "run checker", call_check_run, RUN_PAGES, judged == 0 ? ACCEPTED : NOT_ACCEPTED);
+    on_its_stack(name, "strike checker", call_check_strikes, STRIKES_PAGES, judged == 13 ? ACCEPTED : NOT_ACCEPTED);
 }
 
-int main(void) {
-    enum { JUDGE = 1 << 20, CHECKER = 16 << 10, TESTS = 7 };
-    int passed = 0;
-    make(4, 1);
-    passed += within("judge, 16 states", judge, JUDGE);
-    make(14, 16);
-    passed += within("judge, 16,384 states and 16 promises", judge, JUDGE);
-    make(24, 0);
-    passed += within("judge, 24 letters", judge, JUDGE);
-    passed += within("run checker, 24 letters", check_run, CHECKER);
-    passed += within("strike checker, 24 letters", check_strikes, CHECKER);
-    make(4, 0);
-    passed += within("run checker, 4 letters", check_run, CHECKER);
-    passed += within("strike checker, 4 letters", check_strikes, CHECKER);
-    printf("%d passed, %d failed\n", passed, TESTS - passed);
-    return passed == TESTS ? 0 : 1;
+int main(void)
+{
+    make_ring(1);
+    all_calls("24 letters, 24 states in a ring, 16 promises", 0);
+    make_ring(0);
+    all_calls("24 letters, 24 states in a chain, 16 promises", 13);
+    make_exactly(ALL_LETTERS, 3, MOST_PROMISES);
+    all_calls("24 letters, 2,024 states, 16 promises", 0);
+    make_wheels(1);
+    all_calls("24 letters, 512 states on wheels, 16 promises", 0);
+    make_wheels(0);
+    all_calls("24 letters, 512 states on wheels to an end", 13);
+    make_exactly(ALL_LETTERS, 25, 0);
+    all_calls("24 letters, no state", 13);
+    make_free(14, MOST_PROMISES);
+    all_calls("14 letters, 16,384 states, 16 promises", 0);
+    make_free(ALL_LETTERS, 0);
+    all_calls("24 letters, more states than room", 11);
+    make_free(1, 0);
+    all_calls("1 letter", 0);
+    return report();
 }

@@ -1,11 +1,14 @@
 /*
  * The workshop wall, W1 to W16: every number that document 01 gives, asked of the judge and the checkers as C calls them.
  *
- * Slices are lent filled with a number that none of the papers holds, and afterwards compared whole.
+ * Slices are lent filled with a number that none of the papers holds, and afterwards compared whole. Every example is judged three times:
+ * with slices that have room behind them, and with the sheet, each slice and `out` fenced directly before and directly behind.
  */
+#define _DEFAULT_SOURCE
 #include <string.h>
 
 #include "naxxurbi.h"
+#include "fence.h"
 #include "test.h"
 
 enum { MOST = 4, LENT = 64 };
@@ -70,10 +73,10 @@ static const struct example examples[] = {
     {&bad, "nothing is changed", {2, 0, 0, 0}, UNCHANGED(3), UNCHANGED(2), UNCHANGED(1), UNCHANGED(4)},
 };
 
-/* Whether the slice is as wanted, and nothing beyond its length was touched. */
-static int is_as_wanted(const uint32_t *slice, const struct slice *wanted)
+/* Whether the first `many` numbers are as wanted: the slice, and nothing beyond its length touched. */
+static int is_as_wanted(const uint32_t *slice, const struct slice *wanted, size_t many)
 {
-    for (size_t i = 0; i < LENT; i++) {
+    for (size_t i = 0; i < many; i++) {
         uint32_t number = i < wanted->count ? wanted->front[i] : i < wanted->len ? wanted->rest : OLD;
         if (slice[i] != number) {
             return 0;
@@ -104,10 +107,56 @@ static void judge_rows(void)
         for (size_t field = 0; field < 4; field++) {
             expect(name, row->what, out[field], row->out[field]);
         }
-        expect(name, "table", (uint32_t)is_as_wanted(table, &row->table), 1);
-        expect(name, "words", (uint32_t)is_as_wanted(words, &row->words), 1);
-        expect(name, "scratch", (uint32_t)is_as_wanted(scratch, &row->scratch), 1);
-        expect(name, "run", (uint32_t)is_as_wanted(run, &row->run), 1);
+        expect(name, "table", (uint32_t)is_as_wanted(table, &row->table, LENT), 1);
+        expect(name, "words", (uint32_t)is_as_wanted(words, &row->words, LENT), 1);
+        expect(name, "scratch", (uint32_t)is_as_wanted(scratch, &row->scratch, LENT), 1);
+        expect(name, "run", (uint32_t)is_as_wanted(run, &row->run, LENT), 1);
+    }
+}
+
+/* One lent slice, fenced: filled as `fill` does, and afterwards as wanted. */
+static struct fenced lend(const struct slice *slice, enum place place)
+{
+    uint32_t old[LENT];
+    fill(old);
+    return fence(old, slice->len * sizeof old[0], place);
+}
+
+static uint32_t given_back(struct fenced lent, const struct slice *wanted)
+{
+    int right = is_as_wanted((const uint32_t *)(const void *)lent.at, wanted, wanted->len);
+    return (uint32_t)(unfence(lent) && right);
+}
+
+static uint32_t *numbers(struct fenced lent)
+{
+    return (uint32_t *)(void *)lent.at;
+}
+
+/* One example with everything fenced. */
+static void judge_fenced(const struct example *row, enum place place)
+{
+    const char *name = row->sheet->name;
+    struct fenced sheet = fence_to_read(row->sheet->bytes, row->sheet->len, place);
+    struct fenced table = lend(&row->table, place), words = lend(&row->words, place);
+    struct fenced scratch = lend(&row->scratch, place), run = lend(&row->run, place);
+    struct slice four = {4, 4, {row->out[0], row->out[1], row->out[2], row->out[3]}, 0};
+    struct fenced out = lend(&four, place);
+    naxxurbi_judge(sheet.at, sheet.len, numbers(table), row->table.len, numbers(words), row->words.len, numbers(scratch), row->scratch.len,
+                   numbers(run), row->run.len, numbers(out));
+    expect(name, "fenced sheet", (uint32_t)unfence(sheet), 1);
+    expect(name, "fenced out", given_back(out, &four), 1);
+    expect(name, "fenced table", given_back(table, &row->table), 1);
+    expect(name, "fenced words", given_back(words, &row->words), 1);
+    expect(name, "fenced scratch", given_back(scratch, &row->scratch), 1);
+    expect(name, "fenced run", given_back(run, &row->run), 1);
+}
+
+static void judge_rows_fenced(void)
+{
+    for (size_t i = 0; i < sizeof examples / sizeof examples[0]; i++) {
+        judge_fenced(&examples[i], AT_START);
+        judge_fenced(&examples[i], AT_END);
     }
 }
 
@@ -192,6 +241,7 @@ static void livable(void)
 int main(void)
 {
     judge_rows();
+    judge_rows_fenced();
     runs_of_no_states();
     lawful_and_first();
     livable();

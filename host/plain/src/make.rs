@@ -670,6 +670,33 @@ pub fn counter(letters: u8) -> Draft {
     draft
 }
 
+/// A counter whose last state, where all letters hold, goes back to the number
+/// `back` instead of 0: the letters of that number stay as they are there.
+pub fn counter_back_to(letters: u8, back: u32) -> Draft {
+    let mut draft = counter(letters);
+    let high = letters as i8;
+    let all: Vec<i8> = (1..=high).collect();
+    for letter in (1..=high).filter(|letter| back >> (letter - 1) & 1 == 1) {
+        let up_to: Vec<i8> = (1..=letter).collect();
+        draft.steps.retain(|(left, right)| (left, &right[..]) != (&up_to, &[-letter]));
+        for higher in letter + 1..=high {
+            draft.step([&up_to[..], &[-higher]].concat(), [-letter]);
+        }
+        draft.step(all.clone(), [letter]);
+    }
+    draft
+}
+
+/// A counter with one state more, in which it begins and which it never comes
+/// back to: 2^letters + 1 states.
+pub fn counter_with_a_beginning(letters: u8) -> Draft {
+    let mut draft = counter(letters);
+    draft.letters += 1;
+    let begins = draft.letters as i8;
+    draft.first([begins]).step([], [-begins]);
+    draft
+}
+
 /// A counter that has no way on from its last state: 2^letters rounds.
 pub fn counter_to_dead_end(letters: u8) -> Draft {
     let mut draft = counter(letters);
@@ -688,7 +715,11 @@ pub fn loosened_counter(rng: &mut Rng, letters: u8) -> Draft {
     }
     let literal = |rng: &mut Rng| {
         let letter = rng.within(1, letters as usize) as i8;
-        if rng.below(2) == 0 { letter } else { -letter }
+        if rng.below(2) == 0 {
+            letter
+        } else {
+            -letter
+        }
     };
     for _ in 0..rng.below(4) {
         let promised = literal(rng);
@@ -741,7 +772,13 @@ pub fn falling_promises(bits: u8) -> Draft {
 /// that holds only in its last state, promised `promises` times over. The aim
 /// passes once in each round of the counter.
 pub fn long_run(letters: u8, promises: u8) -> Draft {
-    let mut draft = counter(letters);
+    long_run_back_to(letters, promises, 0)
+}
+
+/// The same over a counter that goes back to the number `back`: so many moments
+/// before the circle, which is then gone round once for each promise.
+pub fn long_run_back_to(letters: u8, promises: u8, back: u32) -> Draft {
+    let mut draft = counter_back_to(letters, back);
     draft.letters += 1;
     let (high, mark) = (letters as i8, letters as i8 + 1);
     draft.first([-mark]);
