@@ -123,6 +123,10 @@ fn limit(line: &mut Line<'_>, names: &[String]) -> Result<Limit, Fault> {
             return Err(line.unexpected("`exactly` or `at most`").hint(line.meant(["exactly", "at"])));
         }
         line.take();
+        if line.peek() == Some("least") {
+            let instead = "`at most`: at least 1 of a, b, c is at most 2 of not a, not b, not c";
+            return Err(line.fault("there is no `at least`").expected(instead));
+        }
         line.expect("most")?;
     }
     let bound = line.number("how many may be true", u8::MAX.into())? as u8;
