@@ -74,7 +74,7 @@ fn choose<'a>(
     };
     let Some(choice) = choices.iter().find(|choice| choice.name == name) else {
         let near = names::nearest(name, choices.iter().map(|choice| choice.name));
-        let hint = near.map(|near| format!("; did you mean {near}?")).unwrap_or_default();
+        let hint = near.map(|near| format!(", did you mean {near}")).unwrap_or_default();
         return Err(format!("there is no option {name}{hint}"));
     };
     match (choice.value, joined) {

@@ -5,6 +5,7 @@ use crate::bytes;
 use crate::call::Call;
 use crate::model::Sheet;
 use crate::out::Colour;
+use crate::story::count;
 use crate::text::fault::{show_all, Fault};
 use crate::text::{names, parse};
 use std::io::Read;
@@ -117,7 +118,7 @@ fn given_names(list: &str, letters: usize) -> Result<Vec<String>, String> {
         return Err(format!("--names: `{}` is named twice", given[at]));
     }
     if given.len() != letters {
-        return Err(format!("--names gives {} of the sheet's {letters} letters a name", given.len()));
+        return Err(format!("--names has {}, and the sheet has {}", count(given.len(), "name"), count(letters, "letter")));
     }
     Ok(given)
 }

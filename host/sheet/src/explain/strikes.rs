@@ -33,8 +33,8 @@ impl List<'_> {
     /// The first place where the words fall.
     fn falling(&self) -> Option<Vec<String>> {
         let at = (1..self.words.len()).find(|&at| self.words[at] < self.words[at - 1])?;
-        let (before, after) = (heading(self.words[at - 1]), heading(self.words[at]));
-        Some(vec![format!("`{after}` stands behind `{before}`; rounds, and the reasons in a round, must not fall"), self.entry(at)])
+        let before = heading(self.words[at - 1]);
+        Some(self.against(at, format!("it stands behind `{before}`; rounds, and the reasons in a round, must not fall")))
     }
 
     /// The first entry that is no lawful state, or whose reason is no promise of the sheet.
@@ -42,10 +42,9 @@ impl List<'_> {
         (0..self.states.len()).find_map(|at| {
             let reason = (self.words[at] % REASONS) as usize;
             let promises = self.sheet.promises.len();
-            let said =
-                unlawful(self.sheet, self.states[at]).map(|said| format!("this is no lawful state, so it need not be struck: {said}"));
+            let said = unlawful(self.sheet, self.states[at]).map(|said| format!("it is no lawful state: {said}"));
             let said = said.or_else(|| (reason > promises).then(|| format!("there is no promise {reason}; the sheet has {promises}")))?;
-            Some(vec![said, self.entry(at)])
+            Some(self.against(at, said))
         })
     }
 
@@ -66,7 +65,7 @@ impl List<'_> {
         let promise = (self.words[at] % REASONS) as usize;
         let &literal = self.sheet.promises.get(promise.checked_sub(1)?)?;
         let name = print::literal(self.sheet, literal);
-        is_true(literal, self.states[at]).then(|| vec![format!("promise {promise} ({name}) is kept in this very state"), self.entry(at)])
+        is_true(literal, self.states[at]).then(|| self.against(at, format!("promise {promise} ({name}) is kept in this very state")))
     }
 
     /// A next state of the entry that is not listed early enough.
@@ -85,12 +84,13 @@ impl List<'_> {
                 format!("it can move to a state that is not listed {needed} `{}`: {name} (`{}`)", heading(word), heading(there))
             }
         };
-        Some(vec![said, self.entry(at)])
+        Some(self.against(at, said))
     }
 
-    /// An entry by its place, counted from 1, its state and its heading.
-    fn entry(&self, at: usize) -> String {
-        format!("  entry {}: {} (`{}`)", at + 1, print::state(self.sheet, self.states[at]), heading(self.words[at]))
+    /// An entry by its place, counted from 1, its state and its heading, and what is said against it.
+    fn against(&self, at: usize, said: String) -> Vec<String> {
+        let entry = format!("entry {}: {} (`{}`)", at + 1, print::state(self.sheet, self.states[at]), heading(self.words[at]));
+        vec![entry, format!("  {said}")]
     }
 }
 

@@ -20,7 +20,7 @@ pub fn table(sheet: &Sheet, run: &[State], a: u32, all: bool) -> String {
     let mut table = line(&widths, ["moment", "letters that hold", promises]);
     for (place, (at, cells)) in shown.iter().zip(&rows).enumerate() {
         if place > 0 && shown[place - 1] + 1 < *at {
-            table += &format!("  .. {} more (--all shows them)\n", count(at - shown[place - 1] - 1, "moment"));
+            table += &format!("  .. {} (--all shows them)\n", count(at - shown[place - 1] - 1, "more moment"));
         }
         table += &line(&widths, [&cells[0], &cells[1], &cells[2]]);
     }

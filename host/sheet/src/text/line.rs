@@ -95,7 +95,7 @@ impl<'t> Line<'t> {
     pub fn fault(&self, said: impl Into<String>) -> Fault {
         let (before, width) = match (self.words.get(self.next), self.words.last()) {
             (Some(word), _) => (word.before, word.text.chars().count()),
-            (None, Some(last)) => (last.before + last.text.chars().count() + 1, 0),
+            (None, Some(last)) => (last.before + last.text.chars().count(), 0),
             (None, None) => (0, 0),
         };
         let place = Place { line: self.number, text: self.text.to_string(), before, width };

@@ -75,28 +75,28 @@ fn letters(mut line: Line<'_>) -> Result<Vec<String>, Fault> {
 fn read_record(line: &mut Line<'_>, sheet: &mut Sheet, letters_line: usize) -> Result<usize, Fault> {
     match line.peek() {
         Some("limit") => {
-            room(line, sheet.limits.len(), MOST_LIMITS.into(), "limits")?;
+            room(line, sheet.limits.len(), MOST_LIMITS.into(), "limit")?;
             let limit = limit(line, &sheet.names)?;
             let bytes = 3 + limit.list.len();
             sheet.limits.push(limit);
             Ok(bytes)
         }
         Some("first") => {
-            room(line, sheet.first.len(), MOST_RULES, "first rules")?;
+            room(line, sheet.first.len(), MOST_RULES, "first rule")?;
             let rule = list(line, &sheet.names, &OR)?;
             let bytes = 1 + rule.len();
             sheet.first.push(rule);
             Ok(bytes)
         }
         Some("step") => {
-            room(line, sheet.steps.len(), MOST_RULES, "step rules")?;
+            room(line, sheet.steps.len(), MOST_RULES, "step rule")?;
             let step = step(line, &sheet.names)?;
             let bytes = 2 + step.left.len() + step.right.len();
             sheet.steps.push(step);
             Ok(bytes)
         }
         Some("promise") => {
-            room(line, sheet.promises.len(), MOST_PROMISES.into(), "promises")?;
+            room(line, sheet.promises.len(), MOST_PROMISES.into(), "promise")?;
             sheet.promises.push(literal(line, &sheet.names)?);
             line.end("the line's end: a promise is one letter, or `not` and one letter")?;
             Ok(2)
@@ -109,7 +109,7 @@ fn read_record(line: &mut Line<'_>, sheet: &mut Sheet, letters_line: usize) -> R
 /// Passes the line's first word if there is room for one more of its kind.
 fn room(line: &mut Line<'_>, there: usize, most: usize, what: &str) -> Result<(), Fault> {
     if there == most {
-        return Err(line.fault(format!("number {} of the {what}", there + 1)).expected(format!("at most {most} {what}")));
+        return Err(line.fault(format!("this is {what} {}", there + 1)).expected(format!("at most {most} {what}s")));
     }
     line.take();
     Ok(())
@@ -123,6 +123,10 @@ fn limit(line: &mut Line<'_>, names: &[String]) -> Result<Limit, Fault> {
             return Err(line.unexpected("`exactly` or `at most`").hint(line.meant(["exactly", "at"])));
         }
         line.take();
+        if line.peek() == Some("least") {
+            let instead = "`at most`: at least 1 of a, b, c is at most 2 of not a, not b, not c";
+            return Err(line.fault("there is no `at least`").expected(instead));
+        }
         line.expect("most")?;
     }
     let bound = line.number("how many may be true", u8::MAX.into())? as u8;
@@ -175,9 +179,9 @@ fn list(line: &mut Line<'_>, names: &[String], joined: &Joined) -> Result<Vec<Li
         }
         let literal = literal(line, names)?;
         if list.contains(&literal) {
-            return Err(line
-                .fault_behind("this stands twice in one list")
-                .expected("each letter at most once, and at most once with `not`"));
+            let name = &names[usize::from(literal.unsigned_abs()) - 1];
+            let said = format!("`{}{name}` stands twice in this list", if literal < 0 { "not " } else { "" });
+            return Err(line.fault_behind(said).expected("each literal once; only a letter and its opposite go together"));
         }
         list.push(literal);
         if line.peek() == joined.then {

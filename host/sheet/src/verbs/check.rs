@@ -81,5 +81,5 @@ fn verdict(source: &Source, paper: &Paper, page: &mut Page) {
     page.raise(REFUSED);
     let refused = page.colour.red("not accepted");
     page.print(&format!("The proved checker: {what} is {refused} (answer {answer}).\n"));
-    page.print(&format!("Why, as this command sees it:\n{}", explain::why(source, paper)));
+    page.print(&format!("Why (this command's own account, not proved):\n{}", explain::why(source, paper)));
 }

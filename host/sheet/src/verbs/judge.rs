@@ -71,7 +71,7 @@ fn one(source: &Source, call: &Call, page: &mut Page) {
     });
     if call.has("--numbers") {
         numbers(&source.name, [answer, count, a, b], call, page);
-    } else if call.value("--paper") != Some("-") {
+    } else if call.value("--paper") != Some("-") || !(answer == 0 || answer == 13) {
         words(source, &judged, call, page);
     }
     if let Some(file) = call.value("--paper") {
