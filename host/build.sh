@@ -66,7 +66,7 @@ proof_sources() {
 
 # hold: waits until no other command builds here, keeps others waiting until `release` or the end, and begins the log anew
 hold() {
-  mkdir -p "$kept"
+  mkdir -p "$kept" 2>/dev/null && [ -w "$kept" ] || fail "cannot write to $kept, where what is built is kept"
   if command -v flock >/dev/null 2>&1; then
     exec 9>"$kept/lock"
     flock -n 9 || {
