@@ -17,7 +17,7 @@ const MOST_STATES: usize = 12;
 const MOST_WAYS: usize = 4;
 
 /// A strike list, the rules behind it, and how much of it is told.
-pub struct Story<'s> {
+struct Story<'s> {
     sheet: &'s Sheet,
     rules: &'s Rules,
     words: BTreeMap<State, u32>,
