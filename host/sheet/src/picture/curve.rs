@@ -22,11 +22,12 @@ pub struct Arrow {
     pub high: Point,
 }
 
-/// An arrow from one box to another; one with an opposite keeps to its own side.
-pub fn arrow(spots: &[Spot], from: usize, to: usize, opposite: bool) -> Arrow {
+/// An arrow for the move from one box to another; one with an opposite keeps to its own side.
+pub fn arrow(spots: &[Spot], moves: &[Vec<usize>], from: usize, to: usize) -> Arrow {
     if from == to {
-        return round_trip(&spots[from]);
+        return round_trip(&spots[from], quiet_side(spots, moves, from));
     }
+    let opposite = moves[to].contains(&from);
     let (start, end) = ((spots[from].x, spots[from].y), (spots[to].x, spots[to].y));
     // A short arrow is not bent into a wide one; rather it passes behind a box.
     let most = 60.0 + 0.45 * (end.0 - start.0).hypot(end.1 - start.1);
@@ -45,12 +46,46 @@ pub fn arrow(spots: &[Spot], from: usize, to: usize, opposite: bool) -> Arrow {
     Arrow { path, low: corner(f64::min), high: corner(f64::max) }
 }
 
-/// An arrow from a box to itself, over its upper side.
-fn round_trip(spot: &Spot) -> Arrow {
-    let (right, top) = (spot.x + spot.width / 2.0, spot.y - spot.height / 2.0);
-    let (leave, come, over) = (right - 46.0, right - 18.0, top - 44.0);
-    let path = format!("M{leave:.1} {top:.1}C{:.1} {over:.1} {:.1} {over:.1} {come:.1} {top:.1}", leave - 14.0, come + 14.0);
-    Arrow { path, low: (leave - 10.0, over + 8.0), high: (come + 10.0, top) }
+/// A side of a box.
+#[derive(Clone, Copy, PartialEq, Eq)]
+enum Side {
+    Top,
+    Bottom,
+    Right,
+    Left,
+}
+
+/// The side of a box, not the left one, at which the fewest arrows come and go.
+fn quiet_side(spots: &[Spot], moves: &[Vec<usize>], place: usize) -> Side {
+    let joined = (0..spots.len()).filter(|&other| other != place && (moves[place].contains(&other) || moves[other].contains(&place)));
+    let sides: Vec<Side> = joined.map(|other| towards(&spots[place], &spots[other])).collect();
+    let arrows = |side: &Side| sides.iter().filter(|&other| other == side).count();
+    [Side::Top, Side::Bottom, Side::Right].into_iter().min_by_key(arrows).unwrap_or(Side::Top)
+}
+
+/// The side at which a straight line to another box leaves.
+fn towards(spot: &Spot, other: &Spot) -> Side {
+    let (dx, dy) = ((other.x - spot.x) / spot.width, (other.y - spot.y) / spot.height);
+    match (dx.abs() > dy.abs(), dx > 0.0, dy > 0.0) {
+        (true, true, _) => Side::Right,
+        (true, false, _) => Side::Left,
+        (false, _, true) => Side::Bottom,
+        (false, _, false) => Side::Top,
+    }
+}
+
+/// An arrow from a box to itself, at this side.
+fn round_trip(spot: &Spot, side: Side) -> Arrow {
+    let (right, half) = (spot.x + spot.width / 2.0, spot.height / 2.0);
+    if side == Side::Right {
+        let (leave, come, over) = (spot.y + 14.0, spot.y - 14.0, right + 44.0);
+        let path = format!("M{right:.1} {leave:.1}C{over:.1} {:.1} {over:.1} {:.1} {right:.1} {come:.1}", leave + 14.0, come - 14.0);
+        return Arrow { path, low: (right, come - 10.0), high: (over - 8.0, leave + 10.0) };
+    }
+    let up = if side == Side::Bottom { -1.0 } else { 1.0 };
+    let (leave, come, edge, over) = (spot.x - 14.0, spot.x + 14.0, spot.y - up * half, spot.y - up * (half + 44.0));
+    let path = format!("M{leave:.1} {edge:.1}C{:.1} {over:.1} {:.1} {over:.1} {come:.1} {edge:.1}", leave - 14.0, come + 14.0);
+    Arrow { path, low: (leave - 10.0, edge.min(over) + 8.0), high: (come + 10.0, edge.max(over)) }
 }
 
 /// The bent arrow's middle point of control.

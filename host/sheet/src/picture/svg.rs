@@ -71,7 +71,7 @@ fn extent(graph: &Graph, spots: &[Spot]) -> (Point, Point) {
         ((spot.x - half.0, spot.y - half.1), (spot.x + half.0, spot.y + half.1))
     });
     let arrows = graph.moves.iter().enumerate().flat_map(|(from, tos)| tos.iter().map(move |&to| (from, to)));
-    let arrows = arrows.map(|(from, to)| arrow(spots, from, to, graph.moves[to].contains(&from))).map(|arrow| (arrow.low, arrow.high));
+    let arrows = arrows.map(|(from, to)| arrow(spots, &graph.moves, from, to)).map(|arrow| (arrow.low, arrow.high));
     boxes.chain(arrows).fold(((0.0, 0.0), (0.0, 0.0)), |(low, high): (Point, Point), (lower, higher)| {
         ((low.0.min(lower.0), low.1.min(lower.1)), (high.0.max(higher.0), high.1.max(higher.1)))
     })
@@ -107,8 +107,7 @@ fn moves(picture: &Picture<'_>, spots: &[Spot]) -> String {
     let mut svg = format!("<g fill=\"none\" stroke=\"#777777\" stroke-width=\"{thick}\" opacity=\"{pale}\">\n");
     for (from, tos) in graph.moves.iter().enumerate() {
         for &to in tos {
-            let opposite = graph.moves[to].contains(&from);
-            svg += &format!("<path d=\"{}\" marker-end=\"url(#move)\"/>\n", arrow(spots, from, to, opposite).path);
+            svg += &format!("<path d=\"{}\" marker-end=\"url(#move)\"/>\n", arrow(spots, &graph.moves, from, to).path);
         }
     }
     svg += "</g>\n<g fill=\"none\" stroke=\"#777777\" stroke-width=\"2.6\">\n";
@@ -175,8 +174,7 @@ fn run_arrows(picture: &Picture<'_>, spots: &[Spot]) -> String {
         let to = *places.get(moment + 1).unwrap_or(&places[back]);
         if !drawn.contains(&(from, to)) {
             drawn.push((from, to));
-            let opposite = picture.graph.moves[to].contains(&from);
-            svg += &format!("<path d=\"{}\" marker-end=\"url(#run)\"/>\n", arrow(spots, from, to, opposite).path);
+            svg += &format!("<path d=\"{}\" marker-end=\"url(#run)\"/>\n", arrow(spots, &picture.graph.moves, from, to).path);
         }
     }
     svg + "</g>\n"

@@ -4,6 +4,7 @@
 
 use crate::model::{any_true, is_true, Literal, Sheet, State};
 use crate::text::print;
+use std::cell::Cell;
 
 /// What one moment has to meet.
 #[derive(Clone, Copy, Debug, PartialEq, Eq)]
@@ -16,8 +17,12 @@ pub enum Demand {
     Step(usize),
 }
 
-/// So many half-settled states are looked at for one clash; then what is left counts as needed.
-const PATIENCE: usize = 200_000;
+/// So many half-settled states are looked at in all; after that, what is left counts as needed.
+pub const PATIENCE: usize = 4_000_000;
+/// So many of them for one order of leaving out.
+const PATIENCE_AT_ONCE: usize = 200_000;
+/// More demands than this are counted, not named.
+const MOST_NAMED: usize = 24;
 
 /// The demands on a first state.
 pub fn on_first(sheet: &Sheet) -> Vec<Demand> {
@@ -31,10 +36,10 @@ pub fn after(sheet: &Sheet, state: State) -> Vec<Demand> {
 }
 
 /// Demands that clash and of which none can be left out. Two orders of leaving out are tried, and the shorter clash is told.
-pub fn smallest(sheet: &Sheet, demands: Vec<Demand>) -> Vec<Demand> {
+pub fn smallest(sheet: &Sheet, demands: Vec<Demand>, patience: &Cell<usize>) -> Vec<Demand> {
     let (limits, rules): (Vec<Demand>, Vec<Demand>) = demands.iter().partition(|demand| matches!(demand, Demand::Limit(_)));
-    let forward = needed(sheet, demands.clone(), limits.iter().chain(&rules));
-    let backward = needed(sheet, demands, limits.iter().rev().chain(rules.iter().rev()));
+    let forward = needed(sheet, demands.clone(), patience, limits.iter().chain(&rules));
+    let backward = needed(sheet, demands, patience, limits.iter().rev().chain(rules.iter().rev()));
     if forward.len() < backward.len() {
         forward
     } else {
@@ -43,8 +48,9 @@ pub fn smallest(sheet: &Sheet, demands: Vec<Demand>) -> Vec<Demand> {
 }
 
 /// What is left when each demand in turn is left out wherever the rest still clash.
-fn needed<'d>(sheet: &Sheet, demands: Vec<Demand>, turns: impl Iterator<Item = &'d Demand>) -> Vec<Demand> {
-    let mut search = Search { sheet, left: PATIENCE };
+fn needed<'d>(sheet: &Sheet, demands: Vec<Demand>, patience: &Cell<usize>, turns: impl Iterator<Item = &'d Demand>) -> Vec<Demand> {
+    let allowed = patience.get().min(PATIENCE_AT_ONCE);
+    let mut search = Search { sheet, left: allowed };
     let mut needed = demands;
     for one in turns {
         let without: Vec<Demand> = needed.iter().copied().filter(|other| other != one).collect();
@@ -52,6 +58,7 @@ fn needed<'d>(sheet: &Sheet, demands: Vec<Demand>, turns: impl Iterator<Item = &
             needed = without;
         }
     }
+    patience.set(patience.get() - (allowed - search.left));
     needed
 }
 
@@ -63,6 +70,7 @@ pub fn sentence(sheet: &Sheet, demands: &[Demand], margin: &str) -> String {
         [Demand::Step(step)] if sheet.steps[*step].right.is_empty() => format!("{} forbids a next moment.", capital(&names[0])),
         [_] => format!("{} can never be met.", capital(&names[0])),
         [_, _] => format!("{} and {} cannot be met together.", capital(&names[0]), names[1]),
+        many if many.len() > MOST_NAMED => format!("The {} limits and rules that apply here cannot be met together.", many.len()),
         _ => format!("These cannot be met together:\n{margin}  {}", names.join(&format!("\n{margin}  "))),
     };
     format!("{margin}{said}\n")

@@ -29,7 +29,14 @@ pub fn table(sheet: &Sheet, run: &[State], a: u32, all: bool) -> String {
 
 /// A moment, its letters, its promises.
 fn row(sheet: &Sheet, run: &[State], at: usize) -> [String; 3] {
-    let kept: Vec<String> = sheet.kept(run[at]).iter().map(|&promise| print::literal(sheet, sheet.promises[promise])).collect();
+    let mut kept: Vec<String> = Vec::new();
+    for promise in sheet.kept(run[at]) {
+        let name = print::literal(sheet, sheet.promises[promise]);
+        // A sheet may promise the same twice.
+        if !kept.contains(&name) {
+            kept.push(name);
+        }
+    }
     [at.to_string(), print::state(sheet, run[at]), kept.join(", ")]
 }
 

@@ -6,6 +6,7 @@ use crate::story::{clash, count};
 use crate::text::print;
 use plain::list::next_states;
 use plain::rules::Rules;
+use std::cell::Cell;
 use std::collections::BTreeMap;
 
 /// More rounds than this are cut.
@@ -16,20 +17,27 @@ const MOST_STATES: usize = 12;
 const MOST_WAYS: usize = 4;
 
 /// A strike list, the rules behind it, and how much of it is told.
-pub struct Story<'s> {
+struct Story<'s> {
     sheet: &'s Sheet,
     rules: &'s Rules,
     words: BTreeMap<State, u32>,
     all: bool,
+    patience: Cell<usize>,
 }
 
 /// Tells a strike list of the judge.
 pub fn tell(sheet: &Sheet, rules: &Rules, states: &[State], words: &[u32], all: bool) -> String {
     if states.is_empty() {
-        let clash = clash::smallest(sheet, clash::on_first(sheet));
+        let clash = clash::smallest(sheet, clash::on_first(sheet), &Cell::new(clash::PATIENCE));
         return format!("  There is no first state.\n{}", clash::sentence(sheet, &clash, "  "));
     }
-    let story = Story { sheet, rules, words: states.iter().copied().zip(words.iter().copied()).collect(), all };
+    let story = Story {
+        sheet,
+        rules,
+        words: states.iter().copied().zip(words.iter().copied()).collect(),
+        all,
+        patience: Cell::new(clash::PATIENCE),
+    };
     let mut groups: Vec<(u32, Vec<State>)> = Vec::new();
     for (&state, &word) in states.iter().zip(words) {
         match groups.last_mut() {
@@ -102,7 +110,7 @@ impl Story<'_> {
         for &state in self.shown(states) {
             let asked: Vec<usize> = (0..self.sheet.steps.len()).filter(|&step| self.sheet.steps[step].asks(state)).collect();
             let why = found.entry(asked).or_insert_with(|| {
-                let clash = clash::smallest(self.sheet, clash::after(self.sheet, state));
+                let clash = clash::smallest(self.sheet, clash::after(self.sheet, state), &self.patience);
                 clash::sentence(self.sheet, &clash, "        ")
             });
             match gathered.iter_mut().find(|(other, _)| other == why) {

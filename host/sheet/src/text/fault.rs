@@ -51,9 +51,10 @@ impl Fault {
 
     /// The fault as a reader sees it.
     pub fn show(&self, file: &str, colour: Colour) -> String {
+        let said = colour.bold(&harmless(&self.said));
         let mut shown = match &self.place {
-            Some(place) => format!("{file}:{}:{}: {}\n", place.line, place.before + 1, colour.bold(&self.said)),
-            None => format!("{file}: {}\n", colour.bold(&self.said)),
+            Some(place) => format!("{file}:{}:{}: {said}\n", place.line, place.before + 1),
+            None => format!("{file}: {said}\n"),
         };
         if let Some(place) = &self.place {
             shown += &place.show(self.hint.as_deref(), colour);
@@ -73,8 +74,13 @@ impl Place {
         let mark = "^".repeat(self.width.max(1));
         let beside = hint.map(|hint| format!(" {hint}")).unwrap_or_default();
         let mark = colour.red(&format!("{mark}{beside}"));
-        format!("{:>4} | {}\n     | {before}{mark}\n", self.line, self.text)
+        format!("{:>4} | {}\n     | {before}{mark}\n", self.line, harmless(&self.text))
     }
+}
+
+/// A text without signs that a terminal would obey; a tab stays.
+fn harmless(text: &str) -> String {
+    text.chars().map(|c| if c.is_control() && c != '\t' { char::REPLACEMENT_CHARACTER } else { c }).collect()
 }
 
 /// Several faults of one text, the first of them in full.

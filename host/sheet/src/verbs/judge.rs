@@ -41,6 +41,9 @@ fn act(call: &Call, page: &mut Page) -> Result<(), String> {
     if call.files.iter().filter(|file| *file == "-").count() > 1 {
         return Err("standard input can be read once".to_string());
     }
+    if call.value("--paper").is_some_and(|paper| is_same_file(paper, &call.files[0])) {
+        return Err("--paper would write over the sheet".to_string());
+    }
     for (at, file) in call.files.iter().enumerate() {
         match input::sheet(file, call, page.message_colour) {
             Ok(source) => {
@@ -58,6 +61,14 @@ fn act(call: &Call, page: &mut Page) -> Result<(), String> {
         }
     }
     Ok(())
+}
+
+/// Do two names stand for one file that is there?
+fn is_same_file(one: &str, other: &str) -> bool {
+    match (std::fs::canonicalize(one), std::fs::canonicalize(other)) {
+        (Ok(one), Ok(other)) => one == other,
+        _ => false,
+    }
 }
 
 /// Judges one sheet.
