@@ -1,7 +1,7 @@
 /*
  * Naxxurbi: a judge for rule sheets, and two checkers for its papers.
  *
- * A rule sheet is a string of bytes (docs/GUIDE.md shows one). The calls take any bytes and any numbers: none has a precondition, each
+ * A rule sheet is a string of bytes (docs/FORMAT.md). The calls take any bytes and any numbers: none has a precondition, each
  * returns, and each is proved to keep the promise that is stated for it in crates/meaning/specs/Promises.antt. Of the pointers themselves C
  * callers owe what is listed below.
  *
@@ -37,7 +37,12 @@
  * and signal handlers take comes on top. host/c/stack.c runs each call on a fenced stack of just this size, on sheets of 24 letters that are
  * judged to the end, and prints what they take: at most 835,296, 12,128, 7,128 and 216 bytes.
  *
- * Link libfirmware.a (both checkers), libjudge.a (naxxurbi_judge) or libreader.a (naxxurbi_read); each stands alone.
+ * The judge takes nearly as much for the smallest sheet (one letter, no rules: 830,960 bytes), since its rooms have a fixed size.
+ *
+ * Link libnaxxurbi.a, which bin/install makes and which has every call; a program takes in only the objects that it calls. Or link the
+ * archives it is made of: libfirmware.a (both checkers), libjudge.a (naxxurbi_judge), libreader.a (naxxurbi_read); each stands alone. Their
+ * code takes at most 10 KB, 16 KB and 2 KB (of 1,024 bytes); they have no data of their own. The only outside function that they call is
+ * memset.
  *
  * Time. The run checker looks at each state once for each rule and promise. The strike checker counts, for the first states and for each
  * entry that asks for something new, the states that may come next, and stops once there are more than the list could hold. It settles

@@ -4,7 +4,7 @@
 //! beside it. `bench only TEXT` measures the rows whose name has that text.
 //!
 //! Each row is measured in turns, ours and the plain one, and the least of several turns is taken: other work on the machine only ever adds
-//! time. Sheets are always the same.
+//! time. Sheets are always the same. What the variable MEASURED_ON says (processor, compilers, commit) stands before the tables.
 
 #![deny(warnings)]
 
@@ -95,7 +95,8 @@ fn markdown(table: &Table) -> String {
     for row in &table.rows {
         let facts: String = row.facts.iter().map(|fact| format!(" {fact} |")).collect();
         let ratio = row.ours / row.plain;
-        lines.push(format!("| {} |{facts} {} | {} | {ratio:.2} |", row.name, time(row.ours), time(row.plain)));
+        let digits = if ratio < 0.1 { 4 } else { 2 };
+        lines.push(format!("| {} |{facts} {} | {} | {ratio:.digits$} |", row.name, time(row.ours), time(row.plain)));
     }
     lines.join("\n") + "\n"
 }
@@ -126,7 +127,8 @@ fn main() -> std::io::Result<()> {
     tables.extend(checking::tables(&only));
     tables.extend(judging::tables(&only));
     tables.retain(|table| !table.rows.is_empty());
-    let text: String = tables.iter().map(markdown).collect::<Vec<_>>().join("\n");
+    let on = std::env::var("MEASURED_ON").map_or(String::new(), |words| words + "\n\n");
+    let text = on + &tables.iter().map(markdown).collect::<Vec<_>>().join("\n");
     println!("{text}");
     folder.map_or(Ok(()), |folder| write(folder, &tables, &text))
 }

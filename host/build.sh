@@ -1,0 +1,253 @@
+# What bin/naxxurbi, bin/sheet, bin/install and host/run share: proving and building, once for each state of the sources. Sourced by bash.
+#
+# What is built is kept as target/launch/NAME-SUM-KIT: SUM is a sum over the sources' contents, KIT one over `rt version`. If the sources
+# differ from what was built, there is no such file, and it is built anew. Nothing is written outside the repository.
+
+# Whether standard input is closed; asked first, since any file opened later could take its place.
+if { : 3<&0; } 2>/dev/null; then closed=; else closed=yes; fi
+
+top=$(dirname "$(dirname "$(readlink -f "${BASH_SOURCE[0]}")")")
+kept=$top/target/launch
+log=$kept/build.log
+me=$(basename "$0")
+
+# say WORDS..: a message for the user, on standard error
+say() {
+  echo "$me: $*" >&2
+}
+
+# fail WORDS..: a sentence and status 2
+fail() {
+  say "$*"
+  exit 2
+}
+
+# need TOOL WHAT: ends with a sentence where TOOL is missing
+need() {
+  command -v "$1" >/dev/null 2>&1 || fail "$1 is needed and was not found: $2"
+}
+
+need_rt() {
+  need rt "it is the Rattle toolchain, which proves and compiles the crates. Put its bin folder on PATH."
+}
+
+need_cargo() {
+  need cargo "it builds the Rust programs under host/. Install Rust (https://www.rust-lang.org) or put cargo on PATH."
+}
+
+# c_compiler: the name of the C compiler, CC or else cc or gcc; ends with a sentence where there is none
+c_compiler() {
+  local name
+  for name in ${CC:-cc gcc}; do
+    if command -v "$name" >/dev/null 2>&1; then
+      echo "$name"
+      return
+    fi
+    [ -z "${CC:-}" ] || break
+  done
+  fail "a C compiler is needed and was not found (looked for ${CC:-cc and gcc}). Install one, or name it in the variable CC."
+}
+
+# sum_of PATHS..: one sum over the names and contents of the files there, paths from the top; what a build leaves behind is passed over
+sum_of() {
+  (cd "$top" && find "$@" -name target -prune -o -type f -print0 2>/dev/null | LC_ALL=C sort -z | xargs -0 sha256sum | sha256sum | cut -c1-32)
+}
+
+# kit: a sum over the toolchain's one line of identity
+kit() {
+  rt version 2>&1 | sha256sum | cut -c1-16
+}
+
+# proof_sources: what a proof depends on
+proof_sources() {
+  echo crates.txt
+  (cd "$top" && find crates -mindepth 2 -maxdepth 2 \( -name src -o -name specs -o -name proofs -o -name stdin -o -name stdout \))
+}
+
+# hold: waits until no other command builds here, keeps others waiting until `release` or the end, and begins the log anew
+hold() {
+  mkdir -p "$kept" 2>/dev/null && [ -w "$kept" ] || fail "cannot write to $kept, where what is built is kept"
+  if command -v flock >/dev/null 2>&1; then
+    exec 9>"$kept/lock"
+    flock -n 9 || {
+      say "another command is building here; waiting for it"
+      flock 9
+    }
+  else
+    hold_folder
+  fi
+  : >"$log"
+}
+
+# hold_folder: the same without flock: whoever makes the folder holds it; one left by a process that is gone is taken away
+hold_folder() {
+  local owner told=
+  until mkdir "$kept/lock.folder" 2>/dev/null; do
+    owner=$(cat "$kept/lock.folder/owner" 2>/dev/null)
+    if [ -n "$owner" ] && ! kill -0 "$owner" 2>/dev/null; then
+      rm -rf "$kept/lock.folder"
+      continue
+    fi
+    [ -n "$told" ] || say "another command is building here; waiting for it"
+    told=yes
+    sleep 1
+  done
+  echo $$ >"$kept/lock.folder/owner"
+  trap 'rm -rf "$kept/lock.folder"' EXIT
+}
+
+release() {
+  exec 9>&-
+  if [ "$(cat "$kept/lock.folder/owner" 2>/dev/null)" = $$ ]; then
+    rm -rf "$kept/lock.folder"
+    trap - EXIT
+  fi
+}
+
+# crates_below NAMES..: the crates that rt proves for these, in the order in which it does
+crates_below() {
+  WANTED="$*" awk '
+    function visit(n,    a, k, m, l) {
+      if (n in level) return
+      m = split(deps[n], a, " ")
+      for (k = 1; k <= m; k++) if (a[k] in deps) { visit(a[k]); if (level[a[k]] + 1 > l) l = level[a[k]] + 1 }
+      level[n] = l + 0
+      print level[n], n
+    }
+    { sub(/#.*/, "") }
+    /:/ { split($0, part, ":"); gsub(/[ \t]/, "", part[1]); deps[part[1]] = part[2] }
+    END { w = split(ENVIRON["WANTED"], want, " "); for (k = 1; k <= w; k++) visit(want[k]) }' "$top/crates.txt" |
+    sort -s -n -k1,1 | cut -d' ' -f2
+}
+
+# direct NAMES..: the crates of this repository that these stand on directly, each once
+direct() {
+  local name
+  for name in "$@"; do
+    sed -n "s/^$name: *//p" "$top/crates.txt" | tr ' ' '\n'
+  done | sort -u | while read -r name; do
+    [ ! -d "$top/crates/$name" ] || echo "$name"
+  done
+}
+
+# told COMMAND..: runs it in the top folder with what it prints in the log, and calls `heard LINE` for each line and `waiting` for each
+# second without one. Gives the command's status.
+told() {
+  local line part= status=2 from
+  exec {from}< <(cd "$top" && "$@" </dev/null 2>&1; echo "ended with status $?")
+  while :; do
+    if IFS= read -r -t 1 -u "$from" line; then
+      line=$part$line part=
+      case $line in
+      "ended with status "*) status=${line##* } && break ;;
+      esac
+      echo "$line" >>"$log"
+      heard "$line"
+    elif [ $? -gt 128 ]; then
+      part=$part$line
+      waiting
+    else
+      break
+    fi
+  done
+  exec {from}<&-
+  return "$status"
+}
+
+# doing WORDS..: tells what is being done, once when it begins and again after each half minute
+doing() {
+  if [ "$*" != "${done_now:-}" ]; then
+    done_now=$* next_word=$((SECONDS + 30))
+    say "$*"
+  elif [ "$SECONDS" -ge "$next_word" ]; then
+    next_word=$((SECONDS + 30))
+    say "still $*"
+  fi
+}
+
+# prove NAMES..: `rt check`, which proves these crates and all they stand on, telling which crate is being proved and how many there are
+prove() {
+  local crates ended=0
+  mapfile -t crates < <(crates_below "$@")
+  heard() {
+    case $1 in
+    "rt: "*" proved ("* | "rt: "*" NOT PROVED"*) ended=$((ended + 1)) ;;
+    esac
+  }
+  waiting() {
+    if [ "$ended" -lt "${#crates[@]}" ]; then
+      doing "proving crate $((ended + 1)) of ${#crates[@]}: ${crates[ended]}"
+    else
+      doing "running what was proved"
+    fi
+  }
+  told rt check "$@"
+}
+
+# step WORDS COMMAND..: a command of the build, told in these words
+step() {
+  local words=$1
+  shift
+  heard() { :; }
+  waiting() { doing "$words"; }
+  told "$@"
+}
+
+# not_built WORDS: ends with the log's last lines
+not_built() {
+  tail -n 20 "$log" >&2
+  fail "$1 (all that was said is in $log)"
+}
+
+# archives_sum: one sum over the proofs' sources, the toolchain and the archives as they are
+archives_sum() {
+  sum_of $(proof_sources) host/archives.txt
+  kit
+  sed 's,.*,target/staticlib/lib&.a,' "$top/host/archives.txt" | (cd "$top" && xargs sha256sum 2>/dev/null)
+}
+
+# archives: brings target/staticlib up to date, one archive for each crate that host/archives.txt names. To be called while holding.
+# `rt staticlib` proves its crate anew each time, so it is left out where the sources and the archives are those of the last time.
+archives() {
+  local names i before
+  mapfile -t names <"$top/host/archives.txt"
+  [ "$(cat "$kept/archives" 2>/dev/null)" != "$(archives_sum)" ] || return 0
+  need_rt
+  rm -f "$kept/archives"
+  before=$(sum_of $(proof_sources))
+  prove $(direct "${names[@]}") || not_built "a crate was not proved"
+  for i in "${!names[@]}"; do
+    step "proving and compiling archive $((i + 1)) of ${#names[@]}: ${names[i]}" rt staticlib "${names[i]}" ||
+      not_built "the archive of ${names[i]} was not built"
+  done
+  [ "$before" = "$(sum_of $(proof_sources))" ] || fail "the sources changed while they were proved; run this again"
+  archives_sum >"$kept/archives"
+}
+
+# put FILE PLACE: copies what was built to its place in one move, and takes away those of earlier sources
+put() {
+  local name
+  name=$(basename "$2")
+  cp "$1" "$kept/.$name.$$" && chmod +x "$kept/.$name.$$" || fail "cannot write to $kept"
+  find "$kept" -maxdepth 1 -name "${name%%-*}-*" -delete
+  mv "$kept/.$name.$$" "$2"
+}
+
+# fresh NAME BUILD PATHS..: sets `program` to NAME as built from the files at PATHS, calling BUILD, which sets `made`, where it is not there
+fresh() {
+  local name=$1 build=$2 now
+  shift 2
+  now=$(sum_of "$@")
+  program=$(echo "$kept/$name-$now-"*)
+  ! command -v rt >/dev/null 2>&1 || program=$kept/$name-$now-$(kit)
+  [ ! -x "$program" ] || return 0
+  need_rt
+  hold
+  if [ ! -x "$program" ]; then
+    say "building $name from the sources as they are now; the first time this takes some minutes"
+    "$build"
+    [ "$now" = "$(sum_of "$@")" ] || fail "the sources changed while $name was built; run this again"
+    put "$made" "$program"
+  fi
+  release
+}

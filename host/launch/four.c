@@ -1,0 +1,21 @@
+/*
+ * Calls every exported function of the installed library once: reads W4, judges it, has the strike list checked, and has W1's run checked.
+ * host/launch/run compiles it with the flags of the installed naxxurbi.pc. Prints the answers.
+ */
+#include <stdio.h>
+
+#include <naxxurbi.h>
+
+static const uint8_t w1[] = {0x01, 0x00, 0x08, 0x01, 0x00, 0x00, 0x00, 0x00};
+static const uint8_t w4[] = {0x01, 0x00, 0x14, 0x01, 0x00, 0x01, 0x02, 0x01, 0x01, 0x01,
+                             0x03, 0x01, 0x01, 0xFF, 0x03, 0x01, 0xFF, 0xFF, 0x01, 0x01};
+static const uint8_t states[] = {0, 0, 0, 0, 0, 0, 0, 1}, words[] = {0, 0, 0, 33, 0, 0, 0, 64}, run[] = {0, 0, 0, 0};
+
+int main(void) {
+    uint32_t table[2], marks[2], scratch[4], sample[4], out[4];
+    naxxurbi_judge(w4, sizeof w4, table, 2, marks, 2, scratch, 4, sample, 4, out);
+    printf("read %u, judge %u %u, strikes %u, run %u\n", (unsigned)naxxurbi_read(w4, sizeof w4), (unsigned)out[0], (unsigned)out[1],
+           (unsigned)naxxurbi_check_strikes(w4, sizeof w4, states, sizeof states, words, sizeof words),
+           (unsigned)naxxurbi_check_run(w1, sizeof w1, run, sizeof run, 0));
+    return 0;
+}

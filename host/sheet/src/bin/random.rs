@@ -1,0 +1,244 @@
+//! The command's parts on random sheets: the last line is 'N passed, M failed'.
+//!
+//! `random [SEED [SHEETS]]`. What fails is printed with its sheet and ends its part.
+
+#![deny(warnings)]
+
+use plain::make::{random_sheet, Rng};
+use plain::rules::Rules;
+use sheet::explain;
+use sheet::input::Source;
+use sheet::paper::{self, Paper};
+use sheet::picture::graph::explore;
+use sheet::text::{names, parse, print};
+use sheet::{bytes, proved};
+
+/// A part of the test: so many sheets; what is wrong, if something is.
+type Part = (&'static str, fn(&mut Rng, usize) -> Result<String, String>);
+
+const PARTS: [Part; 5] = [
+    ("bytes to text and back", round_trip),
+    ("damaged text", damaged_text),
+    ("papers to text and back", papers),
+    ("reasons against papers", reasons),
+    ("states struck in pictures", pictures),
+];
+
+fn main() {
+    let mut arguments = std::env::args().skip(1);
+    let seed = arguments.next().map_or(11, |s| s.parse().expect("the seed is a number"));
+    let sheets = arguments.next().map_or(100_000, |s| s.parse().expect("the sheets are a number"));
+    let mut failed = 0;
+    for (name, part) in PARTS {
+        match part(&mut Rng::new(seed), sheets) {
+            Ok(said) => println!("{name}: {said}"),
+            Err(said) => {
+                println!("{name}: FAILED: {said}");
+                failed += 1;
+            }
+        }
+    }
+    println!("{} passed, {failed} failed", PARTS.len() - failed);
+    std::process::exit(i32::from(failed > 0));
+}
+
+/// A random good sheet with names.
+fn source(rng: &mut Rng, most_letters: u8) -> Source {
+    let bytes = random_sheet(rng, most_letters);
+    let mut sheet = bytes::read(&bytes).unwrap_or_else(|fault| panic!("{} {bytes:02x?}", fault.words()));
+    sheet.names = match rng.below(3) {
+        0 => names::defaults(sheet.names.len()),
+        1 => (1..=sheet.names.len()).map(|letter| format!("letter-{letter}")).collect(),
+        _ => (1..=sheet.names.len()).map(|letter| format!("Größe_{letter}")).collect(),
+    };
+    Source { name: "random".to_string(), sheet, bytes }
+}
+
+/// The text of a sheet's bytes, written, gives the same bytes and the same sheet.
+fn round_trip(rng: &mut Rng, sheets: usize) -> Result<String, String> {
+    for _ in 0..sheets {
+        let source = source(rng, 24);
+        let text = print::print(&source.sheet);
+        let read = parse::parse(&text).map_err(|faults| format!("{faults:?}\n{text}"))?;
+        if read != source.sheet || bytes::write(&read) != source.bytes {
+            return Err(format!("another sheet\n{text}{:02x?}", source.bytes));
+        }
+    }
+    Ok(format!("{sheets} sheets, the same bytes"))
+}
+
+/// A damaged text is refused, or it is the text of a good sheet; in either case nothing panics and every fault can be shown.
+fn damaged_text(rng: &mut Rng, sheets: usize) -> Result<String, String> {
+    let mut taken = 0;
+    for _ in 0..sheets / 4 {
+        let good = print::print(&source(rng, 6).sheet);
+        let text = damage(rng, &good);
+        match parse::parse(&text) {
+            Ok(sheet) => {
+                taken += 1;
+                let bytes = bytes::write(&sheet);
+                let again = parse::parse(&print::print(&sheet)).map(|read| read == sheet);
+                if proved::read(&bytes) != 0 || again.ok() != Some(true) {
+                    return Err(format!("no good sheet\n{text}"));
+                }
+            }
+            Err(faults) => {
+                let shown = sheet::text::fault::show_all(&faults, "random", sheet::out::Colour::NONE);
+                if faults.is_empty() || !shown.starts_with("random:") {
+                    return Err(format!("no fault shown\n{text}"));
+                }
+            }
+        }
+    }
+    if taken == 0 || taken == sheets / 4 {
+        return Err(format!("{taken} of the damaged texts were taken"));
+    }
+    Ok(format!("{} texts, {taken} of them still good sheets", sheets / 4))
+}
+
+/// A text with a word left out, doubled, or changed for another.
+fn damage(rng: &mut Rng, text: &str) -> String {
+    let mut lines: Vec<Vec<String>> = text.lines().map(|line| line.split(' ').map(str::to_string).collect()).collect();
+    for _ in 0..rng.within(1, 3) {
+        let at = rng.below(lines.len());
+        let place = rng.below(lines[at].len());
+        let from = rng.below(lines.len());
+        let other = lines[from][rng.below(lines[from].len())].clone();
+        match rng.below(6) {
+            0 => drop(lines[at].remove(place)),
+            1 => lines[at].insert(place, other),
+            2 => lines[at][place] = other,
+            3 => lines[at][place].insert(0, *rng.pick(&['#', ',', 'é', '0', '\t', '\u{feff}'])),
+            4 => drop(lines[at][place].pop()),
+            _ => lines.swap(at, from),
+        }
+        if lines[at].is_empty() {
+            lines[at].push(String::new());
+        }
+    }
+    lines.iter().map(|line| line.join(" ") + "\n").collect()
+}
+
+/// The judge's paper on a sheet, if it has one.
+fn paper_of(source: &Source) -> Option<Paper> {
+    let judged = proved::judge(&source.bytes);
+    match judged.numbers.answer {
+        0 => Some(Paper::Run(judged.run, judged.numbers.a)),
+        13 => Some(Paper::Strikes(judged.table, judged.words)),
+        _ => None,
+    }
+}
+
+/// The judge's paper as text, with names and with numbers, is read as the same paper.
+fn papers(rng: &mut Rng, sheets: usize) -> Result<String, String> {
+    let mut seen = [0; 2];
+    for _ in 0..sheets / 20 {
+        let source = source(rng, 10);
+        let Some(paper) = paper_of(&source) else { continue };
+        seen[usize::from(matches!(paper, Paper::Run(..)))] += 1;
+        for numbers in [false, true] {
+            let text = paper::print::print(&source.sheet, &paper, numbers);
+            if paper::parse::parse(&text, &source.sheet).ok().as_ref() != Some(&paper) {
+                return Err(format!("another paper\n{text}{:02x?}", source.bytes));
+            }
+        }
+    }
+    if seen.contains(&0) {
+        return Err(format!("saw {seen:?} strike lists and runs"));
+    }
+    Ok(format!("{} strike lists and {} runs", seen[0], seen[1]))
+}
+
+/// The proved checker's verdict.
+fn accepted(source: &Source, paper: &Paper) -> bool {
+    let answer = match paper {
+        Paper::Run(states, a) => proved::check_run(&source.bytes, states, *a),
+        Paper::Strikes(states, words) => proved::check_strikes(&source.bytes, states, words),
+    };
+    answer == 0
+}
+
+/// The command finds a reason against a paper exactly if the proved checker does not accept it.
+fn reasons(rng: &mut Rng, sheets: usize) -> Result<String, String> {
+    let mut seen = [0; 4];
+    for _ in 0..sheets / 10 {
+        let source = source(rng, 5);
+        let Some(mut paper) = paper_of(&source) else { continue };
+        for _ in 0..rng.below(4) {
+            spoil(rng, &mut paper, source.sheet.names.len());
+        }
+        let accepted = accepted(&source, &paper);
+        let reason = explain::reason(&source, &paper);
+        if accepted == reason.is_some() {
+            return Err(format!("accepted {accepted}, but {reason:?}\n{paper:?}\n{}", print::print(&source.sheet)));
+        }
+        seen[usize::from(accepted) + 2 * usize::from(matches!(paper, Paper::Run(..)))] += 1;
+    }
+    if seen.contains(&0) {
+        return Err(format!("saw {seen:?}"));
+    }
+    Ok(format!("{} strike lists refused, {} accepted, {} runs refused, {} accepted", seen[0], seen[1], seen[2], seen[3]))
+}
+
+/// Changes a paper a little.
+fn spoil(rng: &mut Rng, paper: &mut Paper, letters: usize) {
+    // Now and then a number that is no state.
+    let any_state = rng.below((1 << letters) + 1) as u32;
+    match paper {
+        Paper::Run(states, a) => match rng.below(4) {
+            0 => *a = rng.below(states.len() + 1) as u32,
+            1 if !states.is_empty() => {
+                let at = rng.below(states.len());
+                states[at] = any_state;
+            }
+            2 => drop(states.pop()),
+            _ => states.push(any_state),
+        },
+        Paper::Strikes(states, words) if !states.is_empty() => {
+            let at = rng.below(states.len());
+            match rng.below(4) {
+                0 => words[at] = words[at].saturating_add(rng.below(40) as u32).saturating_sub(rng.below(40) as u32),
+                1 => states[at] = any_state,
+                2 => {
+                    states.remove(at);
+                    words.remove(at);
+                }
+                _ => {
+                    states.push(any_state);
+                    words.push(words.iter().copied().max().unwrap_or(0) + rng.below(3) as u32);
+                }
+            }
+        }
+        Paper::Strikes(states, words) => {
+            states.push(any_state);
+            words.push(32);
+        }
+    }
+}
+
+/// What a picture shows as struck is what the judge struck, and what it shows as livable is what the judge calls livable.
+fn pictures(rng: &mut Rng, sheets: usize) -> Result<String, String> {
+    let mut seen = [0; 2];
+    for _ in 0..sheets / 20 {
+        let source = source(rng, 6);
+        let rules = Rules::new(&plain::sheet::read(&source.bytes).map_err(|fault| format!("{fault:?}"))?);
+        let judged = proved::judge(&source.bytes);
+        let Some(graph) = explore(&source.sheet, &rules) else { continue };
+        let struck: Vec<(u32, Option<u32>)> = graph.states.iter().copied().zip(graph.words.iter().copied()).collect();
+        let same = match judged.numbers.answer {
+            0 => struck.iter().all(|(state, word)| judged.table.contains(state) == word.is_none()),
+            _ => {
+                judged.table.len() == struck.len()
+                    && judged.table.iter().zip(&judged.words).all(|(&state, &word)| struck.contains(&(state, Some(word))))
+            }
+        };
+        seen[usize::from(judged.numbers.answer == 0)] += 1;
+        if !same {
+            return Err(format!("{struck:?}\n{judged:?}\n{}", print::print(&source.sheet)));
+        }
+    }
+    if seen.contains(&0) {
+        return Err(format!("saw {seen:?}"));
+    }
+    Ok(format!("{} sheets that cannot be kept, {} that can", seen[0], seen[1]))
+}

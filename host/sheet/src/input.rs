@@ -1,0 +1,143 @@
+//! A file, or standard input, and the sheet in it in either form.
+
+use crate::answers::{self, BAD};
+use crate::bytes;
+use crate::call::Call;
+use crate::model::Sheet;
+use crate::out::Colour;
+use crate::story::count;
+use crate::text::fault::{show_all, Fault};
+use crate::text::{names, parse};
+use std::io::Read;
+
+/// The most bytes of a sheet's text; a sheet of 4,096 bytes with the longest names has a sixth of it.
+const MOST_TEXT: usize = 1 << 20;
+/// The most bytes of a paper's text: room for the longest run with long names.
+const MOST_PAPER: usize = 1 << 28;
+
+/// A good sheet: where it came from, what it says, its bytes.
+pub struct Source {
+    /// The file's name for messages.
+    pub name: String,
+    /// What it says, with names.
+    pub sheet: Sheet,
+    /// Its bytes, which the proved reader takes.
+    pub bytes: Vec<u8>,
+}
+
+/// Why there is no sheet.
+pub struct Trouble {
+    /// A message with its line end.
+    pub message: String,
+    /// The exit status.
+    pub status: u8,
+    /// The proved reader's answer, if it was asked.
+    pub answer: Option<u32>,
+}
+
+impl Trouble {
+    /// A bad file or call.
+    pub fn new(message: String) -> Trouble {
+        Trouble { message: message + "\n", status: BAD, answer: None }
+    }
+}
+
+/// How a file is named in messages.
+pub fn shown(file: &str) -> String {
+    if file == "-" {
+        "standard input".to_string()
+    } else {
+        file.to_string()
+    }
+}
+
+/// Reads a file, or standard input for `-`: at most `most` bytes.
+fn load(file: &str, most: usize) -> Result<Vec<u8>, Trouble> {
+    let mut content = Vec::new();
+    let most_and_one = most as u64 + 1;
+    let done = if file == "-" {
+        std::io::stdin().lock().take(most_and_one).read_to_end(&mut content)
+    } else {
+        if std::path::Path::new(file).is_dir() {
+            return Err(Trouble::new(format!("{file}: this is a folder, and a file is needed")));
+        }
+        std::fs::File::open(file).and_then(|open| open.take(most_and_one).read_to_end(&mut content))
+    };
+    match done {
+        Err(error) if error.kind() == std::io::ErrorKind::NotFound => Err(Trouble::new(format!("{file}: there is no such file"))),
+        Err(error) => Err(Trouble::new(format!("{}: cannot be read: {error}", shown(file)))),
+        Ok(_) => Ok(content),
+    }
+}
+
+/// Is this a sheet's bytes, and not its text? No text is empty, begins with a byte below 9 or holds a zero byte.
+fn looks_like_bytes(content: &[u8]) -> bool {
+    content.first().is_none_or(|&byte| byte < 9) || content.contains(&0)
+}
+
+/// The sheet in a file, in either form.
+pub fn sheet(file: &str, call: &Call, colour: Colour) -> Result<Source, Trouble> {
+    let content = load(file, MOST_TEXT)?;
+    let name = shown(file);
+    if call.has("--bytes") || (!call.has("--text") && looks_like_bytes(&content)) {
+        return from_bytes(name, content, call);
+    }
+    if call.has("--names") {
+        return Err(Trouble::new(format!("{name}: --names is for a sheet of bytes, and this text names its letters itself")));
+    }
+    let text = as_text(&name, content, MOST_TEXT, colour)?;
+    let sheet = parse::parse(&text).map_err(|faults| Trouble { message: show_all(&faults, &name, colour), status: BAD, answer: None })?;
+    let bytes = bytes::write(&sheet);
+    match crate::proved::read(&bytes) {
+        0 => Ok(Source { name, sheet, bytes }),
+        answer => Err(of_bytes(&name, &answers::Fault::of_sheet(answer, &bytes))),
+    }
+}
+
+fn from_bytes(name: String, bytes: Vec<u8>, call: &Call) -> Result<Source, Trouble> {
+    let mut sheet = bytes::read(&bytes).map_err(|fault| of_bytes(&name, &fault))?;
+    sheet.names = match call.value("--names") {
+        None => names::defaults(sheet.names.len()),
+        Some(list) => given_names(list, sheet.names.len()).map_err(|said| Trouble::new(format!("{name}: {said}")))?,
+    };
+    Ok(Source { name, sheet, bytes })
+}
+
+/// The trouble of a bad sheet of bytes.
+fn of_bytes(name: &str, fault: &answers::Fault) -> Trouble {
+    Trouble { answer: Some(fault.number), ..Trouble::new(format!("{name}: {}", fault.words())) }
+}
+
+/// The names behind `--names`, as many as the sheet has letters.
+fn given_names(list: &str, letters: usize) -> Result<Vec<String>, String> {
+    let given: Vec<String> = list.split(',').map(|name| name.trim().to_string()).collect();
+    if let Some(refusal) = given.iter().find_map(|name| names::refusal(name)) {
+        return Err(format!("--names: {refusal}"));
+    }
+    if let Some(at) = (1..given.len()).find(|&at| given[..at].contains(&given[at])) {
+        return Err(format!("--names: `{}` is named twice", given[at]));
+    }
+    if given.len() != letters {
+        return Err(format!("--names has {}, and the sheet has {}", count(given.len(), "name"), count(letters, "letter")));
+    }
+    Ok(given)
+}
+
+/// A file's content as text, or the line that is none.
+fn as_text(name: &str, content: Vec<u8>, most: usize, colour: Colour) -> Result<String, Trouble> {
+    if content.len() > most {
+        return Err(Trouble::new(format!("{name}: a text of over {most} bytes is too long")));
+    }
+    String::from_utf8(content).map_err(|error| {
+        let good = error.utf8_error().valid_up_to();
+        let line = 1 + error.as_bytes()[..good].iter().filter(|&&byte| byte == b'\n').count();
+        let said = format!("line {line} holds byte {:02x}, which is no text (UTF-8)", error.as_bytes()[good]);
+        let fault = Fault::whole(said).expected("a text; --bytes takes the file as a sheet's bytes");
+        Trouble { message: fault.show(name, colour), status: BAD, answer: None }
+    })
+}
+
+/// The text of a paper.
+pub fn paper_text(file: &str, colour: Colour) -> Result<String, Trouble> {
+    as_text(&shown(file), load(file, MOST_PAPER)?, MOST_PAPER, colour)
+}

@@ -1,0 +1,78 @@
+//! The command: finds the verb, helps, and gives the exit status.
+
+#![deny(warnings)]
+
+use sheet::answers::BAD;
+use sheet::call::Call;
+use sheet::out::Page;
+use sheet::text::names;
+use sheet::verbs::{Verb, ALL};
+use std::process::ExitCode;
+
+fn main() -> ExitCode {
+    let arguments: Vec<String> = std::env::args_os().skip(1).map(|argument| argument.to_string_lossy().into_owned()).collect();
+    let mut page = Page::new();
+    if let Err(said) = answer(&arguments, &mut page) {
+        page.say(&format!("sheet: {said}\n"));
+        page.raise(BAD);
+    }
+    ExitCode::from(page.status())
+}
+
+/// Does what the arguments ask for, or says what is wrong with them.
+fn answer(arguments: &[String], page: &mut Page) -> Result<(), String> {
+    let all = "bin/sheet --help tells all verbs";
+    let Some(first) = arguments.first() else {
+        return Err(format!("a verb is needed; {all}"));
+    };
+    if first == "--help" || first == "-h" || first == "help" {
+        let verb = arguments.get(1).and_then(|name| ALL.iter().find(|verb| verb.name == name));
+        page.print(&verb.map_or_else(help, |verb| verb_help(verb)));
+        return Ok(());
+    }
+    let Some(verb) = ALL.iter().find(|verb| verb.name == first) else {
+        let near = names::nearest(first, ALL.iter().map(|verb| verb.name));
+        let hint = near.map(|near| format!(", did you mean {near}")).unwrap_or_default();
+        return Err(format!("there is no verb {first}{hint}; {all}"));
+    };
+    let rest = &arguments[1..];
+    if rest.iter().take_while(|argument| *argument != "--").any(|argument| argument == "--help" || argument == "-h") {
+        page.print(&verb_help(verb));
+        return Ok(());
+    }
+    let more = format!("; bin/sheet {} --help tells more", verb.name);
+    let call = Call::new(rest, &verb.all_choices()).map_err(|said| format!("{}: {said}{more}", verb.name))?;
+    let (least, most) = verb.files;
+    if call.files.len() < least || call.files.len() > most {
+        return Err(format!("{}: this needs {} behind it{more}", verb.name, verb.usage));
+    }
+    (verb.act)(&call, page).map_err(|said| format!("{}: {said}{more}", verb.name))
+}
+
+/// The command's help.
+fn help() -> String {
+    let mut help = "Rule sheets for people: as text, judged, checked and drawn. The verdicts come from the proved library.\n\n".to_string();
+    for verb in ALL {
+        help += &format!("  bin/sheet {:<19} {}\n", format!("{} {}", verb.name, verb.usage), verb.about);
+    }
+    help += "
+A file is a sheet as text (docs/TEXT.md) or as bytes (docs/FORMAT.md); - is standard input. A file that is
+empty, begins with a byte below 9 or holds a zero byte is taken as bytes; --bytes and --text overrule that.
+
+  bin/sheet judge examples/clock.txt
+
+bin/sheet VERB --help tells more about a verb. Exit status: 0 done, can be kept, accepted; 1 cannot be kept,
+not accepted; 2 a bad sheet, file or call; 3 no room.
+";
+    help
+}
+
+/// A verb's help.
+fn verb_help(verb: &Verb) -> String {
+    let mut help = format!("bin/sheet {} {}: {}\n\n{}\nOptions:\n", verb.name, verb.usage, verb.about, verb.help);
+    for choice in verb.all_choices() {
+        let name = choice.value.map_or(choice.name.to_string(), |value| format!("{} {value}", choice.name));
+        help += &format!("  {name:<22} {}\n", choice.about);
+    }
+    help
+}

@@ -1,0 +1,123 @@
+//! The proved library's calls. `include/naxxurbi.h` has the same declarations for C.
+//!
+//! None of the calls has a precondition, so the wrappers are safe as they stand.
+
+extern "C" {
+    fn naxxurbi_read(sheet: *const u8, sheet_len: usize) -> u32;
+    fn naxxurbi_check_run(sheet: *const u8, sheet_len: usize, states: *const u8, states_len: usize, a: u32) -> u32;
+    fn naxxurbi_check_strikes(
+        sheet: *const u8,
+        sheet_len: usize,
+        states: *const u8,
+        states_len: usize,
+        words: *const u8,
+        words_len: usize,
+    ) -> u32;
+    fn naxxurbi_judge(
+        sheet: *const u8,
+        sheet_len: usize,
+        table: *mut u32,
+        table_len: usize,
+        words: *mut u32,
+        words_len: usize,
+        scratch: *mut u32,
+        scratch_len: usize,
+        run: *mut u32,
+        run_len: usize,
+        out: *mut [u32; 4],
+    );
+}
+
+/// The most reachable states that the judge takes in.
+pub const MOST_STATES: usize = 16_384;
+
+/// The judge's four numbers.
+#[derive(Clone, Copy, Debug, PartialEq, Eq)]
+pub struct Numbers {
+    /// 0 to 13, as in document 01.
+    pub answer: u32,
+    /// The livable states of a sheet that can be kept, the reachable states of one that cannot.
+    pub count: u32,
+    /// The moment that the sample run goes back to.
+    pub a: u32,
+    /// The moments of the sample run.
+    pub b: u32,
+}
+
+/// What the judge answered and left in the lent slices.
+#[derive(Clone, Debug)]
+pub struct Judged {
+    /// The four numbers.
+    pub numbers: Numbers,
+    /// Livable states (answer 0) or struck states (answer 13): `count` of them.
+    pub table: Vec<u32>,
+    /// The strike list's words (answer 13), one for each struck state.
+    pub words: Vec<u32>,
+    /// The sample run (answer 0).
+    pub run: Vec<u32>,
+}
+
+/// Reads a sheet: 0 if it is good, else the number of its first fault.
+pub fn read(sheet: &[u8]) -> u32 {
+    // SAFETY: the call reads `sheet_len` bytes from the pointer and changes nothing.
+    unsafe { naxxurbi_read(sheet.as_ptr(), sheet.len()) }
+}
+
+/// Checks a run that goes back to moment `a`: 0 if it is accepted, 14 if not, 1 to 10 for a bad sheet.
+pub fn check_run(sheet: &[u8], states: &[u32], a: u32) -> u32 {
+    let states = bytes(states);
+    // SAFETY: the call reads as many bytes from each pointer as its length says, and changes nothing.
+    unsafe { naxxurbi_check_run(sheet.as_ptr(), sheet.len(), states.as_ptr(), states.len(), a) }
+}
+
+/// Checks a strike list: 0 if it is accepted, 14 if not, 1 to 10 for a bad sheet.
+pub fn check_strikes(sheet: &[u8], states: &[u32], words: &[u32]) -> u32 {
+    let (states, words) = (bytes(states), bytes(words));
+    // SAFETY: the call reads as many bytes from each pointer as its length says, and changes nothing.
+    unsafe { naxxurbi_check_strikes(sheet.as_ptr(), sheet.len(), states.as_ptr(), states.len(), words.as_ptr(), words.len()) }
+}
+
+/// Judges a sheet with all the room that there can be. A run that needs more room than was lent is asked for again.
+pub fn judge(sheet: &[u8]) -> Judged {
+    let (mut table, mut words, mut scratch) = (vec![0; MOST_STATES], vec![0; MOST_STATES], vec![0; 2 * MOST_STATES]);
+    let mut run = vec![0; MOST_STATES];
+    let mut numbers = judge_in(sheet, &mut table, &mut words, &mut scratch, &mut run);
+    if numbers.answer == 12 {
+        run = vec![0; numbers.b as usize];
+        numbers = judge_in(sheet, &mut table, &mut words, &mut scratch, &mut run);
+    }
+    let (count, b) = (numbers.count as usize, numbers.b as usize);
+    table.truncate(count);
+    words.truncate(if numbers.answer == 13 { count } else { 0 });
+    run.truncate(b);
+    Judged { numbers, table, words, run }
+}
+
+/// Judges a sheet in the slices lent.
+fn judge_in(sheet: &[u8], table: &mut [u32], words: &mut [u32], scratch: &mut [u32], run: &mut [u32]) -> Numbers {
+    let mut out = [u32::MAX; 4];
+    // SAFETY: the call reads `sheet_len` bytes, reads and writes as many numbers of each slice as its length says, and writes the four
+    // numbers; the slices do not overlap, for each is borrowed alone.
+    unsafe {
+        naxxurbi_judge(
+            sheet.as_ptr(),
+            sheet.len(),
+            table.as_mut_ptr(),
+            table.len(),
+            words.as_mut_ptr(),
+            words.len(),
+            scratch.as_mut_ptr(),
+            scratch.len(),
+            run.as_mut_ptr(),
+            run.len(),
+            &mut out,
+        );
+    }
+    let [answer, count, a, b] = out;
+    Numbers { answer, count, a, b }
+}
+
+/// Numbers as bytes, four to each, the highest first.
+fn bytes(numbers: &[u32]) -> Vec<u8> {
+    numbers.iter().flat_map(|number| number.to_be_bytes()).collect()
+}

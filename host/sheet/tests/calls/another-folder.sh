@@ -1,0 +1,1 @@
+cd examples && sheet judge clock.txt

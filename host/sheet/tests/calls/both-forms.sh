@@ -1,0 +1,1 @@
+sheet judge --bytes --text examples/clock.txt

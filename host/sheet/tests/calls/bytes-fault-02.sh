@@ -1,0 +1,1 @@
+printf '\2\0\10\1\0\0\0\0' | sheet judge --bytes -

@@ -1,0 +1,1 @@
+printf '\1\0\11\1\0\0\0\0' | sheet judge --bytes -

@@ -1,0 +1,1 @@
+sheet draw host/sheet/tests/sheets/no-room.txt

@@ -1,0 +1,1 @@
+cp examples/w01.txt "$scratch/--all"; cd "$scratch" && sheet judge -- --all

@@ -1,0 +1,1 @@
+sheet judge host/sheet/tests/sheets/no-room.txt examples/clock.txt examples/no-such-file.txt

@@ -1,0 +1,1 @@
+sheet judge --all host/sheet/tests/sheets/long-strikes.txt

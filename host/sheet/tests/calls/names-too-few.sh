@@ -1,0 +1,1 @@
+sheet read examples/clock.sheet --names motor,file

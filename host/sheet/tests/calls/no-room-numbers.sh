@@ -1,0 +1,1 @@
+sheet judge --numbers host/sheet/tests/sheets/no-room.txt

@@ -1,0 +1,1 @@
+sheet judge --paper - host/sheet/tests/sheets/no-room.txt

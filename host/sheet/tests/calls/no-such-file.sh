@@ -1,0 +1,1 @@
+sheet judge examples/no-such-file.txt

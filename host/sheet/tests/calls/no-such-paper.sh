@@ -1,0 +1,1 @@
+sheet check examples/clock.txt examples/no-such.paper

@@ -1,0 +1,1 @@
+sheet read --paper x examples/clock.txt

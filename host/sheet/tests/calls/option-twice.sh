@@ -1,0 +1,1 @@
+sheet judge --all --all examples/clock.txt

@@ -1,0 +1,1 @@
+sheet judge --all=yes examples/clock.txt

@@ -1,0 +1,1 @@
+sheet judge --all examples/mistake-1.txt | head -n 1

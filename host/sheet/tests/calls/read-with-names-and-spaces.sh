@@ -1,0 +1,1 @@
+sheet read --names="motor, file, summer, repeated" examples/clock.sheet

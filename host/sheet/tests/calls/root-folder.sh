@@ -1,0 +1,1 @@
+cd / && sheet judge --numbers "$OLDPWD/examples/clock.txt"

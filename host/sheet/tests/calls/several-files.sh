@@ -1,0 +1,1 @@
+sheet judge examples/clock-mended.txt examples/clock.txt

@@ -1,0 +1,1 @@
+sheet judge --bytes examples/clock.txt

@@ -1,0 +1,1 @@
+sheet draw host/sheet/tests/sheets/six-letters.txt

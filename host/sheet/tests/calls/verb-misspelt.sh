@@ -1,0 +1,1 @@
+sheet jugde examples/clock.txt

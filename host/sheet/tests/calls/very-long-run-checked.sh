@@ -1,0 +1,1 @@
+sheet judge --numbers host/sheet/tests/sheets/very-long-run.txt --paper "$scratch/long.paper" && wc -l <"$scratch/long.paper" && sheet check host/sheet/tests/sheets/very-long-run.txt "$scratch/long.paper"

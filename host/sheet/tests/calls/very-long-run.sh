@@ -1,0 +1,1 @@
+sheet judge host/sheet/tests/sheets/very-long-run.txt

@@ -1,0 +1,1 @@
+sheet judge host/sheet/tests/sheets/wide-strikes.txt
