@@ -10,9 +10,13 @@ use sheet::verbs::{Verb, ALL};
 use std::process::ExitCode;
 
 fn main() -> ExitCode {
-    let arguments: Vec<String> = std::env::args_os().skip(1).map(|argument| argument.to_string_lossy().into_owned()).collect();
     let mut page = Page::new();
-    if let Err(said) = answer(&arguments, &mut page) {
+    let arguments: Result<Vec<String>, _> = std::env::args_os().skip(1).map(|argument| argument.into_string()).collect();
+    let done = match arguments {
+        Ok(arguments) => answer(&arguments, &mut page),
+        Err(odd) => Err(format!("{} is no text (UTF-8), so it cannot be a verb, an option or a file here", odd.to_string_lossy())),
+    };
+    if let Err(said) = done {
         page.say(&format!("sheet: {said}\n"));
         page.raise(BAD);
     }

@@ -73,46 +73,56 @@ fn letters(mut line: Line<'_>) -> Result<Vec<String>, Fault> {
 
 /// Takes in one record; how many bytes it has.
 fn read_record(line: &mut Line<'_>, sheet: &mut Sheet, letters_line: usize) -> Result<usize, Fault> {
-    match line.peek() {
+    match line.take() {
         Some("limit") => {
-            room(line, sheet.limits.len(), MOST_LIMITS.into(), "limit")?;
             let limit = limit(line, &sheet.names)?;
             let bytes = 3 + limit.list.len();
             sheet.limits.push(limit);
+            fits(line, sheet.limits.len(), MOST_LIMITS.into(), "limit")?;
             Ok(bytes)
         }
         Some("first") => {
-            room(line, sheet.first.len(), MOST_RULES, "first rule")?;
             let rule = list(line, &sheet.names, &OR)?;
             let bytes = 1 + rule.len();
             sheet.first.push(rule);
+            fits(line, sheet.first.len(), MOST_RULES, "first rule")?;
             Ok(bytes)
         }
         Some("step") => {
-            room(line, sheet.steps.len(), MOST_RULES, "step rule")?;
             let step = step(line, &sheet.names)?;
             let bytes = 2 + step.left.len() + step.right.len();
             sheet.steps.push(step);
+            fits(line, sheet.steps.len(), MOST_RULES, "step rule")?;
             Ok(bytes)
         }
         Some("promise") => {
-            room(line, sheet.promises.len(), MOST_PROMISES.into(), "promise")?;
-            sheet.promises.push(literal(line, &sheet.names)?);
-            line.end("the line's end: a promise is one letter, or `not` and one letter")?;
+            sheet.promises.push(promise(line, &sheet.names)?);
+            fits(line, sheet.promises.len(), MOST_PROMISES.into(), "promise")?;
             Ok(2)
         }
-        Some("letters") => Err(line.fault(format!("the letters are named in line {letters_line}")).expected("all names in that line")),
-        _ => Err(line.unexpected("a line that begins with `limit`, `first`, `step` or `promise`").hint(line.meant(BEGINNINGS))),
+        Some("letters") => {
+            Err(line.from_start().fault(format!("the letters are named in line {letters_line}")).expected("all names in that line"))
+        }
+        _ => {
+            let line = line.from_start();
+            Err(line.unexpected("a line that begins with `limit`, `first`, `step` or `promise`").hint(line.meant(BEGINNINGS)))
+        }
     }
 }
 
-/// Passes the line's first word if there is room for one more of its kind.
-fn room(line: &mut Line<'_>, there: usize, most: usize, what: &str) -> Result<(), Fault> {
-    if there == most {
-        return Err(line.fault(format!("this is {what} {}", there + 1)).expected(format!("at most {most} {what}s")));
+/// The fault of one record too many of its kind.
+fn fits(line: &Line<'_>, count: usize, most: usize, what: &str) -> Result<(), Fault> {
+    if count <= most {
+        return Ok(());
     }
-    line.take();
-    Ok(())
+    Err(line.from_start().fault(format!("this is {what} {count}")).expected(format!("at most {most} {what}s")))
+}
+
+/// One literal and the line's end.
+fn promise(line: &mut Line<'_>, names: &[String]) -> Result<Literal, Fault> {
+    let promise = literal(line, names)?;
+    line.end("the line's end: a promise is one letter, or `not` and one letter")?;
+    Ok(promise)
 }
 
 /// `exactly M of LIST` or `at most M of LIST`.
