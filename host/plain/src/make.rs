@@ -688,7 +688,11 @@ pub fn loosened_counter(rng: &mut Rng, letters: u8) -> Draft {
     }
     let literal = |rng: &mut Rng| {
         let letter = rng.within(1, letters as usize) as i8;
-        if rng.below(2) == 0 { letter } else { -letter }
+        if rng.below(2) == 0 {
+            letter
+        } else {
+            -letter
+        }
     };
     for _ in 0..rng.below(4) {
         let promised = literal(rng);
