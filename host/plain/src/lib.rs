@@ -12,6 +12,7 @@
 //! | [`check`] | the checkers of runs and of strike lists                         |
 //! | [`brute`] | everything a second time, naively, for at most five letters      |
 //! | [`make`]  | sheets for tests and benchmarks, good and damaged                |
+//! | [`families`]| sheets as people write them, in several orders of letters   |
 //! | [`named`] | the workshop wall's sheets and the guide's                       |
 //! | [`source`]| the case studies and experiments of source document 000          |
 
@@ -21,6 +22,7 @@
 
 pub mod brute;
 pub mod check;
+pub mod families;
 mod graph;
 mod hash;
 pub mod judge;

@@ -643,7 +643,7 @@ pub fn free(letters: u8) -> Draft {
 /// Step rules that add one to the number made up of letters `low` to `high`,
 /// `low` being worth least. A letter turns over exactly when all below it hold.
 /// Each rule's left side begins with `when`, its right side with `unless`.
-fn add_one(draft: &mut Draft, low: i8, high: i8, when: &[i8], unless: &[i8]) {
+pub(crate) fn add_one(draft: &mut Draft, low: i8, high: i8, when: &[i8], unless: &[i8]) {
     let mut rule = |left: &[i8], right: i8| {
         draft.step([when, left].concat(), [unless, &[right]].concat());
     };

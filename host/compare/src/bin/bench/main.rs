@@ -4,17 +4,18 @@
 //! beside it. `bench only TEXT` measures the rows whose name has that text.
 //!
 //! Each row is measured in turns, ours and the plain one, and the least of several turns is taken: other work on the machine only ever adds
-//! time. Sheets are always the same.
+//! time. A row that takes long is measured once. Sheets are always the same.
 
 #![deny(warnings)]
 
 mod checking;
 mod judging;
+mod orders;
 mod plot;
 mod reading;
 
 use std::hint::black_box;
-use std::time::{Duration, Instant};
+use std::time::Instant;
 
 /// A row: what was measured, what is worth knowing of it, and the least times of one call.
 pub struct Row {
@@ -26,6 +27,8 @@ pub struct Row {
     pub ours: f64,
     /// The plain Rust time, in nanoseconds.
     pub plain: f64,
+    /// For a sheet that is measured in several orders of its letters, the family.
+    pub family: Option<String>,
 }
 
 /// A table: its title, the heads of the columns between the name and the times, and its rows.
@@ -62,12 +65,31 @@ fn calls(nanoseconds: f64) -> u32 {
     (1e6 / nanoseconds.max(20.0)).clamp(1.0, 50_000.0) as u32
 }
 
-/// The least times of one call of each, taken in a hundred turns, or fewer where they take long.
-pub fn measure<T>(name: String, facts: Vec<String>, mut ours: impl FnMut() -> T, mut plain: impl FnMut() -> T) -> Row {
+/// What a call gives, and how long it took, in nanoseconds.
+fn timed<T>(call: impl FnOnce() -> T) -> (T, f64) {
     let start = Instant::now();
-    let mut row = Row { name, facts, ours: turn(1, &mut ours), plain: turn(1, &mut plain) };
+    let given = call();
+    (given, start.elapsed().as_nanos() as f64)
+}
+
+/// How long a row is measured at most, in nanoseconds: no turn begins later.
+pub const LONG: f64 = 4e9;
+
+/// The same where there are many rows alike.
+pub const SHORT: f64 = 1e9;
+
+/// The least times of one call of each, taken in a hundred turns, or fewer where they take long. In the first turn, of one call each, both
+/// must give the same.
+pub fn measure<T>(name: String, facts: Vec<String>, most: f64, mut ours: impl FnMut() -> T, mut plain: impl FnMut() -> T) -> Row
+where
+    T: PartialEq + std::fmt::Debug,
+{
+    let start = Instant::now();
+    let ((given, our_time), (other, plain_time)) = (timed(&mut ours), timed(&mut plain));
+    assert_eq!(given, other, "{name}");
+    let mut row = Row { name, facts, ours: our_time, plain: plain_time, family: None };
     for _ in 0..100 {
-        if start.elapsed() > Duration::from_secs(4) {
+        if start.elapsed().as_nanos() as f64 > most {
             break;
         }
         row.ours = row.ours.min(turn(calls(row.ours), &mut ours));
@@ -97,6 +119,7 @@ fn markdown(table: &Table) -> String {
         let ratio = row.ours / row.plain;
         lines.push(format!("| {} |{facts} {} | {} | {ratio:.2} |", row.name, time(row.ours), time(row.plain)));
     }
+    lines.extend(orders::spread(&table.rows));
     lines.join("\n") + "\n"
 }
 
@@ -125,6 +148,7 @@ fn main() -> std::io::Result<()> {
     let mut tables = vec![reading::table(&only)];
     tables.extend(checking::tables(&only));
     tables.extend(judging::tables(&only));
+    tables.extend(orders::tables(&only));
     tables.retain(|table| !table.rows.is_empty());
     let text: String = tables.iter().map(markdown).collect::<Vec<_>>().join("\n");
     println!("{text}");
