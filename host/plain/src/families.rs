@@ -6,31 +6,58 @@
 //! walks in vain unless it sees what is forced. The numbers of the letters say
 //! nothing, so each sheet comes in four orders and should cost the same in all.
 
-use crate::make::{add_one, counter, late_clash, Draft, Family, Rng};
-use crate::sheet;
+use crate::make::{add_one, counter, late_clash, literal, random_draft, Draft, Family, Rng};
+use crate::sheet::{self, Limit};
 use crate::source::{always, football, Team};
 
 // ---------------------------------------------------------------------------
 // Orders of the letters
 
-/// The same rules with other numbers: letter k becomes `numbers[k - 1]`. The
-/// lists are put in order again. Nothing for a bad sheet.
+impl Draft {
+    /// The same rules with other numbers: letter k becomes `numbers[k - 1]`.
+    pub fn renamed(&self, numbers: &[i8]) -> Draft {
+        let other = |literal: i8| {
+            let number = numbers[usize::from(literal.unsigned_abs()) - 1];
+            number * literal.signum()
+        };
+        let others = |list: &[i8]| list.iter().map(|&literal| other(literal)).collect::<Vec<_>>();
+        Draft {
+            letters: self.letters,
+            limits: self
+                .limits
+                .iter()
+                .map(|(exactly, bound, list)| (*exactly, *bound, others(list)))
+                .collect(),
+            first: self.first.iter().map(|list| others(list)).collect(),
+            steps: self.steps.iter().map(|(l, r)| (others(l), others(r))).collect(),
+            promises: others(&self.promises),
+        }
+    }
+
+    /// What a good sheet says; nothing for a bad one.
+    pub fn of(sheet: &[u8]) -> Option<Draft> {
+        let sheet = sheet::read(sheet).ok()?;
+        let limit = |limit: Limit<'_>| (limit.exactly, limit.bound, limit.literals.to_vec());
+        Some(Draft {
+            letters: sheet.letters() as u8,
+            limits: sheet.limits().map(limit).collect(),
+            first: sheet.first_rules().map(<[i8]>::to_vec).collect(),
+            steps: sheet.step_rules().map(|s| (s.left.to_vec(), s.right.to_vec())).collect(),
+            promises: sheet.promises().to_vec(),
+        })
+    }
+}
+
+/// A good sheet's bytes with other numbers for its letters, the lists in order
+/// again; nothing for a bad sheet.
 pub fn renamed(sheet: &[u8], numbers: &[i8]) -> Option<Vec<u8>> {
-    let sheet = sheet::read(sheet).ok()?;
-    let other = |&literal: &i8| numbers[usize::from(literal.unsigned_abs()) - 1] * literal.signum();
-    let others = |list: &[i8]| list.iter().map(other).collect::<Vec<i8>>();
-    let mut draft = Draft::new(sheet.letters() as u8);
-    for limit in sheet.limits() {
-        draft.limits.push((limit.exactly, limit.bound, others(limit.literals)));
-    }
-    for list in sheet.first_rules() {
-        draft.first(others(list));
-    }
-    for step in sheet.step_rules() {
-        draft.step(others(step.left), others(step.right));
-    }
-    draft.promises = others(sheet.promises());
-    Some(draft.bytes())
+    Some(Draft::of(sheet)?.renamed(numbers).bytes())
+}
+
+/// A state with other numbers for its letters.
+pub fn renamed_state(state: u32, numbers: &[i8]) -> u32 {
+    let bit = |(letter, &number): (usize, &i8)| (state >> letter & 1) << (number - 1);
+    numbers.iter().enumerate().map(bit).sum()
 }
 
 /// Some order of so many letters.
@@ -45,16 +72,20 @@ pub fn any_order(rng: &mut Rng, letters: u8) -> Vec<i8> {
 /// The orders in which each family is measured.
 pub const ORDERS: [&str; 4] = ["as written", "reversed", "order 1", "order 2"];
 
-/// A good sheet in each of the [`ORDERS`]: as it is, with the letters' numbers
+/// The numbers of so many letters in each of the [`ORDERS`]: as they are,
 /// reversed, and in two random orders that are always the same.
-pub fn in_orders(sheet: &[u8]) -> Option<[Vec<u8>; 4]> {
-    let letters = sheet::read(sheet).ok()?.letters() as u8;
-    let reversed: Vec<i8> = (1..=letters as i8).rev().collect();
+pub fn orders(letters: u8) -> [Vec<i8>; 4] {
+    let written: Vec<i8> = (1..=letters as i8).collect();
+    let reversed = written.iter().rev().copied().collect();
     let mut rng = Rng::new(12);
     let [one, two] = [0, 1].map(|_| any_order(&mut rng, letters));
-    let sheets = [renamed(sheet, &reversed)?, renamed(sheet, &one)?, renamed(sheet, &two)?];
-    let [reversed, one, two] = sheets;
-    Some([sheet.to_vec(), reversed, one, two])
+    [written, reversed, one, two]
+}
+
+/// A good sheet in each of the [`ORDERS`]; nothing for a bad one.
+pub fn in_orders(sheet: &[u8]) -> Option<[Vec<u8>; 4]> {
+    let draft = Draft::of(sheet)?;
+    Some(orders(draft.letters).map(|numbers| draft.renamed(&numbers).bytes()))
 }
 
 // ---------------------------------------------------------------------------
@@ -266,6 +297,84 @@ pub fn odd_clash(letters: u8, limits: u8, rules: u8) -> Draft {
         draft.first([-high, 1, 2]);
     }
     draft
+}
+
+// ---------------------------------------------------------------------------
+// Random ones
+
+/// The most letters whose rules are drawn; the others say something of them.
+const OWN_LETTERS: usize = 5;
+
+/// A random sheet as people write them: rules about a few letters, and helper
+/// letters that say something of these and of each other. It has few reachable
+/// states, however many letters. Mostly the letters are in no order; now and
+/// then some rules are at odds over two letters.
+pub fn written(rng: &mut Rng, letters: u8) -> Draft {
+    let own = rng.within(1, OWN_LETTERS.min(letters.into())) as u8;
+    let mut draft = random_draft(rng, own);
+    draft.letters = letters;
+    for helper in own as i8 + 1..=letters as i8 {
+        add_helper(rng, &mut draft, helper);
+    }
+    for _ in 0..rng.below(3) {
+        draft.promise(literal(rng, letters));
+    }
+    if rng.once_in(6) && letters > 1 {
+        add_clash(rng, &mut draft);
+    }
+    draft.limits.truncate(sheet::MOST_LIMITS.into());
+    draft.promises.truncate(sheet::MOST_PROMISES.into());
+    if rng.once_in(4) {
+        return draft;
+    }
+    let numbers = any_order(rng, letters);
+    draft.renamed(&numbers)
+}
+
+/// A rule or two for a letter above all those that have rules: it says
+/// something of two of them, or of the moment before, or it is free.
+fn add_helper(rng: &mut Rng, draft: &mut Draft, helper: i8) {
+    let below = helper as u8 - 1;
+    let pair = [literal(rng, below), literal(rng, below)];
+    // Each of these takes at most four rules of either kind.
+    let full = draft.steps.len().max(draft.first.len()) > 250;
+    match rng.below(if full { 2 } else { 12 }) {
+        // The opposite, by a limit; or the same.
+        0 => drop(draft.exactly(1, [pair[0], helper])),
+        1 => drop(draft.exactly(1, [pair[0], -helper])),
+        2..=4 => both(draft, helper, pair),
+        5 | 6 => both(draft, -helper, pair),
+        7 | 8 => one_of_two(draft, helper, pair),
+        // What was true the moment before.
+        9 => drop(draft.step([pair[0]], [helper]).step([-pair[0]], [-helper]).first([-helper])),
+        // What has been true.
+        10 => {
+            always(draft, &[-pair[0], helper]);
+            draft.step([helper], [helper]).step([-helper], [-helper, pair[0]]);
+            draft.first([-helper, pair[0]]);
+        }
+        // Mostly settled after all.
+        _ => drop(draft.first([helper]).step([], [if rng.once_in(4) { -helper } else { helper }])),
+    }
+}
+
+/// Rules at odds over two letters: first rules, limits, or step rules that ask
+/// for them after some states.
+fn add_clash(rng: &mut Rng, draft: &mut Draft) {
+    let one = rng.within(1, draft.letters as usize - 1) as i8;
+    let two = one + 1;
+    let clauses = [[one, two], [one, -two], [-one, two], [-one, -two]];
+    match rng.below(4) {
+        0 if draft.first.len() < 252 => draft.first.extend(clauses.map(Vec::from)),
+        1 if draft.limits.len() < 31 => {
+            draft.exactly(1, [one, two]).exactly(1, [one, -two]);
+        }
+        _ if draft.steps.len() < 252 => {
+            let left = literal(rng, draft.letters);
+            draft.steps.extend(clauses.map(|right| (vec![left], Vec::from(right))));
+        }
+        _ => {}
+    }
 }
 
 /// The families that are measured in four orders.

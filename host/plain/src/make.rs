@@ -147,7 +147,7 @@ fn in_order(list: &[i8]) -> Vec<u8> {
 // Random sheets
 
 /// A literal of one of the letters.
-fn literal(rng: &mut Rng, letters: u8) -> i8 {
+pub(crate) fn literal(rng: &mut Rng, letters: u8) -> i8 {
     let letter = rng.within(1, letters.into()) as i8;
     if rng.once_in(2) {
         letter
