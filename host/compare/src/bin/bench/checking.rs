@@ -8,6 +8,7 @@ use plain::make::{counter, counter_to_dead_end, dense, falling_promises, free, l
 use plain::source::{football, Team};
 use std::collections::BTreeSet;
 use std::hint::black_box;
+use std::time::Duration;
 
 /// The judge's paper: a run's states and its a, or a strike list's states and words.
 struct Paper {
@@ -105,14 +106,14 @@ fn lists(only: &Only) -> Table {
 }
 
 /// A strike list that is right: the sheet, the states and the words.
-fn list(name: String, facts: Vec<String>, most: f64, [sheet, states, words]: [&[u8]; 3]) -> Row {
+fn list(name: String, facts: Vec<String>, most: Duration, [sheet, states, words]: [&[u8]; 3]) -> Row {
     assert_eq!(check_strikes_bytes(sheet, states, words), 0, "{name}");
     let ours = || check_strikes(black_box(sheet), states, words);
     measure(name, facts, most, ours, || check_strikes_bytes(black_box(sheet), states, words))
 }
 
 /// The judge's own strike list of a sheet; how many states it has, and how many nodes the plain checker visits.
-pub fn own_list(name: String, most: f64, sheet: &[u8]) -> Row {
+pub fn own_list(name: String, most: Duration, sheet: &[u8]) -> Row {
     let Paper { sheet, states, words, nodes, .. } = paper(sheet.to_vec());
     list(name, vec![(states.len() / 4).to_string(), nodes.to_string()], most, [&sheet, &states, &words])
 }

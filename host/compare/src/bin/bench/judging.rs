@@ -5,6 +5,7 @@ use plain::judge::{explored, Answer};
 use plain::make::{self, Draft, Family};
 use plain::source;
 use std::hint::black_box;
+use std::time::Duration;
 
 /// The most states the judge has room for, and the most moments that a sample run of them can have.
 const STATES: usize = 16_384;
@@ -40,14 +41,14 @@ pub fn tables(only: &Only) -> Vec<Table> {
 }
 
 /// Judged with exactly as much room as is needed, so that wiping unused places is no part of it.
-pub fn row(family: &Family, most: f64) -> Row {
+pub fn row(family: &Family, most: Duration) -> Row {
     let found = explored(&family.sheet, STATES).expect("a good sheet");
     let states = found.states.map_or(format!("over {STATES}"), |states| states.to_string());
     judged(family, found.states.unwrap_or(STATES), most, |answer| vec![states, answer, found.nodes.to_string()])
 }
 
 /// Judged by both with so much room; the facts depend on the answer. Both must leave the same in the slices.
-fn judged(family: &Family, room: usize, most: f64, facts: impl FnOnce(String) -> Vec<String>) -> Row {
+fn judged(family: &Family, room: usize, most: Duration, facts: impl FnOnce(String) -> Vec<String>) -> Row {
     let Family { name, sheet } = family;
     let (mut table, mut words, mut scratch) = (vec![7; room], vec![7; room], vec![7; 2 * room]);
     let mut run = vec![7; MOMENTS];

@@ -3,19 +3,20 @@
 //! `bench` prints the tables. `bench docs FOLDER` also writes them into that folder's BENCHMARK.md, between its two marks, and the plot
 //! beside it. `bench only TEXT` measures the rows whose name has that text.
 //!
-//! Each row is measured in turns, ours and the plain one, and the least of several turns is taken: other work on the machine only ever adds
-//! time. A row that takes long is measured once. Sheets are always the same.
+//! Each row is measured in turns, ours and the plain one, in processor time, and the least of several turns is taken: other work on the
+//! machine only ever adds time. A row that takes long is measured once. Sheets are always the same.
 
 #![deny(warnings)]
 
 mod checking;
+mod clock;
 mod judging;
 mod orders;
 mod plot;
 mod reading;
 
 use std::hint::black_box;
-use std::time::Instant;
+use std::time::{Duration, Instant};
 
 /// A row: what was measured, what is worth knowing of it, and the least times of one call.
 pub struct Row {
@@ -53,11 +54,11 @@ impl Only {
 
 /// The time of so many calls, divided by their number, in nanoseconds.
 fn turn<T>(calls: u32, call: &mut impl FnMut() -> T) -> f64 {
-    let start = Instant::now();
+    let start = clock::now();
     for _ in 0..calls {
         black_box(call());
     }
-    start.elapsed().as_nanos() as f64 / f64::from(calls)
+    (clock::now() - start) / f64::from(calls)
 }
 
 /// How many calls make a turn of about a millisecond: short enough to fall between other work on the machine now and then.
@@ -67,20 +68,20 @@ fn calls(nanoseconds: f64) -> u32 {
 
 /// What a call gives, and how long it took, in nanoseconds.
 fn timed<T>(call: impl FnOnce() -> T) -> (T, f64) {
-    let start = Instant::now();
+    let start = clock::now();
     let given = call();
-    (given, start.elapsed().as_nanos() as f64)
+    (given, clock::now() - start)
 }
 
-/// How long a row is measured at most, in nanoseconds: no turn begins later.
-pub const LONG: f64 = 4e9;
+/// How long a row is measured at most: no turn begins later.
+pub const LONG: Duration = Duration::from_secs(4);
 
 /// The same where there are many rows alike.
-pub const SHORT: f64 = 1e9;
+pub const SHORT: Duration = Duration::from_secs(1);
 
 /// The least times of one call of each, taken in a hundred turns, or fewer where they take long. In the first turn, of one call each, both
 /// must give the same.
-pub fn measure<T>(name: String, facts: Vec<String>, most: f64, mut ours: impl FnMut() -> T, mut plain: impl FnMut() -> T) -> Row
+pub fn measure<T>(name: String, facts: Vec<String>, most: Duration, mut ours: impl FnMut() -> T, mut plain: impl FnMut() -> T) -> Row
 where
     T: PartialEq + std::fmt::Debug,
 {
@@ -89,7 +90,7 @@ where
     assert_eq!(given, other, "{name}");
     let mut row = Row { name, facts, ours: our_time, plain: plain_time, family: None };
     for _ in 0..100 {
-        if start.elapsed().as_nanos() as f64 > most {
+        if start.elapsed() > most {
             break;
         }
         row.ours = row.ours.min(turn(calls(row.ours), &mut ours));
