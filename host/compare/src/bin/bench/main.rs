@@ -124,6 +124,13 @@ fn markdown(table: &Table) -> String {
     lines.join("\n") + "\n"
 }
 
+/// The processor's name, where the system says it.
+fn processor() -> String {
+    let lines = std::fs::read_to_string("/proc/cpuinfo").unwrap_or_default();
+    let name = lines.lines().find_map(|line| line.strip_prefix("model name")?.split_once(": "));
+    name.map_or("an unnamed processor", |(_, name)| name).to_string()
+}
+
 const BEGIN: &str = "<!-- measured: begin -->";
 const END: &str = "<!-- measured: end -->";
 
@@ -151,7 +158,9 @@ fn main() -> std::io::Result<()> {
     tables.extend(judging::tables(&only));
     tables.extend(orders::tables(&only));
     tables.retain(|table| !table.rows.is_empty());
-    let text: String = tables.iter().map(markdown).collect::<Vec<_>>().join("\n");
+    let mut parts = vec![format!("Measured on: {}.\n", processor())];
+    parts.extend(tables.iter().map(markdown));
+    let text = parts.join("\n");
     println!("{text}");
     folder.map_or(Ok(()), |folder| write(folder, &tables, &text))
 }
