@@ -79,6 +79,9 @@ pub const LONG: Duration = Duration::from_secs(4);
 /// The same where there are many rows alike.
 pub const SHORT: Duration = Duration::from_secs(1);
 
+/// A time in nanoseconds so short that ten turns can always be had.
+const QUICK: f64 = 1e7;
+
 /// The least times of one call of each, taken in a hundred turns, or fewer where they take long. In the first turn, of one call each, both
 /// must give the same.
 pub fn measure<T>(name: String, facts: Vec<String>, most: Duration, mut ours: impl FnMut() -> T, mut plain: impl FnMut() -> T) -> Row
@@ -89,12 +92,18 @@ where
     let ((given, our_time), (other, plain_time)) = (timed(&mut ours), timed(&mut plain));
     assert_eq!(given, other, "{name}");
     let mut row = Row { name, facts, ours: our_time, plain: plain_time, family: None };
-    for _ in 0..100 {
-        if start.elapsed() > most {
+    for number in 0..100 {
+        let late = start.elapsed() > most;
+        if late && number >= 10 {
             break;
         }
-        row.ours = row.ours.min(turn(calls(row.ours), &mut ours));
-        row.plain = row.plain.min(turn(calls(row.plain), &mut plain));
+        // Of one that takes long and one that does not, the latter has some turns more.
+        if !late || row.ours < QUICK {
+            row.ours = row.ours.min(turn(calls(row.ours), &mut ours));
+        }
+        if !late || row.plain < QUICK {
+            row.plain = row.plain.min(turn(calls(row.plain), &mut plain));
+        }
     }
     eprintln!("{}: {} against {}", row.name, time(row.ours), time(row.plain));
     row
