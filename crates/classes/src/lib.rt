@@ -11,6 +11,10 @@ pub const MANY: usize = 2048;
 
 pub const FEW: usize = 512;
 
+// How lucky a search is at first, and after each find: a miss halves it. After 62 misses on end only each eighth state is looked for, until
+// one is found, so that a sheet whose states are all of different classes pays little for their signatures.
+pub const LUCKY: usize = 4611686018427387904;
+
 // Signatures are below this prime number; 40503 is odd and spreads them.
 const SIGNATURES: usize = 65521;
 
@@ -35,11 +39,20 @@ fn signature(book: &[u32], s: u32) -> usize
     sign
 }
 
-// The place that was given last for a state which is likely of the class of s, 0 where there was none. From now on it is i.
-pub fn likely(book: &[u32], s: u32, i: usize, places: &mut [u16]) -> usize
+// Whether the state at place i is looked for.
+fn worth(luck: usize, i: usize) -> bool {
+    if luck == 0 { i % 8 == 0 } else { true }
+}
+
+// The place that was given last for a state which is likely of the class of s, 0 where there was none. From now on it is i. Where it is not
+// worth looking, i itself.
+pub fn likely(book: &[u32], s: u32, i: usize, luck: usize, places: &mut [u16]) -> usize
     requires { ⌜ Shaped (now book) × (0 < length (now places)) × (length (now places) ≤ 65536) ⌝ }
     ensures { λ _. ⌜ length (now (places .exit)) ≡ length (now (places .entry)) ⌝ }
 {
+    if !worth(luck, i) {
+        return i;
+    }
     let slot = signature(book, s) % places.len();
     let place = places[slot] as usize;
     let given = i % 65536;

@@ -210,6 +210,7 @@ fn entries_right(book: &[u32], sb: &[u8], sn: &[u32], wb: &[u8], wn: &[u32], dis
     let mut near = 0;
     let mut far = 0;
     let mut earlier = [0u16; classes::FEW];
+    let mut luck = classes::LUCKY;
     let mut last = 0;
     let mut i = 0;
     while i < states {
@@ -220,14 +221,16 @@ fn entries_right(book: &[u32], sb: &[u8], sn: &[u32], wb: &[u8], wn: &[u32], dis
         near = reach(wb, wn, near, limit);
         far = reach(wb, wn, far, limit + 1);
         let m = places(reason, near, far);
-        let likely = classes::likely(book, s, i, &mut earlier);
+        let likely = classes::likely(book, s, i, luck, &mut earlier);
         let known = follows(book, sb, sn, i, likely, last);
         if !entry_right(book, s, reason, sb, sn, m, distinct, known) {
             return false;
         }
         if known {
+            luck = classes::LUCKY;
             i += 1;
         } else {
+            luck = luck / 2;
             last = i;
             i += 1;
         }

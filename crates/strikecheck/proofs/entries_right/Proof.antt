@@ -17,11 +17,11 @@ use Rattle.strikecheck.proofs.entries_right.Statement.{statement}
 use Rattle.strikecheck.proofs.entries_right.Tie as tie
 
 abbrev Inv-loop : tie.InvT-loop
-Inv-loop book sb sn wb wn distinct states near₀ far₀ earlier₀ last₀ i₀ near far earlier last i =
+Inv-loop book sb sn wb wn distinct states near₀ far₀ earlier₀ luck₀ last₀ i₀ near far earlier luck last i =
     Entered (bookSystem book) (paper sb sn) (paper wb wn) states i near far × (length earlier ≡ fewPlaces)
 
 abbrev μ-loop : tie.MeasureT-loop
-μ-loop book sb sn wb wn distinct states near₀ far₀ earlier₀ last₀ i₀ near far earlier last i = states - i
+μ-loop book sb sn wb wn distinct states near₀ far₀ earlier₀ luck₀ last₀ i₀ near far earlier luck last i = states - i
 
 count-of-requires : tie.Need-count-of-requires Inv-loop μ-loop
 count-of-requires c κs = search needs

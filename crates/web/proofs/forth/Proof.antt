@@ -13,12 +13,12 @@ use Rattle.web.proofs.forth.Statement.{statement}
 use Rattle.web.proofs.forth.Tie as tie
 
 abbrev Inv-loop : tie.InvT-loop
-Inv-loop book table r starts₀ ends₀ cells₀ room₀ places₀ at₀ i₀ starts ends cells room places at i =
+Inv-loop book table r starts₀ ends₀ cells₀ room₀ places₀ luck₀ at₀ i₀ starts ends cells room places luck at i =
     (i ≤ r) × (at ≤ length cells) × Stored book table r i at starts ends cells × AsLong starts₀ ends₀ cells₀ starts ends cells
     × (length room ≡ listSize) × (length places ≡ manyPlaces)
 
 abbrev μ-loop : tie.MeasureT-loop
-μ-loop book table r starts₀ ends₀ cells₀ room₀ places₀ at₀ i₀ starts ends cells room places at i = r - i
+μ-loop book table r starts₀ ends₀ cells₀ room₀ places₀ luck₀ at₀ i₀ starts ends cells room places luck at i = r - i
 
 loop-holds : tie.Need-loop-holds Inv-loop μ-loop
 loop-holds c = (omega arith, omega arith, stored-none _ _ _ _ _ _, record { starts-long = refl; ends-long = refl; cells-long = refl }, refl, refl)
