@@ -29,20 +29,20 @@ bit-none zero = refl
 bit-none (suc k) = bit-none k
 
 -- A bit of x or y is the larger of theirs.
-bit-or : (k x y : ℕ) → bit k (bitOr x y) ≡ max (bit k x) (bit k y)
+pub bit-or : (k x y : ℕ) → bit k (bitOr x y) ≡ max (bit k x) (bit k y)
 bit-or zero x y =
     let small : max (x % 2) (y % 2) < 2 = omega arith in
     ap (λ (n : ℕ). n % 2) (or-step x y) ∙ digits-mod (bitOr (x / 2) (y / 2)) small
 bit-or (suc k) x y = ap (bit k) (or-shr x y 1) ∙ bit-or k (x / 2) (y / 2)
 
-half-power : (a : ℕ) → 2 ^ suc a / 2 ≡ 2 ^ a
+pub half-power : (a : ℕ) → 2 ^ suc a / 2 ≡ 2 ^ a
 half-power a = ap (λ (n : ℕ). n / 2) (pow-suc 2 a) ∙ mul-div-cancel (2 ^ a) {n = 2} (omega arith)
 
-bit-own : (a : ℕ) → bit a (2 ^ a) ≡ 1
+pub bit-own : (a : ℕ) → bit a (2 ^ a) ≡ 1
 bit-own zero = refl
 bit-own (suc a) = ap (bit a) (half-power a) ∙ bit-own a
 
-bit-other : (j a : ℕ) → (j ≡ a → ⊥) → bit j (2 ^ a) ≡ 0
+pub bit-other : (j a : ℕ) → (j ≡ a → ⊥) → bit j (2 ^ a) ≡ 0
 bit-other zero zero n = absurd (n refl)
 bit-other zero (suc a) n = ap (λ (n : ℕ). n % 2) (pow-suc 2 a) ∙ mul-mod-left (2 ^ a) 2
 bit-other (suc j) zero n = bit-none j

@@ -11,7 +11,8 @@ use borrow.Author.Count.{below-more}
 use lib.ListN.{length, getD}
 use Rattle.meaning.specs.System.{System}
 use Rattle.meaning.specs.Papers.{Listed, EntryRight, StrikesAccepted}
-use Rattle.rules.specs.Book.{bookSystem}
+use Rattle.rules.specs.Book.{bookSystem, bookLawful}
+use Rattle.rules.specs.Freer.{Freer}
 use Rattle.rules.proofs.Facts.{lawful-true}
 use Rattle.rules.proofs.FreerLaws.{freer-moves}
 use Rattle.papers.specs.Paper.{Says}
@@ -131,29 +132,59 @@ module _ (S : System) (states words : List ℕ) (as-many : length words ≡ leng
 
 -- ---- what was shown for one state serves another
 
--- A state that was shown, if any was: it is lawful, and its next states are among the first `within`.
-pub record Shown (S : System) (states : List ℕ) (any : Bool) (wide within : ℕ) : Type 0 where
-  pub lawful : any ≡ true → S .Lawful wide
-  pub nexts : any ≡ true → NextsWithin S wide states within
-
-pub shown-none : {S : System} {states : List ℕ} {wide within : ℕ} → Shown S states false wide within
-shown-none = record { lawful = λ e. absurd (clash e refl); nexts = λ e. absurd (clash e refl) }
-
--- So the next states of a state that may move only where that one may are there too.
-pub shown-follows : {book states : List ℕ} {any : Bool} {wide within s m : ℕ} → Shown (bookSystem book) states any wide within
-    → Follows book any wide within s m → NextsWithin (bookSystem book) s states m
-shown-follows {book} {states} {any} {wide} {within} {s} {m} shown f t move =
-    let lawful = lawful-true book wide (shown .lawful (f .shown)) in
-    let a = shown .nexts (f .shown) t (freer-moves book wide s lawful (f .freer) t move) in
-    (a .0, omega (arith, a .1, f .no-more), a .2)
-
--- An entry that was counted for is the state shown from then on.
-pub shown-entry : {book states words : List ℕ} {distinct : Bool} → EntriesAsk book states words distinct → (i : ℕ) {s : ℕ} → i < length states
-    → s ≡ getD states i 0 → {m : ℕ} {any : Bool} → NextsWithin (bookSystem book) s states m → Shown (bookSystem book) states any s m
-shown-entry {book} asks i h s-is nexts = record {
-  lawful = λ e. subst (λ (x : ℕ). bookSystem book .Lawful x) (sym s-is) (asks .states-ask .lawful i h);
-  nexts = λ e. nexts;
+-- Entry k stands before entry i, and its state u may move wherever that one's state s may.
+pub follows-at : {book states : List ℕ} {i k u s : ℕ} → k < i → u ≡ getD states k 0 → s ≡ getD states i 0 → Freer book u s → Follows book states i
+follows-at {book} {states} {i} {k} {u} {s} h u-is s-is free = record {
+  place = k;
+  before = h;
+  freer = subst (λ (x : ℕ). Freer book x (getD states i 0)) u-is (subst (λ (x : ℕ). Freer book u x) s-is free);
 }
+
+-- Two words with one reason and another are two.
+other-reason : (v w k : ℕ) → w % 32 ≡ 0 → v % 32 ≡ suc k → v ≤ w → v < w
+other-reason v w k a b h = by (decLt v w)
+  where
+    by : Dec (v < w) → v < w
+    by (yes q) = q
+    by (no q) = let e : v ≡ w = omega arith in let f = ap (λ (x : ℕ). x % 32) e in absurd (omega arith)
+
+module _ (S : System) (states words : List ℕ) (as-many : length words ≡ length states) (rising : Rising words) where
+  -- What an earlier entry, whose word is v, shows of its next states holds at the places of a later one, whose word is w.
+  earlier-places : (reason′ reason v w s near far : ℕ) → reason′ ≡ v % 32 → reason ≡ w % 32 → v ≤ w → EntryRight S states words reason′ v s
+      → Reach words w near → Reach words (w + 1) far → NextsWithin S s states (placesOf reason near far)
+  earlier-places zero zero v w s near far a b h ok n f t move =
+      let (j, i, e, small) = ok t move in listed-among states words as-many rising n t (j, i, e, omega arith)
+  earlier-places zero (suc k) v w s near far a b h ok n f t move =
+      let (j, i, e, small) = ok t move in listed-among states words as-many rising f t (j, i, e, omega arith)
+  earlier-places (suc r) zero v w s near far a b h ok n f t move =
+      let (j, i, e, small) = ok .1 t move in
+      let less = other-reason v w r (sym b) (sym a) h in
+      listed-among states words as-many rising n t (j, i, e, omega arith)
+  earlier-places (suc r) (suc k) v w s near far a b h ok n f t move =
+      let (j, i, e, small) = ok .1 t move in listed-among states words as-many rising f t (j, i, e, omega arith)
+
+-- So the next states of a state that may move only where an earlier entry's may are there too, once that entry is right.
+pub follows-within : {book states words : List ℕ} {distinct : Bool} → EntriesAsk book states words distinct → {i s word m near far : ℕ}
+    → i < length states → s ≡ getD states i 0 → word ≡ getD words i 0 → Reach words word near → Reach words (word + 1) far
+    → m ≡ placesOf (word % 32) near far → ((j : ℕ) → j < i → EntryOk (bookSystem book) states words j) → Follows book states i
+    → NextsWithin (bookSystem book) s states m
+follows-within {book} {states} {words} asks {i} {s} {word} {m} {near} {far} h s-is word-is n f m-is right w t move =
+    subst (λ (k : ℕ). Among states k t) (sym m-is)
+    (earlier-places (bookSystem book) states words (asks .as-many) (asks .rising) (getD words k 0 % 32) (word % 32) (getD words k 0) word u near far
+    refl refl up (right k (w .before)) n f t
+    (freer-moves book u (getD states i 0) lawful (w .freer) t (subst (λ (x : ℕ). bookSystem book .Move x t) s-is move)))
+  where
+    k : ℕ
+    k = w .place
+
+    u : ℕ
+    u = getD states k 0
+
+    up : getD words k 0 ≤ word
+    up = omega (arith, later-no-smaller words (asks .rising) k i (omega (arith, w .before)) (omega (arith, asks .as-many)), word-is)
+
+    lawful : bookLawful book u ≡ true
+    lawful = lawful-true book u (asks .states-ask .lawful k (omega (arith, w .before)))
 
 -- What the next states are looked for in, that the entry's state is lawful, and that they are there if that is known.
 pub entry-asks : {book states words : List ℕ} {distinct : Bool} → EntriesAsk book states words distinct → {word near far m : ℕ} → Reach words word near

@@ -51,11 +51,11 @@ pub record Reach (words : List ℕ) (limit m : ℕ) : Type 0 where
   pub under : Under words limit m
   pub above : m < length words → limit ≤ getD words m 0
 
--- a state was shown whose next states are among the first `within`; it may move wherever s may, and the first m are no fewer
-pub record Follows (book : List ℕ) (any : Bool) (wide within s m : ℕ) : Type 0 where
-  pub shown : any ≡ true
-  pub no-more : within ≤ m
-  pub freer : Freer book wide s
+-- the state of an entry before entry i may move wherever that one's may
+pub record Follows (book states : List ℕ) (i : ℕ) : Type 0 where
+  pub place : ℕ
+  pub before : place < i
+  pub freer : Freer book (getD states place 0) (getD states i 0)
 
 -- a lawful state whose next states are looked for among the first m; `known` may be true only if they are there
 pub record EntryAsks (book : List ℕ) (s : ℕ) (states : List ℕ) (m : ℕ) (distinct known : Bool) : Type 0 where

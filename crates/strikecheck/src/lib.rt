@@ -5,8 +5,8 @@
 // (`check_strikes` and `check_strikes_bytes` below; that 0 leaves no obeying run is said in proofs/Exactly.antt.)
 //
 // It does not search, it counts: words never fall, so "listed with a smaller word" is "among the first m entries"; and all next states are
-// among them exactly if there are as many next states as different ones among these entries. A state that may move only where one that was
-// counted for may needs no count of its own.
+// among them exactly if there are as many next states as different ones among these entries. A state that may move only where one
+// of an earlier entry may needs no count of its own: that entry's next states are among no more than the first m.
 use covers::firsts_listed;
 use covers::nexts_within;
 use marks::mark;
@@ -16,6 +16,7 @@ use papers::number_at;
 ghost use mathlib.Core.Path.{_≡_};
 ghost use mathlib.Core.Bool.{true};
 ghost use Prim.Native.Nat.{_<_, min};
+ghost use lib.ListN.{length};
 ghost use Rattle.meaning.specs.Promises.{StrikesChecked, StrikesBytesChecked};
 ghost use Rattle.papers.specs.Paper.{paper, Says};
 ghost use Rattle.rules.specs.Book.{Shaped, bookSystem};
@@ -200,7 +201,7 @@ fn smaller(a: u64, b: u64) -> u64
 }
 
 // Whether every entry shows what it must. Of the words, the first `near` are smaller than the entry's, and the first `far` the same or
-// smaller; both only grow. `wide` is the state last counted for, if any was; its next states are among the first `within`.
+// smaller; both only grow. `last` is the entry last counted for; `likely` one whose state is likely of the same class.
 fn entries_right(book: &[u32], sb: &[u8], sn: &[u32], wb: &[u8], wn: &[u32], distinct: bool) -> bool
     requires { ⌜ EntriesAsk (now book) (paper (now sb) (now sn)) (paper (now wb) (now wn)) distinct ⌝ }
     ensures { λ r. ⌜ Says (AllRight (now (book .entry)) (now (sb .entry)) (now (sn .entry)) (now (wb .entry)) (now (wn .entry))) r ⌝ }
@@ -208,9 +209,9 @@ fn entries_right(book: &[u32], sb: &[u8], sn: &[u32], wb: &[u8], wn: &[u32], dis
     let states = count_of(sb, sn);
     let mut near = 0;
     let mut far = 0;
-    let mut any = false;
-    let mut wide = 0;
-    let mut within = 0;
+    let mut earlier = [0u16; classes::FEW];
+    let mut luck = classes::LUCKY;
+    let mut last = 0;
     let mut i = 0;
     while i < states {
         let s = number_at(sb, sn, i);
@@ -220,35 +221,46 @@ fn entries_right(book: &[u32], sb: &[u8], sn: &[u32], wb: &[u8], wn: &[u32], dis
         near = reach(wb, wn, near, limit);
         far = reach(wb, wn, far, limit + 1);
         let m = places(reason, near, far);
-        let known = follows(book, any, wide, within, s, m);
+        let likely = classes::likely(book, s, i, luck, &mut earlier);
+        let known = follows(book, sb, sn, i, likely, last);
         if !entry_right(book, s, reason, sb, sn, m, distinct, known) {
             return false;
         }
         if known {
+            luck = classes::LUCKY;
             i += 1;
         } else {
-            any = true;
-            wide = s;
-            within = m;
+            luck = luck / 2;
+            last = i;
             i += 1;
         }
     }
     true
 }
 
-// True only if the next states of s are among the first m because those of `wide` are among the first `within`: there is nothing to count.
-fn follows(book: &[u32], any: bool, wide: u32, within: usize, s: u32, m: usize) -> bool
-    requires { ⌜ Shaped (now book) ⌝ }
-    ensures { λ r. ⌜ (r ≡ true → Follows (now (book .entry)) any wide within s m) ⌝ }
+// True only if the state of entry `likely` or of entry `last` stands before entry i and may move wherever that one's may: if the earlier
+// entry is right, there is nothing to count.
+fn follows(book: &[u32], sb: &[u8], sn: &[u32], i: usize, likely: usize, last: usize) -> bool
+    requires { ⌜ Shaped (now book) × (i < length (paper (now sb) (now sn))) ⌝ }
+    ensures { λ r. ⌜ (r ≡ true → Follows (now (book .entry)) (paper (now (sb .entry)) (now (sn .entry))) i) ⌝ }
 {
-    if !any {
-        return false;
+    if shown_by(book, sb, sn, i, likely) {
+        return true;
     }
-    if within <= m {
-        rules::freer(book, wide, s)
-    } else {
-        false
+    shown_by(book, sb, sn, i, last)
+}
+
+// True only if entry k stands before entry i and its state may move wherever that one's may.
+fn shown_by(book: &[u32], sb: &[u8], sn: &[u32], i: usize, k: usize) -> bool
+    requires { ⌜ Shaped (now book) × (i < length (paper (now sb) (now sn))) ⌝ }
+    ensures { λ r. ⌜ (r ≡ true → Follows (now (book .entry)) (paper (now (sb .entry)) (now (sn .entry))) i) ⌝ }
+{
+    if k < i {
+        let wide = number_at(sb, sn, k);
+        let s = number_at(sb, sn, i);
+        return rules::freer(book, wide, s);
     }
+    false
 }
 
 // From m on, how many words at the front are below the limit.

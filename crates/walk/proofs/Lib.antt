@@ -1,6 +1,5 @@
-pub mod Masks
-pub mod Tests
 pub mod Found
-pub mod Prune
-pub mod Answers
-pub mod Halves
+pub mod Settling
+pub mod Reasons
+pub mod Counting
+pub mod Free

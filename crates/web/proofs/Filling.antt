@@ -7,8 +7,9 @@ use native.Mathlib.Decide.{ℕ-discrete}
 use native.Mathlib.Omega.{arith}
 use lib.ListN.{length, getD, set, length-set}
 use lib.Seq.{getD-set-same, getD-set-other}
-use Rattle.web.specs.Web.{Forth}
-use Rattle.web.specs.Storing.{Row, Nexts, Filled}
+use Rattle.rules.proofs.FreerLaws.{freer-moves}
+use Rattle.web.specs.Web.{Forth, Storable}
+use Rattle.web.specs.Storing.{Row, Nexts, SameMoves, Filled}
 
 -- ---- one row
 
@@ -141,43 +142,57 @@ module _ (book table : List ℕ) (r : ℕ) where
   pub stored-none : (starts ends cells : List ℕ) → Stored book table r 0 0 starts ends cells
   stored-none starts ends cells = record { below = λ k h. absurd (omega arith); rows = λ k h. absurd (omega arith) }
 
-  -- One row more is stored.
-  pub stored-more : (i at to : ℕ) (starts ends cells cells′ : List ℕ) → i < length starts → i < length ends → to ≤ length cells
-      → Stored book table r i at starts ends cells → Filled (Nexts book table r (getD table i 0)) at cells cells′ to
-      → Stored book table r (i + 1) to (set starts i at) (set ends i to) cells′
-  stored-more i at to starts ends cells cells′ in-starts in-ends room s f = record {
+  -- One row more, below at′, where the rows before it are kept.
+  stored-row : (i at at′ from to : ℕ) (starts ends cells cells′ : List ℕ) → i < length starts → i < length ends → at ≤ at′ → to ≤ at′
+      → ((e : ℕ) → e < at → getD cells′ e 0 ≡ getD cells e 0) → Stored book table r i at starts ends cells
+      → Row (Nexts book table r (getD table i 0)) from to cells′ → Stored book table r (i + 1) at′ (set starts i from) (set ends i to) cells′
+  stored-row i at at′ from to starts ends cells cells′ in-starts in-ends up room keeps s here = record {
     below = λ k h. low k h (ℕ-discrete k i);
     rows = λ k h. row k h (ℕ-discrete k i);
   }
     where
-      here : Row (Nexts book table r (getD table i 0)) at to cells′
-      here = f .row room
-
-      start : getD (set starts i at) i 0 ≡ at
-      start = getD-set-same starts i at 0 in-starts
+      start : getD (set starts i from) i 0 ≡ from
+      start = getD-set-same starts i from 0 in-starts
 
       end : getD (set ends i to) i 0 ≡ to
       end = getD-set-same ends i to 0 in-ends
 
-      low : (k : ℕ) → k < i + 1 → Dec (k ≡ i) → getD (set ends i to) k 0 ≤ to
-      low k h (yes q) = subst (λ (x : ℕ). getD (set ends i to) x 0 ≤ to) (sym q) (let a = end in omega arith)
+      low : (k : ℕ) → k < i + 1 → Dec (k ≡ i) → getD (set ends i to) k 0 ≤ at′
+      low k h (yes q) = subst (λ (x : ℕ). getD (set ends i to) x 0 ≤ at′) (sym q) (let a = end in omega arith)
       low k h (no q) =
           let a = getD-set-other ends i k to 0 q in
           let b = s .below k (omega arith) in
-          let d = here .forwards in
           omega arith
 
       RowOf : ℕ → ℕ → ℕ → Type 0
-      RowOf k from stop = Row (Nexts book table r (getD table k 0)) from stop cells′
+      RowOf k first stop = Row (Nexts book table r (getD table k 0)) first stop cells′
 
-      row : (k : ℕ) → k < i + 1 → Dec (k ≡ i) → RowOf k (getD (set starts i at) k 0) (getD (set ends i to) k 0)
+      row : (k : ℕ) → k < i + 1 → Dec (k ≡ i) → RowOf k (getD (set starts i from) k 0) (getD (set ends i to) k 0)
       row k h (yes q) =
-          subst (λ (x : ℕ). RowOf x (getD (set starts i at) x 0) (getD (set ends i to) x 0)) (sym q)
-          (subst (λ (x : ℕ). RowOf i x (getD (set ends i to) i 0)) (sym start) (subst (λ (x : ℕ). RowOf i at x) (sym end) here))
+          subst (λ (x : ℕ). RowOf x (getD (set starts i from) x 0) (getD (set ends i to) x 0)) (sym q)
+          (subst (λ (x : ℕ). RowOf i x (getD (set ends i to) i 0)) (sym start) (subst (λ (x : ℕ). RowOf i from x) (sym end) here))
       row k h (no q) =
-          subst (λ (x : ℕ). RowOf k x (getD (set ends i to) k 0)) (sym (getD-set-other starts i k at 0 q))
+          subst (λ (x : ℕ). RowOf k x (getD (set ends i to) k 0)) (sym (getD-set-other starts i k from 0 q))
           (subst (λ (x : ℕ). RowOf k (getD starts k 0) x) (sym (getD-set-other ends i k to 0 q))
-          (row-kept _ _ _ cells cells′ (λ e l. f .keeps e (let b = s .below k (omega arith) in omega arith)) (s .rows k (omega arith))))
+          (row-kept _ _ _ cells cells′ (λ e l. keeps e (let b = s .below k (omega arith) in omega arith)) (s .rows k (omega arith))))
+
+  -- One row more is written.
+  pub stored-more : (i at to : ℕ) (starts ends cells cells′ : List ℕ) → i < length starts → i < length ends → to ≤ length cells
+      → Stored book table r i at starts ends cells → Filled (Nexts book table r (getD table i 0)) at cells cells′ to
+      → Stored book table r (i + 1) to (set starts i at) (set ends i to) cells′
+  stored-more i at to starts ends cells cells′ in-starts in-ends room s f =
+      stored-row i at to at to starts ends cells cells′ in-starts in-ends (f .row room .forwards) (omega arith) (f .keeps) s (f .row room)
+
+  -- A place whose state moves where an earlier one's does has that one's row.
+  pub stored-again : (i k at : ℕ) (starts ends cells : List ℕ) → i < length starts → i < length ends → Storable book table r → i < r
+      → SameMoves book table k i → Stored book table r i at starts ends cells
+      → Stored book table r (i + 1) at (set starts i (getD starts k 0)) (set ends i (getD ends k 0)) cells
+  stored-again i k at starts ends cells in-starts in-ends able h same s =
+      stored-row i at at _ _ starts ends cells cells in-starts in-ends (omega arith) (s .below k (same .before)) (λ e l. refl) s
+      (row-same (Nexts book table r (getD table k 0)) (Nexts book table r (getD table i 0))
+      (λ j p. (p .0, freer-moves book _ _ (able .lawful i h) (same .no-freer) _ (p .1)))
+      (λ j p. (p .0, freer-moves book _ _ (able .lawful k (let a = same .before in omega arith)) (same .freer) _ (p .1)))
+      (s .rows k (same .before)))
 
   -- All rows are the moves forth.
   pub stored-forth : (i at : ℕ) (starts ends cells : List ℕ) → i ≡ r → r ≤ length starts → r ≤ length ends → at ≤ length cells

@@ -20,7 +20,19 @@ pub fn check_run(sheet: &[u8], states: &[u32], a: u32) -> u32 {
 
 /// Checks a strike list: `states` and the word of each.
 pub fn check_strikes(sheet: &[u8], states: &[u32], words: &[u32]) -> u32 {
-    with_rules(sheet, |rules| strikes_are_right(rules, states, words))
+    with_rules(sheet, |rules| strikes_are_right(&mut Lister::new(rules), states, words))
+}
+
+/// How many branches the strike checker's listings look at; none for a bad
+/// sheet or where nothing has to be listed.
+pub fn strikes_nodes(sheet: &[u8], states: &[u32], words: &[u32]) -> u64 {
+    let Ok(sheet) = sheet::read(sheet) else {
+        return 0;
+    };
+    let rules = Rules::new(&sheet);
+    let mut lister = Lister::new(&rules);
+    strikes_are_right(&mut lister, states, words);
+    lister.nodes
 }
 
 /// As [`check_run`], each state four bytes, big-endian.
@@ -34,7 +46,7 @@ pub fn check_run_bytes(sheet: &[u8], states: &[u8], a: u32) -> u32 {
 /// As [`check_strikes`], each state and word four bytes, big-endian.
 pub fn check_strikes_bytes(sheet: &[u8], states: &[u8], words: &[u8]) -> u32 {
     with_rules(sheet, |rules| match (numbers(states), numbers(words)) {
-        (Some(states), Some(words)) => strikes_are_right(rules, &states, &words),
+        (Some(states), Some(words)) => strikes_are_right(&mut Lister::new(rules), &states, &words),
         _ => false,
     })
 }
@@ -84,7 +96,8 @@ enum Latest {
     Unlisted,
 }
 
-fn strikes_are_right(rules: &Rules, states: &[u32], words: &[u32]) -> bool {
+fn strikes_are_right(lister: &mut Lister<'_>, states: &[u32], words: &[u32]) -> bool {
+    let rules = lister.rules;
     if states.len() != words.len()
         || !words.is_sorted()
         || !states.iter().all(|&state| rules.lawful(state))
@@ -107,7 +120,6 @@ fn strikes_are_right(rules: &Rules, states: &[u32], words: &[u32]) -> bool {
     }
     // No listing goes past the first unlisted state, so none hands over more
     // states than are listed, and one.
-    let mut lister = Lister::new(rules);
     let listed = lister.first(|state| match least.get(state) {
         Some(_) => ControlFlow::Continue(()),
         None => ControlFlow::Break(()),
@@ -119,7 +131,7 @@ fn strikes_are_right(rules: &Rules, states: &[u32], words: &[u32]) -> bool {
     let mut known: QuickMap<Asked, Latest> = QuickMap::default();
     states.iter().zip(words).all(|(&state, &word)| {
         let asked = rules.asked(state);
-        let latest = known.entry(asked).or_insert_with(|| latest(&mut lister, &least, asked));
+        let latest = known.entry(asked).or_insert_with(|| latest(lister, &least, asked));
         match *latest {
             Latest::Nothing => true,
             Latest::Word(next) if word % 32 == 0 => next < word,

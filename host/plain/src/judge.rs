@@ -1,6 +1,7 @@
 //! The judge.
 
 use crate::graph::{explore, Graph, Spot, MOST_STATES};
+use crate::list::Lister;
 use crate::rules::Rules;
 use crate::sheet;
 use crate::strike::{strike, Strikes};
@@ -44,7 +45,7 @@ pub fn judge(
     scratch.fill(0);
 
     let room = table.len().min(words.len()).min(scratch.len() / 2).min(MOST_STATES);
-    let Some(graph) = explore(&rules, room) else {
+    let Some(graph) = explore(&mut Lister::new(&rules), room) else {
         return Answer { answer: 11, ..Answer::default() };
     };
     let strikes = strike(&rules, &graph);
@@ -54,10 +55,26 @@ pub fn judge(
     }
 }
 
+/// What exploring a good sheet comes to.
+#[derive(Clone, Copy, Debug, PartialEq, Eq)]
+pub struct Explored {
+    /// R, unless there are more states than there is room for.
+    pub states: Option<usize>,
+    /// How many branches the listings of first and next states looked at.
+    pub nodes: u64,
+}
+
+/// Explores a good sheet's reachable states, up to `most` or 16,384 of them.
+pub fn explored(sheet: &[u8], most: usize) -> Option<Explored> {
+    let rules = Rules::new(&sheet::read(sheet).ok()?);
+    let mut lister = Lister::new(&rules);
+    let graph = explore(&mut lister, most.min(MOST_STATES));
+    Some(Explored { states: graph.map(|graph| graph.states.len()), nodes: lister.nodes })
+}
+
 /// R of a good sheet, unless it is above `most` or 16,384.
 pub fn reachable(sheet: &[u8], most: usize) -> Option<usize> {
-    let rules = Rules::new(&sheet::read(sheet).ok()?);
-    explore(&rules, most.min(MOST_STATES)).map(|graph| graph.states.len())
+    explored(sheet, most)?.states
 }
 
 /// Where the sample run starts. A livable state occurs in an obeying run, whose

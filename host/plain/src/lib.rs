@@ -3,17 +3,18 @@
 //! It is written from document 01 alone and shares no code with the proved
 //! build, so that the two can be held against each other, and timed.
 //!
-//! | module    | what it does                                                     |
-//! |-----------|------------------------------------------------------------------|
-//! | [`sheet`] | reads a sheet's bytes, or names the first fault                  |
-//! | [`rules`] | what a sheet says of states and moves, compiled to bit masks     |
-//! | [`list`]  | lists lawful, first and next states in ascending order           |
-//! | [`judge`] | the judge: "can be kept" with a run, "cannot" with a strike list |
-//! | [`check`] | the checkers of runs and of strike lists                         |
-//! | [`brute`] | everything a second time, naively, for at most five letters      |
-//! | [`make`]  | sheets for tests and benchmarks, good and damaged                |
-//! | [`named`] | the workshop wall's sheets and the guide's                       |
-//! | [`source`]| the case studies and experiments of source document 000          |
+//! | module       | what it does                                                     |
+//! |--------------|------------------------------------------------------------------|
+//! | [`sheet`]    | reads a sheet's bytes, or names the first fault                  |
+//! | [`rules`]    | what a sheet says of states and moves, compiled to bit masks     |
+//! | [`list`]     | lists lawful, first and next states in ascending order           |
+//! | [`judge`]    | the judge: "can be kept" with a run, "cannot" with a strike list |
+//! | [`check`]    | the checkers of runs and of strike lists                         |
+//! | [`brute`]    | everything a second time, naively, for at most five letters      |
+//! | [`make`]     | sheets for tests and benchmarks, good and damaged                |
+//! | [`families`] | sheets as people write them, in several orders of their letters  |
+//! | [`named`]    | the workshop wall's sheets and the guide's                       |
+//! | [`source`]   | the case studies and experiments of source document 000          |
 
 #![deny(warnings)]
 #![deny(missing_docs)]
@@ -21,6 +22,7 @@
 
 pub mod brute;
 pub mod check;
+pub mod families;
 mod graph;
 mod hash;
 pub mod judge;

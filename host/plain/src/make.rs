@@ -147,7 +147,7 @@ fn in_order(list: &[i8]) -> Vec<u8> {
 // Random sheets
 
 /// A literal of one of the letters.
-fn literal(rng: &mut Rng, letters: u8) -> i8 {
+pub(crate) fn literal(rng: &mut Rng, letters: u8) -> i8 {
     let letter = rng.within(1, letters.into()) as i8;
     if rng.once_in(2) {
         letter
@@ -643,7 +643,7 @@ pub fn free(letters: u8) -> Draft {
 /// Step rules that add one to the number made up of letters `low` to `high`,
 /// `low` being worth least. A letter turns over exactly when all below it hold.
 /// Each rule's left side begins with `when`, its right side with `unless`.
-fn add_one(draft: &mut Draft, low: i8, high: i8, when: &[i8], unless: &[i8]) {
+pub(crate) fn add_one(draft: &mut Draft, low: i8, high: i8, when: &[i8], unless: &[i8]) {
     let mut rule = |left: &[i8], right: i8| {
         draft.step([when, left].concat(), [unless, &[right]].concat());
     };

@@ -60,9 +60,9 @@ fn compile(list: &[i8]) -> List {
 /// "From `least` to `most` of these are true."
 #[derive(Clone, Copy, Debug)]
 pub(crate) struct Count {
-    literals: Literals,
-    least: u32,
-    most: u32,
+    pub literals: Literals,
+    pub least: u32,
+    pub most: u32,
 }
 
 impl Count {
@@ -70,22 +70,6 @@ impl Count {
     pub fn holds(self, state: u32) -> bool {
         let count = self.literals.true_in(state).count_ones();
         self.least <= count && count <= self.most
-    }
-
-    /// What this limit still asks when only letters from bit `k` up are
-    /// settled: the others may yet add anything from none to all of their
-    /// literals.
-    fn settled_from(self, k: u32) -> Count {
-        let open = (1u32 << k) - 1;
-        let unsettled = (self.literals.named & open).count_ones();
-        Count {
-            literals: Literals {
-                named: self.literals.named & !open,
-                negated: self.literals.negated & !open,
-            },
-            least: self.least.saturating_sub(unsettled),
-            most: self.most,
-        }
     }
 }
 
@@ -119,7 +103,72 @@ fn compile_limit(limit: Limit<'_>) -> Compiled {
 /// have the same next states; the judge and the checker list those only once.
 pub(crate) type Asked = [u64; 4];
 
-/// A step rule whose right side stands in [`Rules::rights`].
+/// A set of a page's rows, as bits: clauses in the first four words, limits in
+/// the last.
+pub(crate) type RowSet = [u64; 5];
+
+/// The word of a [`RowSet`] that holds the limits.
+pub(crate) const LIMITS: usize = 4;
+
+/// What states are listed by. A *row* is a clause or a limit.
+#[derive(Clone, Debug)]
+pub(crate) struct Page {
+    pub clauses: Vec<Literals>,
+    pub limits: Vec<Count>,
+    /// For each letter the rows that name it.
+    naming: Vec<RowSet>,
+}
+
+impl Page {
+    fn new(letters: u32, clauses: Vec<Literals>, limits: &[Count]) -> Page {
+        let mut naming = vec![[0; 5]; letters as usize];
+        let mut note = |named: u32, word: usize, bit: usize| {
+            for (letter, rows) in naming.iter_mut().enumerate() {
+                rows[word] |= u64::from(named >> letter & 1) << bit;
+            }
+        };
+        for (row, clause) in clauses.iter().enumerate() {
+            note(clause.named, row / 64, row % 64);
+        }
+        for (row, limit) in limits.iter().enumerate() {
+            note(limit.literals.named, LIMITS, row);
+        }
+        Page { clauses, limits: limits.to_vec(), naming }
+    }
+
+    /// These clauses and all limits.
+    pub fn rows(&self, [a, b, c, d]: Asked) -> RowSet {
+        [a, b, c, d, (1 << self.limits.len()) - 1]
+    }
+
+    /// All clauses and all limits.
+    pub fn all_rows(&self) -> RowSet {
+        let mut clauses = [0; 4];
+        for row in 0..self.clauses.len() {
+            clauses[row / 64] |= 1 << (row % 64);
+        }
+        self.rows(clauses)
+    }
+
+    /// Those of the rows that name some of the letters.
+    #[inline]
+    pub fn naming(&self, mut letters: u32, rows: &RowSet) -> RowSet {
+        let mut named = [0; 5];
+        while letters != 0 {
+            let naming = &self.naming[letters.trailing_zeros() as usize];
+            for (word, more) in named.iter_mut().zip(naming) {
+                *word |= more;
+            }
+            letters &= letters - 1;
+        }
+        for (word, row) in named.iter_mut().zip(rows) {
+            *word &= row;
+        }
+        named
+    }
+}
+
+/// A step rule whose right side is a clause of the page of next states.
 #[derive(Clone, Copy, Debug)]
 struct Step {
     left: Literals,
@@ -132,22 +181,12 @@ pub struct Rules {
     letters: u32,
     /// Some limit can never hold.
     lawless: bool,
-    limits: Vec<Count>,
-    /// For each bit k, what the limits that name its letter ask once the
-    /// letters from bit k up are settled.
-    partial: Vec<Vec<Count>>,
-    /// First rules, by their lowest letter.
-    first: Vec<Literals>,
-    /// The distinct right sides, by their lowest letter.
-    rights: Vec<Literals>,
+    /// What first states are listed by: the first rules, without doubles.
+    first: Page,
+    /// What next states are listed by: the distinct right sides.
+    next: Page,
     steps: Vec<Step>,
     promises: Vec<Literals>,
-}
-
-/// Sorts clauses by their lowest letter (an empty one last) and drops doubles.
-fn by_lowest_letter(clauses: &mut Vec<Literals>) {
-    clauses.sort_unstable_by_key(|&clause| (clause.named.trailing_zeros(), clause));
-    clauses.dedup();
 }
 
 impl Rules {
@@ -163,18 +202,15 @@ impl Rules {
                 Compiled::Count(count) => limits.push(count),
             }
         }
-        let partial = (0..letters)
-            .map(|k| {
-                let names_k = |limit: &&Count| limit.literals.named >> k & 1 != 0;
-                limits.iter().filter(names_k).map(|limit| limit.settled_from(k)).collect()
-            })
-            .collect();
 
         // An "or" that names a letter both ways asks nothing.
         let clause = |list: &[i8]| Some(compile(list)).filter(|list| list.both == 0);
-        let mut first: Vec<Literals> =
-            sheet.first_rules().filter_map(clause).map(|list| list.literals).collect();
-        by_lowest_letter(&mut first);
+        let without_doubles = |mut clauses: Vec<Literals>| {
+            clauses.sort_unstable();
+            clauses.dedup();
+            clauses
+        };
+        let first = sheet.first_rules().filter_map(clause).map(|list| list.literals).collect();
 
         // An "and" that names a letter both ways never holds, so neither such a
         // left side nor such a right side ever asks anything.
@@ -182,12 +218,11 @@ impl Rules {
             .step_rules()
             .filter_map(|step| Some((clause(step.left)?.literals, clause(step.right)?.literals)))
             .collect();
-        let mut rights: Vec<Literals> = steps.iter().map(|&(_, right)| right).collect();
-        by_lowest_letter(&mut rights);
+        let rights = without_doubles(steps.iter().map(|&(_, right)| right).collect());
         let steps = steps
             .into_iter()
             .filter_map(|(left, right)| {
-                let right = rights.iter().position(|&other| other == right)?;
+                let right = rights.binary_search(&right).ok()?;
                 Some(Step { left, right })
             })
             .collect();
@@ -196,10 +231,8 @@ impl Rules {
         Rules {
             letters,
             lawless,
-            limits,
-            partial,
-            first,
-            rights,
+            first: Page::new(letters, without_doubles(first), &limits),
+            next: Page::new(letters, rights, &limits),
             steps,
             promises: promises.collect(),
         }
@@ -219,12 +252,12 @@ impl Rules {
     pub fn lawful(&self, state: u32) -> bool {
         state >> self.letters == 0
             && !self.lawless
-            && self.limits.iter().all(|limit| limit.holds(state))
+            && self.next.limits.iter().all(|limit| limit.holds(state))
     }
 
     /// Is this a first state?
     pub fn first(&self, state: u32) -> bool {
-        self.lawful(state) && self.first.iter().all(|rule| rule.any(state))
+        self.lawful(state) && self.first.clauses.iter().all(|rule| rule.any(state))
     }
 
     /// Is there a move from one to the other?
@@ -240,7 +273,7 @@ impl Rules {
 
     /// The step rules of a move alone, without the two states' limits.
     pub(crate) fn follows(&self, from: u32, to: u32) -> bool {
-        self.steps.iter().all(|step| !step.left.all(from) || self.rights[step.right].any(to))
+        self.steps.iter().all(|step| !step.left.all(from) || self.next.clauses[step.right].any(to))
     }
 
     /// The right sides that a state asks of the next one.
@@ -252,33 +285,18 @@ impl Rules {
         asked
     }
 
-    /// The clauses of a set of right sides, by their lowest letter.
-    pub(crate) fn clauses(&self, asked: Asked) -> impl Iterator<Item = Literals> + '_ {
-        self.rights
-            .iter()
-            .enumerate()
-            .filter(move |&(right, _)| asked[right / 64] >> (right % 64) & 1 != 0)
-            .map(|(_, &clause)| clause)
+    /// What first states are listed by.
+    pub(crate) fn first_page(&self) -> &Page {
+        &self.first
     }
 
-    /// The first rules, by their lowest letter.
-    pub(crate) fn first_clauses(&self) -> &[Literals] {
-        &self.first
+    /// What next states are listed by.
+    pub(crate) fn next_page(&self) -> &Page {
+        &self.next
     }
 
     /// Can no state be lawful, because of a single limit?
     pub(crate) fn lawless(&self) -> bool {
         self.lawless
-    }
-
-    /// The letters that limits name.
-    pub(crate) fn limited(&self) -> u32 {
-        self.limits.iter().fold(0, |named, limit| named | limit.literals.named)
-    }
-
-    /// What the limits ask when letters from bit `k` up have just been settled.
-    #[inline]
-    pub(crate) fn partial(&self, k: u32) -> &[Count] {
-        &self.partial[k as usize]
     }
 }

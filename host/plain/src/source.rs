@@ -9,7 +9,7 @@ use crate::make::{Draft, Family, Rng};
 
 /// A clause holding at every moment: a first rule, and a step rule that always
 /// applies.
-fn always(draft: &mut Draft, clause: &[i8]) {
+pub(crate) fn always(draft: &mut Draft, clause: &[i8]) {
     draft.first(clause).step([], clause);
 }
 

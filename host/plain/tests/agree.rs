@@ -2,8 +2,9 @@
 
 #![deny(warnings)]
 
-use plain::check::{check_run, check_run_bytes, check_strikes, check_strikes_bytes};
-use plain::judge::{judge, Answer};
+use plain::check::{check_run, check_run_bytes, check_strikes, check_strikes_bytes, strikes_nodes};
+use plain::families::{self, any_order, in_orders, renamed, renamed_state, written};
+use plain::judge::{explored, judge, Answer};
 use plain::list::{each_lawful, first_states, lawful_states, next_states};
 use plain::make::{self, damage, families, random_draft, random_sheet, Rng, DAMAGES};
 use plain::rules::Rules;
@@ -58,9 +59,12 @@ fn judge_agrees_with_brute() {
     let mut rng = Rng::new(1);
     let mut seen: BTreeMap<u32, usize> = BTreeMap::new();
     let (mut late, mut long, mut none, mut rounds) = (0, 0, 0, 0);
-    for _ in 0..12_000 {
+    for _ in 0..13_000 {
         let letters = rng.within(1, 5) as u8;
-        let sheet = random_draft(&mut rng, letters).bytes();
+        let sheet = match rng.once_in(6) {
+            true => written(&mut rng, letters).bytes(),
+            false => random_draft(&mut rng, letters).bytes(),
+        };
         let Some(meaning) = brute::meaning(&sheet) else {
             panic!("not a small good sheet: {sheet:?}");
         };
@@ -312,9 +316,13 @@ fn any_bytes_are_read_alike() {
 #[test]
 fn listings_are_complete_and_in_order() {
     let mut rng = Rng::new(6);
-    for _ in 0..3000 {
-        let letters = rng.within(1, 9) as u8;
-        let draft = random_draft(&mut rng, letters);
+    for _ in 0..4000 {
+        let (letters, many) = (rng.within(1, 9) as u8, rng.within(3, 12) as u8);
+        let draft = match rng.once_in(3) {
+            true => written(&mut rng, many),
+            false => random_draft(&mut rng, letters),
+        };
+        let letters = draft.letters;
         let rules = Rules::new(&read(&draft.bytes()).expect("a good sheet"));
         let states = || 0..1 << letters;
         let lawful: Vec<u32> = states().filter(|&state| rules.lawful(state)).collect();
@@ -594,4 +602,72 @@ fn families_are_as_they_are_meant() {
             round += 1;
         }
     }
+}
+
+/// The numbers of the letters say nothing: a sheet of up to 24 letters in
+/// another order has the same states and words under other numbers.
+#[test]
+fn the_order_of_the_letters_is_nothing() {
+    let mut rng = Rng::new(9);
+    let mut seen: BTreeMap<u32, usize> = BTreeMap::new();
+    for _ in 0..1500 {
+        let letters = rng.within(4, 24) as u8;
+        let sheet = written(&mut rng, letters).bytes();
+        let numbers = any_order(&mut rng, letters);
+        let other = renamed(&sheet, &numbers).expect("a good sheet");
+        let room = [&[7; 600][..], &[7; 600], &[7; 1200], &[7; 9600]];
+        let [ours, theirs] = [judged(&sheet, room), judged(&other, room)];
+        accepted(&sheet, &ours);
+        accepted(&other, &theirs);
+        let Answer { answer, count, .. } = ours.answer;
+        assert_eq!((answer, count), (theirs.answer.answer, theirs.answer.count), "{sheet:?}");
+        let entries = |outcome: &Outcome, numbers: Option<&[i8]>| {
+            let state = |state| numbers.map_or(state, |numbers| renamed_state(state, numbers));
+            let states = outcome.table.iter().map(|&number| state(number));
+            let mut list: Vec<(u32, u32)> =
+                states.zip(outcome.words.iter().copied()).take(count as usize).collect();
+            list.sort_unstable();
+            list
+        };
+        assert_eq!(entries(&ours, Some(&numbers)), entries(&theirs, None), "{sheet:?}");
+        *seen.entry(answer).or_default() += 1;
+    }
+    println!("answers {seen:?}");
+    assert!(seen[&0] > 150 && seen[&13] > 150, "{seen:?}");
+}
+
+/// What is forced is seen: nodes visited in each order of the letters.
+#[test]
+fn forced_letters_cost_nothing() {
+    let nodes = |sheet: &[u8]| explored(sheet, 16_384).expect("a good sheet");
+    let most = |draft: make::Draft| {
+        let found = in_orders(&draft.bytes()).expect("a good sheet").map(|sheet| nodes(&sheet));
+        assert!(found.iter().all(|order| order.states == found[0].states));
+        (found[0].states, found.iter().map(|order| order.nodes).max().unwrap_or(0))
+    };
+    // One branch for the first states, and one for the next state of each.
+    assert_eq!(most(families::ring_with_flags(8, 16)), (Some(256), 257));
+    assert_eq!(most(families::ring_with_flags(8, 8)), (Some(256), 257));
+    // 2,048 classes; in three of four a flag hangs on the free letter, which
+    // takes two branches more.
+    assert_eq!(most(families::register_with_flags(12)), (Some(4096), 5121));
+    for (caches, states, bound) in [(3, 810, 40_000), (4, 1360, 120_000), (5, 248, 3000)] {
+        let (found, nodes) = most(families::cache_protocol(caches));
+        assert!(found == Some(states) && nodes < bound, "{caches} {found:?} {nodes}");
+    }
+    let (found, nodes) = most(families::chained_definitions());
+    assert!(found == Some(64) && nodes < 500, "{found:?} {nodes}");
+    // A clash costs one way down.
+    for family in families::clashes() {
+        for sheet in in_orders(&family.sheet).expect("a good sheet") {
+            let outcome = judged_freely(&sheet);
+            let count = outcome.answer.count as usize;
+            let (states, words) = (&outcome.table[..count], &outcome.words[..count]);
+            assert_eq!(outcome.answer.answer, 13);
+            assert!(explored(&sheet, 1).expect("a good sheet").nodes < 30, "{}", family.name);
+            assert!(strikes_nodes(&sheet, states, words) < 30, "{}", family.name);
+            accepted(&sheet, &outcome);
+        }
+    }
+    assert_eq!(judged_freely(&families::odd_clash(16, 2, 0).bytes()).answer.answer, 13);
 }

@@ -1,30 +1,33 @@
 -- `strikecheck::entries_right` meets its contract. The loop's invariant: the first i entries show what they must, `near` and `far` have not gone too far,
--- and the next states of `wide`, if a state was shown, are among the first `within`. Assumes nothing.
+-- and there are places for classes. Assumes nothing.
+use mathlib.Core.Path.{_≡_, refl, sym, _∙_}
 use Prim.Native.Nat.{_%_, _-_}
+use lib.ListN.{length}
 use native.Mathlib.Omega.{arith}
 use borrow.Author.Needs.{needs}
 use borrow.Author.Tests.{not-true, not-false}
 use Rattle.rules.specs.Book.{bookSystem}
+use Rattle.classes.specs.Classes.{fewPlaces}
 use Rattle.papers.proofs.Loops.{passed-all, failed-not-all}
 use Rattle.papers.proofs.Verdict.{says-yes, says-no}
 use Rattle.papers.specs.Paper.{paper}
 use Rattle.strikecheck.proofs.Entries.{Entered, entered-none, entered-more, entry-asks, entry-says, near-start, far-start}
-use Rattle.strikecheck.proofs.Entries.{Shown, shown-none, shown-entry, shown-follows}
+use Rattle.strikecheck.proofs.Entries.{follows-within}
 use Rattle.strikecheck.proofs.entries_right.Statement.{statement}
 use Rattle.strikecheck.proofs.entries_right.Tie as tie
 
 abbrev Inv-loop : tie.InvT-loop
-Inv-loop book sb sn wb wn distinct states near₀ far₀ any₀ wide₀ within₀ i₀ near far any wide within i =
-    Entered (bookSystem book) (paper sb sn) (paper wb wn) states i near far × Shown (bookSystem book) (paper sb sn) any wide within
+Inv-loop book sb sn wb wn distinct states near₀ far₀ earlier₀ luck₀ last₀ i₀ near far earlier luck last i =
+    Entered (bookSystem book) (paper sb sn) (paper wb wn) states i near far × (length earlier ≡ fewPlaces)
 
 abbrev μ-loop : tie.MeasureT-loop
-μ-loop book sb sn wb wn distinct states near₀ far₀ any₀ wide₀ within₀ i₀ near far any wide within i = states - i
+μ-loop book sb sn wb wn distinct states near₀ far₀ earlier₀ luck₀ last₀ i₀ near far earlier luck last i = states - i
 
 count-of-requires : tie.Need-count-of-requires Inv-loop μ-loop
 count-of-requires c κs = search needs
 
 loop-holds : tie.Need-loop-holds Inv-loop μ-loop
-loop-holds c = (entered-none (c .count-of .ensures), shown-none)
+loop-holds c = (entered-none (c .count-of .ensures), refl)
 
 number-at-requires : tie.Need-number-at-requires Inv-loop μ-loop
 number-at-requires c κs = omega (arith, c .before .loop .inv .0 .entered .counted)
@@ -52,21 +55,34 @@ reach-requires-2 c κs =
 places-requires : tie.Need-places-requires Inv-loop μ-loop
 places-requires c κs = search needs
 
+slice-aggregate-likely : tie.Need-slice-aggregate-likely Inv-loop μ-loop
+slice-aggregate-likely c = sym (c .before .before .before .before .before .before .before .loop .inv .1)
+
+likely-requires : tie.Need-likely-requires Inv-loop μ-loop
+likely-requires c κs =
+    let l = c .before .before .before .before .before .before .before in
+    (l .before .before .before .before .before .before .before .pre .states-ask .shaped, omega (arith, l .loop .inv .1), omega (arith, l .loop .inv .1))
+
 follows-requires : tie.Need-follows-requires Inv-loop μ-loop
-follows-requires c κs = c .before .before .before .before .before .before .before .before .before .before .before .before .before .pre .states-ask .shaped
+follows-requires c κs =
+    let turn = c .before .before .before .before .before .before .before .before in
+    (turn .before .before .before .before .before .before .before .before .pre .states-ask .shaped, omega (arith, turn .before .loop .inv .0 .entered .counted, turn .loop-test .taken))
 
 entry-right-requires : tie.Need-entry-right-requires Inv-loop μ-loop
 entry-right-requires c κs =
-    let here = c .before .before .before .before .before .before in
-    entry-asks (here .before .before .before .before .before .before .before .before .pre) (c .before .before .before .reach .ensures)
-    (c .before .before .reach2 .ensures) (c .before .before .before .before .number-at2 .result % 32) (c .before .places .ensures) _
-    (omega (arith, here .before .loop .inv .0 .entered .counted, here .loop-test .taken)) (c .before .before .before .before .before .number-at .ensures)
-    (λ k. shown-follows (here .before .loop .inv .1) (c .follows .ensures k))
+    let placed = c .before .before .before .before in
+    let word = placed .before .before .before in
+    let turn = word .before .before in
+    let asks = turn .before .before .before .before .before .before .before .before .pre in
+    entry-asks asks (placed .before .before .reach .ensures) (placed .before .reach2 .ensures) (word .number-at2 .result % 32) (placed .places .ensures) _
+    (omega (arith, turn .before .loop .inv .0 .entered .counted, turn .loop-test .taken)) (word .before .number-at .ensures)
+    (λ k. follows-within asks (omega (arith, turn .before .loop .inv .0 .entered .counted, turn .loop-test .taken)) (word .before .number-at .ensures) (word .number-at2 .ensures) (placed .before .before .reach .ensures)
+    (placed .before .reach2 .ensures) (placed .places .ensures) (turn .before .loop .inv .0 .entered .passed) (c .follows .ensures k))
 
 returns : tie.Need-returns Inv-loop μ-loop
 returns c =
     let test = c .before in
-    let placed = test .before .before in
+    let placed = test .before .before .before .before .before in
     let word = placed .before .before .before in
     let turn = word .before .before in
     let asks = turn .before .before .before .before .before .before .before .before .pre in
@@ -83,7 +99,7 @@ loop-less c = omega arith
 loop-again : tie.Need-loop-again Inv-loop μ-loop
 loop-again c =
     let test = c .before .before in
-    let placed = test .before .before in
+    let placed = test .before .before .before .before .before in
     let word = placed .before .before .before in
     let turn = word .before .before in
     let asks = turn .before .before .before .before .before .before .before .before .pre in
@@ -91,7 +107,7 @@ loop-again c =
     (placed .before .before .reach .ensures) (placed .before .reach2 .ensures) (placed .places .ensures) (test .entry-right .ensures) in (
       entered-more (asks .rising) (turn .before .loop .inv .0) (turn .loop-test .taken) (word .number-at2 .ensures)
           (placed .before .before .reach .ensures) (placed .before .reach2 .ensures) (right .yes (not-false _ (c .before .if1 .left))),
-      turn .before .loop .inv .1,
+      test .before .before .before .likely .ensures ∙ turn .before .loop .inv .1,
     )
 
 add-i-2 : tie.Need-add-i-2 Inv-loop μ-loop
@@ -103,7 +119,7 @@ loop-less-2 c = omega arith
 loop-again-2 : tie.Need-loop-again-2 Inv-loop μ-loop
 loop-again-2 c =
     let test = c .before .before in
-    let placed = test .before .before in
+    let placed = test .before .before .before .before .before in
     let word = placed .before .before .before in
     let turn = word .before .before in
     let asks = turn .before .before .before .before .before .before .before .before .pre in
@@ -111,8 +127,7 @@ loop-again-2 c =
     (placed .before .before .reach .ensures) (placed .before .reach2 .ensures) (placed .places .ensures) (test .entry-right .ensures) in (
       entered-more (asks .rising) (turn .before .loop .inv .0) (turn .loop-test .taken) (word .number-at2 .ensures)
           (placed .before .before .reach .ensures) (placed .before .reach2 .ensures) (right .yes (not-false _ (c .before .if1 .left))),
-      shown-entry asks _ (omega (arith, turn .before .loop .inv .0 .entered .counted, turn .loop-test .taken)) (word .before .number-at .ensures)
-          (test .entry-right .ensures .yes (not-false _ (c .before .if1 .left)) .1),
+      test .before .before .before .likely .ensures ∙ turn .before .loop .inv .1,
     )
 
 returns-2 : tie.Need-returns-2 Inv-loop μ-loop
@@ -133,6 +148,8 @@ entries-right-spec =
     add-reach
     reach-requires-2
     places-requires
+    slice-aggregate-likely
+    likely-requires
     follows-requires
     entry-right-requires
     returns

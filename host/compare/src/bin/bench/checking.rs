@@ -1,13 +1,14 @@
 //! Checking runs and strike lists: the judge's own papers, as bytes.
 
-use crate::{measure, Only, Table};
+use crate::{measure, Only, Row, Table, LONG};
 use compare::checkers::{bytes, check_run, check_strikes};
-use plain::check::{check_run_bytes, check_strikes_bytes};
+use plain::check::{check_run_bytes, check_strikes_bytes, strikes_nodes};
 use plain::judge::judge;
-use plain::make::{counter, counter_to_dead_end, dense, falling_promises, free, late_clash, long_run, never, w15, Draft};
+use plain::make::{counter, counter_to_dead_end, dense, falling_promises, free, late_clash, long_run, never, w15};
 use plain::source::{football, Team};
 use std::collections::BTreeSet;
 use std::hint::black_box;
+use std::time::Duration;
 
 /// The judge's paper: a run's states and its a, or a strike list's states and words.
 struct Paper {
@@ -16,10 +17,10 @@ struct Paper {
     states: Vec<u8>,
     words: Vec<u8>,
     different: usize,
+    nodes: u64,
 }
 
-fn paper(draft: &Draft) -> Paper {
-    let sheet = draft.bytes();
+fn paper(sheet: Vec<u8>) -> Paper {
     let (mut table, mut words) = (vec![0; 16_384], vec![0; 16_384]);
     let (mut scratch, mut run) = (vec![0; 32_768], vec![0; 262_144]);
     let answer = judge(&sheet, &mut table, &mut words, &mut scratch, &mut run);
@@ -29,7 +30,8 @@ fn paper(draft: &Draft) -> Paper {
         other => panic!("no paper: {other}"),
     };
     let different = words.iter().collect::<BTreeSet<_>>().len();
-    Paper { sheet, a: answer.a, states: bytes(states), words: bytes(words), different }
+    let nodes = strikes_nodes(&sheet, states, words);
+    Paper { a: answer.a, states: bytes(states), words: bytes(words), different, nodes, sheet }
 }
 
 pub fn tables(only: &Only) -> Vec<Table> {
@@ -46,11 +48,12 @@ fn runs(only: &Only) -> Table {
     for (name, draft) in drafts {
         let name = format!("run: {name}");
         if only.wants(&name) {
-            let Paper { sheet, a, states, .. } = paper(&draft);
-            assert_eq!((check_run(&sheet, &states, a), check_run_bytes(&sheet, &states, a)), (0, 0));
+            let Paper { sheet, a, states, .. } = paper(draft.bytes());
+            assert_eq!(check_run_bytes(&sheet, &states, a), 0);
             rows.push(measure(
                 name,
                 vec![(states.len() / 4).to_string()],
+                LONG,
                 || check_run(black_box(&sheet), &states, a),
                 || check_run_bytes(black_box(&sheet), &states, a),
             ));
@@ -85,7 +88,7 @@ fn lists(only: &Only) -> Table {
     for (name, draft) in drafts {
         let name = format!("strikes: {name}");
         if only.wants(&name) {
-            let Paper { sheet, mut states, mut words, different, .. } = paper(&draft);
+            let Paper { sheet, mut states, mut words, different, .. } = paper(draft.bytes());
             if name.contains(BACKWARDS) {
                 assert_eq!(different, 1, "one word, so that the order is free");
                 states = states.chunks(4).rev().flatten().copied().collect();
@@ -95,14 +98,22 @@ fn lists(only: &Only) -> Table {
                 states.extend_from_within(states.len() - 4..);
                 words.extend_from_within(words.len() - 4..);
             }
-            assert_eq!((check_strikes(&sheet, &states, &words), check_strikes_bytes(&sheet, &states, &words)), (0, 0));
-            rows.push(measure(
-                name,
-                vec![(states.len() / 4).to_string(), different.to_string()],
-                || check_strikes(black_box(&sheet), &states, &words),
-                || check_strikes_bytes(black_box(&sheet), &states, &words),
-            ));
+            let facts = vec![(states.len() / 4).to_string(), different.to_string()];
+            rows.push(list(name, facts, LONG, [&sheet, &states, &words]));
         }
     }
     Table { title: "Checking strike lists", heads: &["states", "different words"], rows }
+}
+
+/// A strike list that is right: the sheet, the states and the words.
+fn list(name: String, facts: Vec<String>, most: Duration, [sheet, states, words]: [&[u8]; 3]) -> Row {
+    assert_eq!(check_strikes_bytes(sheet, states, words), 0, "{name}");
+    let ours = || check_strikes(black_box(sheet), states, words);
+    measure(name, facts, most, ours, || check_strikes_bytes(black_box(sheet), states, words))
+}
+
+/// The judge's own strike list of a sheet; how many states it has, and how many nodes the plain checker visits.
+pub fn own_list(name: String, most: Duration, sheet: &[u8]) -> Row {
+    let Paper { sheet, states, words, nodes, .. } = paper(sheet.to_vec());
+    list(name, vec![(states.len() / 4).to_string(), nodes.to_string()], most, [&sheet, &states, &words])
 }

@@ -1,10 +1,11 @@
 //! Judging: made-up families, and those of source document 000.
 
-use crate::{measure, Only, Row, Table};
-use plain::judge::{reachable, Answer};
+use crate::{measure, Only, Row, Table, LONG, SHORT};
+use plain::judge::{explored, Answer};
 use plain::make::{self, Draft, Family};
 use plain::source;
 use std::hint::black_box;
+use std::time::Duration;
 
 /// The most states the judge has room for, and the most moments that a sample run of them can have.
 const STATES: usize = 16_384;
@@ -28,31 +29,59 @@ fn families() -> Vec<Family> {
 pub fn tables(only: &Only) -> Vec<Table> {
     let table = |title, families: Vec<Family>| Table {
         title,
-        heads: &["R", "answer, count, a, b"],
-        rows: families.iter().filter(|family| only.wants(&family.name)).map(row).collect(),
+        heads: &["R", "answer, count, a, b", "nodes"],
+        rows: families.iter().filter(|family| only.wants(&family.name)).map(|family| row(family, LONG)).collect(),
     };
-    vec![table("Judging: hard and easy shapes", families()), table("Judging: source document 000's experiments", source::families())]
+    vec![
+        table("Judging: hard and easy shapes", families()),
+        table("Judging: what no look at single rows sees", plain::families::odd_clashes()),
+        table("Judging: source document 000's experiments", source::families()),
+        exploring(only),
+    ]
 }
 
 /// Judged with exactly as much room as is needed, so that wiping unused places is no part of it.
-fn row(family: &Family) -> Row {
-    let sheet = &family.sheet;
-    let reached = reachable(sheet, STATES);
-    let room = reached.unwrap_or(STATES);
+pub fn row(family: &Family, most: Duration) -> Row {
+    let found = explored(&family.sheet, STATES).expect("a good sheet");
+    let states = found.states.map_or(format!("over {STATES}"), |states| states.to_string());
+    judged(family, found.states.unwrap_or(STATES), most, |answer| vec![states, answer, found.nodes.to_string()])
+}
+
+/// Judged by both with so much room; the facts depend on the answer. Both must leave the same in the slices.
+fn judged(family: &Family, room: usize, most: Duration, facts: impl FnOnce(String) -> Vec<String>) -> Row {
+    let Family { name, sheet } = family;
     let (mut table, mut words, mut scratch) = (vec![7; room], vec![7; room], vec![7; 2 * room]);
     let mut run = vec![7; MOMENTS];
     let Answer { answer, count, a, b } = plain::judge::judge(sheet, &mut table, &mut words, &mut scratch, &mut run);
     run.truncate(b as usize);
-    let facts = vec![reached.map_or(format!("over {STATES}"), |r| r.to_string()), format!("{answer} {count} {a} {b}")];
+    let facts = facts(format!("{answer} {count} {a} {b}"));
     let lent = [table, words, scratch, run];
-    let [mut table, mut words, mut scratch, mut run] = lent.clone();
-    let ours = compare::judge::judge(sheet, &mut table, &mut words, &mut scratch, &mut run);
-    assert_eq!((ours, [&table, &words, &scratch, &run]), (Answer { answer, count, a, b }, lent.each_ref()), "{}", family.name);
-    let [mut table2, mut words2, mut scratch2, mut run2] = lent;
-    measure(
-        family.name.clone(),
+    let [mut table, mut words, mut scratch, mut run] = lent.clone().map(|numbers| vec![7; numbers.len()]);
+    let [mut table2, mut words2, mut scratch2, mut run2] = lent.clone();
+    let row = measure(
+        name.clone(),
         facts,
+        most,
         || compare::judge::judge(black_box(sheet), &mut table, &mut words, &mut scratch, &mut run),
         || plain::judge::judge(black_box(sheet), &mut table2, &mut words2, &mut scratch2, &mut run2),
-    )
+    );
+    assert_eq!([table, words, scratch, run], lent, "{name}");
+    row
+}
+
+/// Exploring alone: judged with room for all states but one, so that both end with 11 when they come to the last state.
+fn exploring(only: &Only) -> Table {
+    let mut all = families();
+    all.extend(plain::families::families());
+    let mut rows = Vec::new();
+    for Family { name, sheet } in all {
+        let family = Family { name: format!("exploring: {name}"), sheet };
+        let found = explored(&family.sheet, STATES).expect("a good sheet");
+        if let (Some(states @ 2..), true) = (found.states, only.wants(&family.name)) {
+            let until = explored(&family.sheet, states - 1).expect("a good sheet").nodes;
+            let facts = vec![states.to_string(), until.to_string(), found.nodes.to_string()];
+            rows.push(judged(&family, states - 1, SHORT, |_| facts));
+        }
+    }
+    Table { title: "Exploring alone", heads: &["R", "nodes", "of nodes in all"], rows }
 }

@@ -3,13 +3,16 @@
 //! `bench` prints the tables. `bench docs FOLDER` also writes them into that folder's BENCHMARK.md, between its two marks, and the plot
 //! beside it. `bench only TEXT` measures the rows whose name has that text.
 //!
-//! Each row is measured in turns, ours and the plain one, and the least of several turns is taken: other work on the machine only ever adds
-//! time. Sheets are always the same. What the variable MEASURED_ON says (processor, compilers, commit) stands before the tables.
+//! Each row is measured in turns, ours and the plain one, in processor time, and the least of several turns is taken: other work on the
+//! machine only ever adds time. A row that takes long is measured once. Sheets are always the same. What the variable MEASURED_ON
+//! says (processor, compilers, commit) stands before the tables.
 
 #![deny(warnings)]
 
 mod checking;
+mod clock;
 mod judging;
+mod orders;
 mod plot;
 mod reading;
 
@@ -26,6 +29,8 @@ pub struct Row {
     pub ours: f64,
     /// The plain Rust time, in nanoseconds.
     pub plain: f64,
+    /// For a sheet that is measured in several orders of its letters, the family.
+    pub family: Option<String>,
 }
 
 /// A table: its title, the heads of the columns between the name and the times, and its rows.
@@ -50,11 +55,11 @@ impl Only {
 
 /// The time of so many calls, divided by their number, in nanoseconds.
 fn turn<T>(calls: u32, call: &mut impl FnMut() -> T) -> f64 {
-    let start = Instant::now();
+    let start = clock::now();
     for _ in 0..calls {
         black_box(call());
     }
-    start.elapsed().as_nanos() as f64 / f64::from(calls)
+    (clock::now() - start) / f64::from(calls)
 }
 
 /// How many calls make a turn of about a millisecond: short enough to fall between other work on the machine now and then.
@@ -62,16 +67,44 @@ fn calls(nanoseconds: f64) -> u32 {
     (1e6 / nanoseconds.max(20.0)).clamp(1.0, 50_000.0) as u32
 }
 
-/// The least times of one call of each, taken in a hundred turns, or fewer where they take long.
-pub fn measure<T>(name: String, facts: Vec<String>, mut ours: impl FnMut() -> T, mut plain: impl FnMut() -> T) -> Row {
+/// What a call gives, and how long it took, in nanoseconds.
+fn timed<T>(call: impl FnOnce() -> T) -> (T, f64) {
+    let start = clock::now();
+    let given = call();
+    (given, clock::now() - start)
+}
+
+/// How long a row is measured at most: no turn begins later.
+pub const LONG: Duration = Duration::from_secs(4);
+
+/// The same where there are many rows alike.
+pub const SHORT: Duration = Duration::from_secs(1);
+
+/// A time in nanoseconds so short that ten turns can always be had.
+const QUICK: f64 = 1e7;
+
+/// The least times of one call of each, taken in a hundred turns, or fewer where they take long. In the first turn, of one call each, both
+/// must give the same.
+pub fn measure<T>(name: String, facts: Vec<String>, most: Duration, mut ours: impl FnMut() -> T, mut plain: impl FnMut() -> T) -> Row
+where
+    T: PartialEq + std::fmt::Debug,
+{
     let start = Instant::now();
-    let mut row = Row { name, facts, ours: turn(1, &mut ours), plain: turn(1, &mut plain) };
-    for _ in 0..100 {
-        if start.elapsed() > Duration::from_secs(4) {
+    let ((given, our_time), (other, plain_time)) = (timed(&mut ours), timed(&mut plain));
+    assert_eq!(given, other, "{name}");
+    let mut row = Row { name, facts, ours: our_time, plain: plain_time, family: None };
+    for number in 0..100 {
+        let late = start.elapsed() > most;
+        if late && number >= 10 {
             break;
         }
-        row.ours = row.ours.min(turn(calls(row.ours), &mut ours));
-        row.plain = row.plain.min(turn(calls(row.plain), &mut plain));
+        // Of one that takes long and one that does not, the latter has some turns more.
+        if !late || row.ours < QUICK {
+            row.ours = row.ours.min(turn(calls(row.ours), &mut ours));
+        }
+        if !late || row.plain < QUICK {
+            row.plain = row.plain.min(turn(calls(row.plain), &mut plain));
+        }
     }
     eprintln!("{}: {} against {}", row.name, time(row.ours), time(row.plain));
     row
@@ -98,6 +131,7 @@ fn markdown(table: &Table) -> String {
         let digits = if ratio < 0.1 { 4 } else { 2 };
         lines.push(format!("| {} |{facts} {} | {} | {ratio:.digits$} |", row.name, time(row.ours), time(row.plain)));
     }
+    lines.extend(orders::spread(&table.rows));
     lines.join("\n") + "\n"
 }
 
@@ -126,6 +160,7 @@ fn main() -> std::io::Result<()> {
     let mut tables = vec![reading::table(&only)];
     tables.extend(checking::tables(&only));
     tables.extend(judging::tables(&only));
+    tables.extend(orders::tables(&only));
     tables.retain(|table| !table.rows.is_empty());
     let on = std::env::var("MEASURED_ON").map_or(String::new(), |words| words + "\n\n");
     let text = on + &tables.iter().map(markdown).collect::<Vec<_>>().join("\n");

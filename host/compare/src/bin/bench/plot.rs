@@ -1,6 +1,7 @@
 //! The plot: a line for each row, our time and the plain one as two dots on a scale where each step is ten times the last.
 
-use crate::{time, Table};
+use crate::orders::by_family;
+use crate::{time, Row, Table};
 
 const ROW: f64 = 18.0;
 const LEFT: f64 = 330.0;
@@ -18,7 +19,7 @@ struct Scale {
 
 impl Scale {
     fn of(tables: &[Table]) -> Scale {
-        let times = || tables.iter().flat_map(|table| &table.rows).flat_map(|row| [row.ours, row.plain]);
+        let times = || tables.iter().flat_map(shown).flat_map(|row| [row.ours, row.plain]);
         let least = times().fold(f64::INFINITY, f64::min).log10().floor();
         let most = times().fold(0.0, f64::max).log10().ceil();
         Scale { least, most: most.max(least + 1.0) }
@@ -29,13 +30,18 @@ impl Scale {
     }
 }
 
+/// The rows that are shown: of a family in several orders the slowest.
+fn shown(table: &Table) -> impl Iterator<Item = &Row> {
+    by_family(&table.rows).filter_map(|rows| rows.iter().max_by(|one, other| one.ours.total_cmp(&other.ours)))
+}
+
 fn escape(text: &str) -> String {
     text.replace('&', "&amp;").replace('<', "&lt;").replace('>', "&gt;")
 }
 
 pub fn svg(tables: &[Table]) -> String {
     let scale = Scale::of(tables);
-    let lines: usize = tables.iter().map(|table| table.rows.len() + 2).sum();
+    let lines: usize = tables.iter().map(|table| shown(table).count() + 2).sum();
     let (width, height) = (LEFT + WIDTH + RIGHT, TOP + lines as f64 * ROW + 20.0);
     let mut parts = vec![
         format!("<svg xmlns=\"http://www.w3.org/2000/svg\" viewBox=\"0 0 {width} {height}\" font-family=\"sans-serif\" font-size=\"12\">"),
@@ -57,7 +63,7 @@ pub fn svg(tables: &[Table]) -> String {
         y += 1.5 * ROW;
         parts.push(format!("<text x=\"10\" y=\"{:.1}\" font-weight=\"bold\">{}</text>", y, escape(table.title)));
         y += 0.5 * ROW;
-        for row in &table.rows {
+        for row in shown(table) {
             let (ours, plain) = (scale.x(row.ours), scale.x(row.plain));
             let middle = y + 0.5 * ROW;
             parts.push(format!("<text x=\"10\" y=\"{:.1}\">{}</text>", middle + 4.0, escape(&row.name)));

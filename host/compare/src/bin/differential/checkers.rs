@@ -23,9 +23,11 @@ type Run = (Vec<u32>, u32);
 type List = (Vec<u32>, Vec<u32>);
 
 /// Numbers, and whether both checkers say them alike.
-struct Checked<'t> {
-    runs: &'t mut Tally,
-    lists: &'t mut Tally,
+pub struct Checked<'t> {
+    /// The run checker's.
+    pub runs: &'t mut Tally,
+    /// The strike checker's.
+    pub lists: &'t mut Tally,
 }
 
 impl Checked<'_> {
@@ -250,7 +252,7 @@ pub fn suite(rng: &mut Rng, rounds: usize) -> bool {
     runs.complete(&wanted) & lists.complete(&wanted)
 }
 
-/// Long runs, long lists, many next states; each paper right, with every entry doubled, and damaged; then papers made to take long.
+/// Long runs, long lists, many next states; then papers made to take long.
 pub fn large(rng: &mut Rng, _: usize) -> bool {
     let mut runs = Tally::new("run checker, large");
     let mut lists = Tally::new("strike checker, large");
@@ -265,30 +267,31 @@ pub fn large(rng: &mut Rng, _: usize) -> bool {
     ];
     let mut sheets: Vec<Vec<u8>> = drafts.iter().map(Draft::bytes).collect();
     sheets.extend(source::families().into_iter().map(|family| family.sheet));
-    for sheet in &sheets {
-        let (run, list) = paper(sheet);
-        for time in 0..8 {
-            if let Some(mut run) = run.clone() {
-                if time > 0 {
-                    spoil_run(rng, sheet[3], &mut run);
-                }
-                if !checked.run(sheet, &bytes(&run.0), run.1) {
-                    return false;
-                }
+    sheets.iter().all(|sheet| papers(rng, &mut checked, sheet))
+        && hostile(&mut checked)
+        && runs.complete(&[0, 14]) & lists.complete(&[0, 14])
+}
+
+/// The judge's paper: right, a strike list with every entry doubled, and damaged.
+pub fn papers(rng: &mut Rng, checked: &mut Checked, sheet: &[u8]) -> bool {
+    let (run, list) = paper(sheet);
+    (0..8).all(|time| {
+        let right = run.clone().is_none_or(|mut run| {
+            if time > 0 {
+                spoil_run(rng, sheet[3], &mut run);
             }
-            if let Some(mut list) = list.clone() {
+            checked.run(sheet, &bytes(&run.0), run.1)
+        });
+        right
+            && list.clone().is_none_or(|mut list| {
                 match time {
                     0 => {}
                     1 => list = (doubled(&list.0), doubled(&list.1)),
                     _ => spoil_list(rng, sheet[3], &mut list),
                 }
-                if !checked.list(sheet, &bytes(&list.0), &bytes(&list.1)) {
-                    return false;
-                }
-            }
-        }
-    }
-    hostile(&mut checked) && runs.complete(&[0, 14]) & lists.complete(&[0, 14])
+                checked.list(sheet, &bytes(&list.0), &bytes(&list.1))
+            })
+    })
 }
 
 fn doubled(numbers: &[u32]) -> Vec<u32> {

@@ -11,21 +11,22 @@ use plain::source;
 const MOST_STATES: usize = 400;
 
 /// Slices of numbers that are not zero.
-fn filled(rng: &mut Rng, lengths: [usize; 4]) -> [Vec<u32>; 4] {
+pub fn filled(rng: &mut Rng, lengths: [usize; 4]) -> [Vec<u32>; 4] {
     lengths.map(|length| (0..length).map(|_| rng.number() as u32 | 1).collect())
 }
 
-type Judge = fn(&[u8], &mut [u32], &mut [u32], &mut [u32], &mut [u32]) -> Answer;
+/// A judge, ours or the plain one.
+pub type Judge = fn(&[u8], &mut [u32], &mut [u32], &mut [u32], &mut [u32]) -> Answer;
 
 /// Judges with slices like these.
-fn judged(judge: Judge, sheet: &[u8], lent: &[Vec<u32>; 4]) -> Outcome {
+pub fn judged(judge: Judge, sheet: &[u8], lent: &[Vec<u32>; 4]) -> Outcome {
     let [mut table, mut words, mut scratch, mut run] = lent.clone();
     let answer = judge(sheet, &mut table, &mut words, &mut scratch, &mut run);
     Outcome { answer, table, words, scratch, run }
 }
 
 /// Judges with both, compares them, and hands the paper to both checkers: the right one accepts it, the other does not.
-fn agree(tally: &mut Tally, sheet: &[u8], lent: &[Vec<u32>; 4]) -> bool {
+pub fn agree(tally: &mut Tally, sheet: &[u8], lent: &[Vec<u32>; 4]) -> bool {
     let ours = judged(compare::judge::judge, sheet, lent);
     let plain = judged(plain::judge::judge, sheet, lent);
     if differs("judge", sheet, &ours, &plain) {
@@ -63,7 +64,7 @@ fn length(rng: &mut Rng, need: usize) -> usize {
 }
 
 /// A good sheet, several times over with other slices.
-fn good(rng: &mut Rng, tally: &mut Tally, sheet: &[u8]) -> bool {
+pub fn good(rng: &mut Rng, tally: &mut Tally, sheet: &[u8]) -> bool {
     // Where there are too many states, any need below serves to show that.
     let states = reachable(sheet, MOST_STATES).unwrap_or(rng.clone().below(MOST_STATES));
     let mut free = [vec![0; states], vec![0; states], vec![0; 2 * states], vec![0; 16 * states]];

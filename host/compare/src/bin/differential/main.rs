@@ -8,6 +8,7 @@
 mod checkers;
 mod judge;
 mod reader;
+mod written;
 
 use plain::make::Rng;
 
@@ -91,6 +92,10 @@ const SUITES: &[Suite] = &[
     ("judge", judge::suite),
     // Many states, long runs, many rounds.
     ("judge, large", judge::large),
+    // Letters that say something of others, in any order.
+    ("sheets as written", written::suite),
+    // The benchmark's families.
+    ("sheets in four orders", written::orders),
 ];
 
 fn main() {
