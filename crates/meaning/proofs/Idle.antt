@@ -87,6 +87,7 @@ pub w1-outcome : {o : Outcome} → Judged w1 sevens o → o ≡ record {
   count = 2;
   a = 0;
   b = 1;
+  place = 0;
   leaves = record { table = 0 ∷ 1 ∷ []; words = 0 ∷ 0 ∷ []; scratch = 0 ∷ 0 ∷ 0 ∷ 0 ∷ []; run = 0 ∷ 7 ∷ [] };
 }
 unfolding outcome
@@ -102,6 +103,7 @@ pub w4-outcome : {o : Outcome} → Judged w4 sevens o → o ≡ record {
   count = 2;
   a = 0;
   b = 0;
+  place = 0;
   leaves = record { table = 0 ∷ 1 ∷ []; words = 33 ∷ 64 ∷ []; scratch = 0 ∷ 0 ∷ 0 ∷ 0 ∷ []; run = 7 ∷ 7 ∷ [] };
 }
 unfolding outcome
@@ -117,6 +119,7 @@ pub w5-outcome : {o : Outcome} → Judged w5 sevens o → o ≡ record {
   count = 2;
   a = 0;
   b = 0;
+  place = 0;
   leaves = record { table = 0 ∷ 1 ∷ []; words = 32 ∷ 32 ∷ []; scratch = 0 ∷ 0 ∷ 0 ∷ 0 ∷ []; run = 7 ∷ 7 ∷ [] };
 }
 unfolding outcome
@@ -397,6 +400,7 @@ pub w16-no-room : {o : Outcome} → Judged w2 one-place o → o ≡ record {
   count = 0;
   a = 0;
   b = 0;
+  place = 0;
   leaves = record { table = 0 ∷ []; words = 0 ∷ 0 ∷ []; scratch = 0 ∷ 0 ∷ 0 ∷ 0 ∷ []; run = 7 ∷ 7 ∷ [] };
 }
 unfolding outcome firstFault capacity
@@ -408,6 +412,7 @@ pub w16-short-run : {o : Outcome} → Judged w2 short-run o → o ≡ record {
   count = 0;
   a = 0;
   b = 2;
+  place = 0;
   leaves = record { table = 0 ∷ 0 ∷ []; words = 0 ∷ 0 ∷ 0 ∷ []; scratch = 0 ∷ 0 ∷ 0 ∷ 0 ∷ 0 ∷ []; run = 7 ∷ [] };
 }
 unfolding outcome firstFault capacity

@@ -159,7 +159,7 @@ judged-met sheet lent =
 pub judged-out-met : (sheet : List ℕ) (lent : Lent) → (out : List ℕ) × (after : Lent) × JudgedOut sheet lent out after
 judged-out-met sheet lent =
     let (o, promise) = judged-met sheet lent in
-    (o .answer ∷ o .count ∷ o .a ∷ o .b ∷ [], o .leaves, record { judged = o; promise = promise; written = refl; left = refl })
+    (o .answer ∷ o .count ∷ o .a ∷ o .b ∷ o .place ∷ [], o .leaves, record { judged = o; promise = promise; written = refl; left = refl })
 
 -- ---- no slice grows or shrinks
 

@@ -147,5 +147,5 @@ pub judged-out-unique : {sheet : List ℕ} {lent : Lent} {out out′ : List ℕ}
     → JudgedOut sheet lent out after → JudgedOut sheet lent out′ after′ → (out ≡ out′) × (after ≡ after′)
 judged-out-unique p q =
     let same : p .judged ≡ q .judged = judged-unique (p .promise) (q .promise) in
-    let numbers : Outcome → List ℕ = λ o. o .answer ∷ o .count ∷ o .a ∷ o .b ∷ [] in
+    let numbers : Outcome → List ℕ = λ o. o .answer ∷ o .count ∷ o .a ∷ o .b ∷ o .place ∷ [] in
     (p .written ∙ ap numbers same ∙ sym (q .written), p .left ∙ ap (λ (o : Outcome). o .leaves) same ∙ sym (q .left))

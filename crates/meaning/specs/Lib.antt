@@ -3,6 +3,7 @@ pub mod Strike
 pub mod Sample
 pub mod Papers
 pub mod Sheet
+pub mod Faults
 pub mod Rules
 pub mod Promises
 pub mod Bytes

@@ -17,17 +17,35 @@ unfoldable pub systemIn : List ℕ → System
 unfolding systemOf decode
 systemIn sheet = systemOf (decode sheet)
 
--- ---- the reader: 0 for a good sheet, or the number of the first fault. It changes nothing; its C form answers the same number.
+-- ---- the reader: 0 for a good sheet, or the number of the first fault and its place. It changes nothing.
 
 unfoldable pub readNumber : Option Fault → ℕ
 readNumber none = 0
 readNumber (some f) = numberOf (f .why)
 
+-- the number alone, as naxxurbi_read answers it
 unfoldable pub ReadSays : List ℕ → ℕ → Type 0
 unfolding readNumber firstFault
 ReadSays sheet n = n ≡ readNumber (firstFault sheet)
 
--- ---- the checkers: "one number and no other field"; "they change nothing" (they are lent nothing that can be changed)
+-- Document 02, order 1: "Answers 1 to 10 from the reader, the judge and both checkers now also return a place .. It is passed on unaltered, 0
+-- on other answers." A call answers 1 to 10 exactly where the sheet has a first fault, so its place is settled by the sheet alone.
+unfoldable pub placeOf : Option Fault → ℕ
+placeOf none = 0
+placeOf (some f) = f .at
+
+-- n is what `Says` promises of a call's number, and the place is that of the sheet's first fault, 0 where it has none
+pub record Placed (sheet : List ℕ) (Says : ℕ → Type 0) (n place : ℕ) : Type 0 where
+  pub number : Says n
+  pub where-met : place ≡ placeOf (firstFault sheet)
+
+-- the reader's number and place
+unfoldable pub ReadPlaced : (sheet : List ℕ) (n place : ℕ) → Type 0
+unfolding ReadSays
+ReadPlaced sheet n place = Placed sheet (ReadSays sheet) n place
+
+-- ---- the checkers: "they change nothing" (they are lent nothing that can be changed). On numbers they return a number and, since order 1,
+-- a place; the firmware's calls return the number alone.
 
 -- "A checker's 1 to 10 before 14": n is the number for a sheet, where a paper is accepted exactly if Ok holds.
 pub data Checked (sheet : List ℕ) (Ok : System → Type 0) (n : ℕ) : Type 0 where
@@ -41,6 +59,15 @@ RunChecked sheet states a n = Checked sheet (λ S. RunAccepted S states a) n
 
 unfoldable pub StrikesChecked : (sheet states words : List ℕ) (n : ℕ) → Type 0
 StrikesChecked sheet states words n = Checked sheet (λ S. StrikesAccepted S states words) n
+
+-- the same with the place
+unfoldable pub RunPlaced : (sheet states : List ℕ) (a n place : ℕ) → Type 0
+unfolding RunChecked
+RunPlaced sheet states a n place = Placed sheet (RunChecked sheet states a) n place
+
+unfoldable pub StrikesPlaced : (sheet states words : List ℕ) (n place : ℕ) → Type 0
+unfolding StrikesChecked
+StrikesPlaced sheet states words n place = Placed sheet (StrikesChecked sheet states words) n place
 
 -- "each state or word is four bytes, big-endian"
 unfoldable pub stateBytes : ℕ
@@ -89,12 +116,13 @@ pub record Lent : Type 0 where
   pub scratch : List ℕ
   pub run : List ℕ
 
--- "It returns an answer, a count, a and b", and leaves the four slices.
+-- "It returns an answer, a count, a and b", since order 1 also a place, and leaves the four slices.
 pub record Outcome : Type 0 where
   pub answer : ℕ
   pub count : ℕ
   pub a : ℕ
   pub b : ℕ
+  pub place : ℕ
   pub leaves : Lent
 
 abbrev pub mostStates : ℕ
@@ -148,17 +176,18 @@ unfolding zeros
 cleared lent = record { table = zeros (lent .table); words = zeros (lent .words); scratch = zeros (lent .scratch); run = lent .run }
 
 -- The table of numbers: what is returned and left for each finding. "Fields not named below are 0." The count of a strike list is R,
--- that of a kept sheet K.
+-- that of a kept sheet K. Only a bad sheet has a place, its fault's.
 unfoldable pub outcome : Lent → Finding → Outcome
 unfolding over zeros cleared
-outcome lent (bad f) = record { answer = numberOf (f .why); count = 0; a = 0; b = 0; leaves = lent }
-outcome lent crowded = record { answer = 11; count = 0; a = 0; b = 0; leaves = cleared lent }
-outcome lent (short b) = record { answer = 12; count = 0; a = 0; b = b; leaves = cleared lent }
+outcome lent (bad f) = record { answer = numberOf (f .why); count = 0; a = 0; b = 0; place = f .at; leaves = lent }
+outcome lent crowded = record { answer = 11; count = 0; a = 0; b = 0; place = 0; leaves = cleared lent }
+outcome lent (short b) = record { answer = 12; count = 0; a = 0; b = b; place = 0; leaves = cleared lent }
 outcome lent (can livable states a) = record {
   answer = 0;
   count = length livable;
   a = a;
   b = length states;
+  place = 0;
   leaves = record {
     table = over livable (zeros (lent .table));
     words = zeros (lent .words);
@@ -171,6 +200,7 @@ outcome lent (cannot states words) = record {
   count = length states;
   a = 0;
   b = 0;
+  place = 0;
   leaves = record {
     table = over states (zeros (lent .table));
     words = over words (zeros (lent .words));
@@ -185,10 +215,10 @@ pub record Judged (sheet : List ℕ) (lent : Lent) (o : Outcome) : Type 0 where
   pub found : Found sheet lent finding
   pub returned : o ≡ outcome lent finding
 
--- The judge's C form, which returns nothing else: the same, its four numbers in `out`, in the order answer, count, a, b. `out` is the
+-- The judge's C form, which returns nothing else: the same, its five numbers in `out`, in the order answer, count, a, b, place. `out` is the
 -- returned value and no lent slice: what stood in it before plays no part, and it is written on every answer, 1 to 10 too.
 pub record JudgedOut (sheet : List ℕ) (lent : Lent) (out : List ℕ) (leaves : Lent) : Type 0 where
   pub judged : Outcome
   pub promise : Judged sheet lent judged
-  pub written : out ≡ judged .answer ∷ judged .count ∷ judged .a ∷ judged .b ∷ []
+  pub written : out ≡ judged .answer ∷ judged .count ∷ judged .a ∷ judged .b ∷ judged .place ∷ []
   pub left : leaves ≡ judged .leaves
