@@ -18,6 +18,8 @@ pub mod SheetSystem
 pub mod Judging
 pub mod Promised
 pub mod Bytes
+pub mod FirstFault
+pub mod Placing
 pub mod Meetable
 pub mod Demands
 pub mod Sizes
