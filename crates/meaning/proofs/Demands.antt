@@ -3,7 +3,7 @@
 -- accept it, and demand 3. Assumes nothing.
 use mathlib.Core.Path.{_≡_, refl, sym, _∙_, ap, subst}
 use mathlib.Core.Logic.{_↔_, _⊎_, inl, inr}
-use mathlib.Core.Option.{none, some}
+use mathlib.Core.Option.{Option, none, some}
 use mathlib.Core.List.{List}
 use Prim.Native.Nat.{ℕ, _+_, _*_, _≤_, _<_}
 use native.Mathlib.Omega.{arith}
@@ -31,6 +31,19 @@ use Rattle.meaning.specs.Sheet.{
 }
 use Rattle.meaning.specs.Promises.{
   systemIn,
+  readNumber,
+  ReadSays,
+  placeOf,
+  Placed,
+  ReadPlaced,
+  Checked,
+  faulty,
+  accepted,
+  refused,
+  RunChecked,
+  StrikesChecked,
+  RunPlaced,
+  StrikesPlaced,
   Lent,
   Outcome,
   capacity,
@@ -297,18 +310,59 @@ pub answers-fault : {sheet : List ℕ} {lent : Lent} {o : Outcome} → Judged sh
     → o ≡ outcome lent (bad f)
 answers-fault j f e = judged-is j (bad f) e
 
--- An answer from 1 to 10 is given exactly when it is the number of the sheet's first fault.
-pub answers-fault-exactly : {sheet : List ℕ} {lent : Lent} {o : Outcome} → Judged sheet lent o → (n : ℕ) → 1 ≤ n → n ≤ 10
-    → (o .answer ≡ n) ↔ ((f : Fault) × (firstFault sheet ≡ some f) × (numberOf (f .why) ≡ n))
+-- An answer from 1 to 10 and a place are given exactly when they are the number and the place of the sheet's first fault.
+pub answers-fault-exactly : {sheet : List ℕ} {lent : Lent} {o : Outcome} → Judged sheet lent o → (n q : ℕ) → 1 ≤ n → n ≤ 10
+    → ((o .answer ≡ n) × (o .place ≡ q)) ↔ ((f : Fault) × (firstFault sheet ≡ some f) × (numberOf (f .why) ≡ n) × (f .at ≡ q))
 unfolding outcome
-answers-fault-exactly {sheet} {lent} {o} j n low high = (there, λ t. answer-is j (bad (t .0)) (t .1) ∙ t .2)
+answers-fault-exactly {sheet} {lent} {o} j n q low high =
+    (there, λ t. (answer-is j (bad (t .0)) (t .1) ∙ t .2, ap (λ (o : Outcome). o .place) (answers-fault j (t .0) (t .1)) ∙ t .3))
   where
-    there : o .answer ≡ n → (f : Fault) × (firstFault sheet ≡ some f) × (numberOf (f .why) ≡ n)
-    there e =
+    there : (o .answer ≡ n) × (o .place ≡ q) → (f : Fault) × (firstFault sheet ≡ some f) × (numberOf (f .why) ≡ n) × (f .at ≡ q)
+    there (e, at) =
         let number : outcome lent (j .finding) .answer ≡ n = answer-of j ∙ e in
         let (f, same) = bad-at-1-to-10 lent (j .finding) (omega arith) (omega arith) in
         let (found, is) = judged-as j same in
-        (f, found, sym (ap (λ (o : Outcome). o .answer) is) ∙ e)
+        (f, found, sym (ap (λ (o : Outcome). o .answer) is) ∙ e, sym (ap (λ (o : Outcome). o .place) is) ∙ at)
+
+-- On any answer but 1 to 10 the judge's place is 0.
+pub judged-place-0 : {sheet : List ℕ} {lent : Lent} {o : Outcome} → Judged sheet lent o → (1 ≤ o .answer → o .answer ≤ 10 → ⊥) → o .place ≡ 0
+unfolding outcome
+judged-place-0 {lent = lent} {o} j elsewhere = ap (λ (o : Outcome). o .place) (j .returned) ∙ by (j .finding) (answer-of j)
+  where
+    by : (x : Finding) → outcome lent x .answer ≡ o .answer → outcome lent x .place ≡ 0
+    by (bad f) e = absurd (elsewhere (omega (arith, e, fault-number (f .why))) (omega (arith, e, fault-number (f .why))))
+    by crowded e = refl
+    by (short b) e = refl
+    by (can l states a) e = refl
+    by (cannot states words) e = refl
+
+-- So is the reader's, and each checker's.
+pub read-place-0 : (sheet : List ℕ) {n place : ℕ} → ReadPlaced sheet n place → (1 ≤ n → n ≤ 10 → ⊥) → place ≡ 0
+unfolding ReadPlaced ReadSays readNumber placeOf
+read-place-0 sheet {n} {place} p elsewhere = p .where-met ∙ by (firstFault sheet) (p .number)
+  where
+    by : (o : Option Fault) → n ≡ readNumber o → placeOf o ≡ 0
+    by none e = refl
+    by (some f) e = absurd (elsewhere (omega (arith, e, fault-number (f .why))) (omega (arith, e, fault-number (f .why))))
+
+checked-place-0 : {sheet : List ℕ} {Ok : System → Type 0} {n place : ℕ} → Placed sheet (Checked sheet Ok) n place → (1 ≤ n → n ≤ 10 → ⊥)
+    → place ≡ 0
+unfolding placeOf
+checked-place-0 {sheet} {Ok} {n} p elsewhere = p .where-met ∙ by (p .number)
+  where
+    by : Checked sheet Ok n → placeOf (firstFault sheet) ≡ 0
+    by (faulty f e is) = absurd (elsewhere (omega (arith, is, fault-number (f .why))) (omega (arith, is, fault-number (f .why))))
+    by (accepted e ok is) = ap placeOf e
+    by (refused e never is) = ap placeOf e
+
+pub run-place-0 : (sheet states : List ℕ) (a : ℕ) {n place : ℕ} → RunPlaced sheet states a n place → (1 ≤ n → n ≤ 10 → ⊥) → place ≡ 0
+unfolding RunPlaced RunChecked
+run-place-0 sheet states a p elsewhere = checked-place-0 p elsewhere
+
+pub strikes-place-0 : (sheet states words : List ℕ) {n place : ℕ} → StrikesPlaced sheet states words n place → (1 ≤ n → n ≤ 10 → ⊥)
+    → place ≡ 0
+unfolding StrikesPlaced StrikesChecked
+strikes-place-0 sheet states words p elsewhere = checked-place-0 p elsewhere
 
 -- A bad sheet changes nothing lent.
 pub bad-sheet-changes-nothing : {sheet : List ℕ} {lent : Lent} {o : Outcome} → Judged sheet lent o → (f : Fault) → firstFault sheet ≡ some f

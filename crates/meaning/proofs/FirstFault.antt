@@ -108,7 +108,8 @@ Unfit s B from end notAscending i = Reached s B from end i × NamesLetter s i ×
 Unfit s B from end surplus i = ⊥
 
 -- The same with a later end.
-further : (s : List ℕ) (B : ℕ → Type 0) (from end later : ℕ) → end ≤ later → (w : Why) (i : ℕ) → Unfit s B from end w i → Unfit s B from later w i
+further : (s : List ℕ) (B : ℕ → Type 0) (from end later : ℕ) → end ≤ later
+    → (w : Why) (i : ℕ) → Unfit s B from end w i → Unfit s B from later w i
 further s B from end later le badSize i bad = bad
 further s B from end later le badVersion i bad = bad
 further s B from end later le badLength i bad = bad
@@ -198,7 +199,9 @@ literals-found s B from end few (b ∷ bs) at before low long stands start insid
     (λ u.
     let up = ascends s B at before (start (omega arith)) (subst (λ (x : ℕ). signedBelow before x ≡ true) here u) in
     literals-found s B from end few bs (suc at) b (omega arith) (omega arith)
-    (λ i p. stands-at (b ∷ bs) s at (suc i) (suc at + i) stands (omega arith) (omega arith)) (λ p. inr (inside (suc at) (omega arith) p, stands-at (b ∷ bs) s at 0 (suc at - 1) stands (omega arith) (omega arith))) (λ i p q. inside i (omega arith) q)
+    (λ i p. stands-at (b ∷ bs) s at (suc i) (suc at + i) stands (omega arith) (omega arith))
+    (λ p. inr (inside (suc at) (omega arith) p, stands-at (b ∷ bs) s at 0 (suc at - 1) stands (omega arith) (omega arith)))
+    (λ i p q. inside i (omega arith) q)
     (one-more s B from at earlier (named, up))))
 
 -- A list that begins at `at`, from its first literal on.

@@ -16,12 +16,17 @@ use Rattle.meaning.specs.Promises.{
   systemIn,
   readNumber,
   ReadSays,
+  placeOf,
+  Placed,
+  ReadPlaced,
   Checked,
   faulty,
   accepted,
   refused,
   RunChecked,
   StrikesChecked,
+  RunPlaced,
+  StrikesPlaced,
   stateBytes,
   wordBytes,
   Whole,
@@ -61,6 +66,15 @@ pub read-met : (sheet : List ℕ) → (n : ℕ) × ReadSays sheet n
 unfolding ReadSays
 read-met sheet = (readNumber (firstFault sheet), refl)
 
+-- A call that has a number has a place beside it.
+placed-met : (sheet : List ℕ) (Says : ℕ → Type 0) → (n : ℕ) × Says n → (n : ℕ) × (place : ℕ) × Placed sheet Says n place
+placed-met sheet Says (n, says) = (n, placeOf (firstFault sheet), record { number = says; where-met = refl })
+
+-- Every sheet has the reader's number and place.
+pub read-placed-met : (sheet : List ℕ) → (n : ℕ) × (place : ℕ) × ReadPlaced sheet n place
+unfolding ReadPlaced
+read-placed-met sheet = placed-met sheet (ReadSays sheet) (read-met sheet)
+
 -- ---- the checkers
 
 -- Every paper has a checker's number, where it can be decided whether it is accepted.
@@ -86,6 +100,15 @@ run-checked-met sheet states a = checked-met sheet _ (run-accepted? (finite-in s
 pub strikes-checked-met : (sheet states words : List ℕ) → (n : ℕ) × StrikesChecked sheet states words n
 unfolding StrikesChecked
 strikes-checked-met sheet states words = checked-met sheet _ (strikes-accepted? (finite-in sheet) states words)
+
+-- And each has a place beside it.
+pub run-placed-met : (sheet states : List ℕ) (a : ℕ) → (n : ℕ) × (place : ℕ) × RunPlaced sheet states a n place
+unfolding RunPlaced
+run-placed-met sheet states a = placed-met sheet (RunChecked sheet states a) (run-checked-met sheet states a)
+
+pub strikes-placed-met : (sheet states words : List ℕ) → (n : ℕ) × (place : ℕ) × StrikesPlaced sheet states words n place
+unfolding StrikesPlaced
+strikes-placed-met sheet states words = placed-met sheet (StrikesChecked sheet states words) (strikes-checked-met sheet states words)
 
 -- All bytes have the number of the firmware's run check.
 pub run-bytes-checked-met : (sheet states : List ℕ) (a : ℕ) → (n : ℕ) × RunBytesChecked sheet states a n

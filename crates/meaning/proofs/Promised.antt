@@ -11,12 +11,16 @@ use Rattle.meaning.specs.Sample.{RunPaper}
 use Rattle.meaning.specs.Sheet.{Fault, numberOf}
 use Rattle.meaning.specs.Promises.{
   ReadSays,
+  Placed,
+  ReadPlaced,
   Checked,
   faulty,
   accepted,
   refused,
   RunChecked,
   StrikesChecked,
+  RunPlaced,
+  StrikesPlaced,
   RunBytesChecked,
   StrikesBytesChecked,
   Lent,
@@ -43,6 +47,16 @@ use Rattle.meaning.proofs.Strikes.{strike-list-unique}
 pub read-unique : (sheet : List ℕ) {m n : ℕ} → ReadSays sheet m → ReadSays sheet n → m ≡ n
 unfolding ReadSays
 read-unique sheet p q = p ∙ sym q
+
+-- A place beside a number that is settled is settled too: the sheet's first fault says it.
+pub placed-unique : {sheet : List ℕ} {Says : ℕ → Type 0} {m p n q : ℕ} → ((m n : ℕ) → Says m → Says n → m ≡ n)
+    → Placed sheet Says m p → Placed sheet Says n q → (m ≡ n) × (p ≡ q)
+placed-unique one x y = (one _ _ (x .number) (y .number), x .where-met ∙ sym (y .where-met))
+
+-- The reader's promise leaves one number and one place.
+pub read-placed-unique : (sheet : List ℕ) {m p n q : ℕ} → ReadPlaced sheet m p → ReadPlaced sheet n q → (m ≡ n) × (p ≡ q)
+unfolding ReadPlaced
+read-placed-unique sheet x y = placed-unique (λ i j. read-unique sheet) x y
 
 -- ---- the checkers
 
@@ -76,6 +90,17 @@ pub strikes-checked-unique : (sheet states words : List ℕ) {m n : ℕ}
     → StrikesChecked sheet states words m → StrikesChecked sheet states words n → m ≡ n
 unfolding StrikesChecked
 strikes-checked-unique sheet states words p q = checked-unique p q
+
+-- Each leaves one place beside it.
+pub run-placed-unique : (sheet states : List ℕ) (a : ℕ) {m p n q : ℕ}
+    → RunPlaced sheet states a m p → RunPlaced sheet states a n q → (m ≡ n) × (p ≡ q)
+unfolding RunPlaced
+run-placed-unique sheet states a x y = placed-unique (λ i j. run-checked-unique sheet states a) x y
+
+pub strikes-placed-unique : (sheet states words : List ℕ) {m p n q : ℕ}
+    → StrikesPlaced sheet states words m p → StrikesPlaced sheet states words n q → (m ≡ n) × (p ≡ q)
+unfolding StrikesPlaced
+strikes-placed-unique sheet states words x y = placed-unique (λ i j. strikes-checked-unique sheet states words) x y
 
 -- The firmware's run check, on bytes, leaves one number.
 pub run-bytes-checked-unique : (sheet states : List ℕ) (a : ℕ) {m n : ℕ}
@@ -138,11 +163,11 @@ found-unique sheet lent (cannot s w) (cannot s′ w′) p q =
     let (states, words) = strike-list-unique (p .2) (q .2) in
     cc (states, words)
 
--- The judge's promise leaves one outcome: the four numbers and the four slices.
+-- The judge's promise leaves one outcome: the five numbers and the four slices.
 pub judged-unique : {sheet : List ℕ} {lent : Lent} {o o′ : Outcome} → Judged sheet lent o → Judged sheet lent o′ → o ≡ o′
 judged-unique {sheet} {lent} p q = p .returned ∙ found-unique sheet lent _ _ (p .found) (q .found) ∙ sym (q .returned)
 
--- So does naxxurbi_judge's: the four numbers in `out` and what the slices then hold.
+-- So does naxxurbi_judge's: the five numbers in `out` and what the slices then hold.
 pub judged-out-unique : {sheet : List ℕ} {lent : Lent} {out out′ : List ℕ} {after after′ : Lent}
     → JudgedOut sheet lent out after → JudgedOut sheet lent out′ after′ → (out ≡ out′) × (after ≡ after′)
 judged-out-unique p q =
