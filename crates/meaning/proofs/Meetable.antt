@@ -19,6 +19,7 @@ use Rattle.meaning.specs.Promises.{
   placeOf,
   Placed,
   ReadPlaced,
+  ReadOut,
   Checked,
   faulty,
   accepted,
@@ -74,6 +75,12 @@ placed-met sheet Says (n, says) = (n, placeOf (firstFault sheet), record { numbe
 pub read-placed-met : (sheet : List ℕ) → (n : ℕ) × (place : ℕ) × ReadPlaced sheet n place
 unfolding ReadPlaced
 read-placed-met sheet = placed-met sheet (ReadSays sheet) (read-met sheet)
+
+-- So it is with naxxurbi_read_place's.
+pub read-out-met : (sheet : List ℕ) → (out : List ℕ) × ReadOut sheet out
+read-out-met sheet =
+    let (n, place, promise) = read-placed-met sheet in
+    (n ∷ place ∷ [], record { number = n; place = place; promise = promise; written = refl })
 
 -- ---- the checkers
 

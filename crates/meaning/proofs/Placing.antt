@@ -13,7 +13,7 @@ use lib.Dec.{leb, eqb}
 use lib.ListN.{length}
 use borrow.Author.Tests.{le-leb, lt-leb, eq-eqb, ne-eqb}
 use Rattle.meaning.specs.Sheet.{Why, badSize, badVersion, badLength, badLetters, tooMany, recordMissing, badShape, badLiteral}
-use Rattle.meaning.specs.Sheet.{notAscending, surplus, Fault, unless, names, size, byte, lettersIn, firstFault}
+use Rattle.meaning.specs.Sheet.{notAscending, surplus, Fault, unless, mostBytes, names, size, byte, lettersIn, firstFault}
 use Rattle.meaning.specs.Faults.{SizeFits, VersionFits, LengthFits, LettersFit, LimitsFit, PromisesFit, GoodHeader, startOf, recordsIn}
 use Rattle.meaning.specs.Faults.{kindAt, Present, ShapeFits, NamesLetter, Ascends, GoodRecord, GoodUpTo}
 use Rattle.meaning.specs.Faults.{Comes, LiteralComes, Fault1, Fault2, Fault3, Fault4, Fault5, Fault6, Fault7, Fault8, Fault9, Fault10}
@@ -287,3 +287,22 @@ missing-within s q (j, comes, gone) = subst (λ (k : ℕ). k ≤ length s) (come
 -- Where its length byte is missing, it is the sheet's length.
 pub missing-byte-at-length : (s : List ℕ) (q : ℕ) → Fault6 s q → length s ≤ q → q ≡ length s
 missing-byte-at-length s q f past = omega (arith, missing-within s q f)
+
+-- ---- every place is small
+
+-- A fault's place is a byte of the sheet or the sheet's length, so at most 4,096.
+placed-within : (s : List ℕ) (w : Why) (q : ℕ) → FaultAt s w q → q ≤ mostBytes
+placed-within s badSize q f = omega (arith, f .1)
+placed-within s badVersion q f = omega (arith, f .2)
+placed-within s badLength q f = omega (arith, f .3)
+placed-within s badLetters q f = omega (arith, f .4)
+placed-within s tooMany q (sized, version, long, letters, inl (many, e)) = omega arith
+placed-within s tooMany q (sized, version, long, letters, inr (few, many, e)) = omega arith
+placed-within s recordMissing q f = omega (arith, missing-within s q f, f .1 .before .header .sized .1)
+placed-within s badShape q f = omega (arith, f .2, f .1 .before .header .sized .1)
+placed-within s badLiteral i f = omega (arith, f .2 .literal .1, f .2 .present, f .2 .comes .before .header .sized .1)
+placed-within s notAscending i f = omega (arith, f .2 .literal .1, f .2 .present, f .2 .comes .before .header .sized .1)
+placed-within s surplus q f = omega (arith, f .2, f .0 .header .sized .1)
+
+pub place-within : (s : List ℕ) {f : Fault} → firstFault s ≡ some f → f .at ≤ mostBytes
+place-within s {f} e = placed-within s (f .why) (f .at) (first-fault-found s .bad f e)

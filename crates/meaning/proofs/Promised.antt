@@ -13,6 +13,7 @@ use Rattle.meaning.specs.Promises.{
   ReadSays,
   Placed,
   ReadPlaced,
+  ReadOut,
   Checked,
   faulty,
   accepted,
@@ -57,6 +58,12 @@ placed-unique one x y = (one _ _ (x .number) (y .number), x .where-met ∙ sym (
 pub read-placed-unique : (sheet : List ℕ) {m p n q : ℕ} → ReadPlaced sheet m p → ReadPlaced sheet n q → (m ≡ n) × (p ≡ q)
 unfolding ReadPlaced
 read-placed-unique sheet x y = placed-unique (λ i j. read-unique sheet) x y
+
+-- So does naxxurbi_read_place's: the two numbers in `out`.
+pub read-out-unique : {sheet out out′ : List ℕ} → ReadOut sheet out → ReadOut sheet out′ → out ≡ out′
+read-out-unique {sheet} x y =
+    let same = read-placed-unique sheet (x .promise) (y .promise) in
+    x .written ∙ ap (λ (n : ℕ). n ∷ x .place ∷ []) (same .0) ∙ ap (λ (q : ℕ). y .number ∷ q ∷ []) (same .1) ∙ sym (y .written)
 
 -- ---- the checkers
 

@@ -44,6 +44,14 @@ unfoldable pub ReadPlaced : (sheet : List ℕ) (n place : ℕ) → Type 0
 unfolding ReadSays
 ReadPlaced sheet n place = Placed sheet (ReadSays sheet) n place
 
+-- The reader's C form with the place, which returns nothing else: number and place in `out`, in this order. What stood in `out` before plays
+-- no part, and it is written for every sheet.
+pub record ReadOut (sheet out : List ℕ) : Type 0 where
+  pub number : ℕ
+  pub place : ℕ
+  pub promise : ReadPlaced sheet number place
+  pub written : out ≡ number ∷ place ∷ []
+
 -- ---- the checkers: "they change nothing" (they are lent nothing that can be changed). On numbers they return a number and, since order 1,
 -- a place; the firmware's calls return the number alone.
 

@@ -1,5 +1,5 @@
 -- What a good sheet is, for the crates above: laws of the meaning (crates/meaning/specs/Sheet.antt), none of the reader's code.
---   answers       good-answer, bad-answer: what a reader's number says of the first fault; answer-number-unique
+--   answers       told: good, or this fault (Faulty); read-placed: the same in numbers; read-answer-unique
 --   the sheet     Header, good-header: lengths, counts, and that each section reads without fault to the sheet's end
 --   a section     record-good and limit-record .. promise-record (the i-th record), after-more, after-within, length-bodies, bodies-at
 --   a record      limit-good, first-good, step-good, promise-good: its shape and its lists; names-letter, not-least: what a literal names
@@ -15,80 +15,91 @@ use lib.Dec.{leb, eqb}
 use lib.ListN.{length, getD, drop, length-drop, length-map}
 use lib.Seq.{length-take-le, getD-take, getD-drop}
 use borrow.Author.Tests.{leb-true, eqb-true}
-use Rattle.meaning.specs.Promises.{ReadSays, readNumber}
+use Rattle.meaning.specs.Promises.{ReadSays, readNumber, placeOf, ReadPlaced, ReadOut}
 use Rattle.meaning.specs.Sheet.{Why, badSize, badVersion, badLength, badLetters, tooMany, recordMissing, badShape, badLiteral}
 use Rattle.meaning.specs.Sheet.{notAscending, surplus, numberOf, Fault, unless, _then_, positive, size, signedBelow, names}
 use Rattle.meaning.specs.Sheet.{literalsFault, listFault, recordFault, recordsFault, firstFault, Kind, aLimit, aFirst, aStep, aPromise}
 use Rattle.meaning.specs.Sheet.{Limit, StepRule, limitOf, stepOf, promiseOf, byte, bodyAt, nextAt, afterAt, bodies}
 use Rattle.meaning.specs.Sheet.{lettersIn, firstsAt, stepsAt, promisesAt, endAt, decode}
-use Rattle.reader.specs.declared.Why.the-variants.{BadSize, BadVersion, BadLength, BadLetters, TooMany, RecordMissing}
-use Rattle.reader.specs.declared.Why.the-variants.{BadShape, BadLiteral, NotAscending, Surplus}
+use Rattle.meaning.proofs.Placing.{place-within}
+use Rattle.reader.specs.declared.Fault as F
 use Rattle.reader.specs.declared.Answer.{Answer}
 use Rattle.reader.specs.declared.Answer.the-variants.{Good, Bad}
-use Rattle.reader.specs.Answer.{answerNumber}
+use Rattle.reader.specs.Answer.{whyOf, faultOf, whyNumber, answerNumber, answerPlace, answerOf}
 
 -- ---- answers
 
-no-number-zero : (w : Why) → numberOf w ≡ 0 → ⊥
-no-number-zero badSize e = omega arith
-no-number-zero badVersion e = omega arith
-no-number-zero badLength e = omega arith
-no-number-zero badLetters e = omega arith
-no-number-zero tooMany e = omega arith
-no-number-zero recordMissing e = omega arith
-no-number-zero badShape e = omega arith
-no-number-zero badLiteral e = omega arith
-no-number-zero notAscending e = omega arith
-no-number-zero surplus e = omega arith
+-- A fault's number is that of the meaning's.
+pub number-kept : (w : Why) → whyNumber (whyOf w) ≡ numberOf w
+number-kept badSize = refl
+number-kept badVersion = refl
+number-kept badLength = refl
+number-kept badLetters = refl
+number-kept tooMany = refl
+number-kept recordMissing = refl
+number-kept badShape = refl
+number-kept badLiteral = refl
+number-kept notAscending = refl
+number-kept surplus = refl
 
-by-number : (o : Option Fault) (n : ℕ) → n ≡ readNumber o → n ≡ 0 → o ≡ none
-unfolding readNumber
-by-number none n e z = refl
-by-number (some f) n e z = absurd (no-number-zero (f .why) (sym e ∙ z))
-
--- The answer 0 says that the sheet is good.
-pub good-answer : (s : List ℕ) (n : ℕ) → ReadSays s n → n ≡ 0 → firstFault s ≡ none
-unfolding ReadSays
-good-answer s n e z = by-number (firstFault s) n e z
-
--- a bad sheet's first fault, and that n is its number
-pub record Faulty (s : List ℕ) (n : ℕ) : Type 0 where
+-- f is the sheet's first fault: its number, its place, and that the place is small
+pub record Faulty (s : List ℕ) (f : F.Fault) : Type 0 where
   pub fault : Fault
   pub first : firstFault s ≡ some fault
-  pub number : n ≡ numberOf (fault .why)
+  pub number : whyNumber (f .why) ≡ numberOf (fault .why)
+  pub place : f .at ≡ fault .at
+  pub small : f .at ≤ 4096
 
--- Any other answer is the number of the sheet's first fault.
-pub bad-answer : (s : List ℕ) (n : ℕ) → ReadSays s n → (n ≡ 0 → ⊥) → Faulty s n
-unfolding ReadSays readNumber
-bad-answer s n e nz = by (firstFault s) refl
+-- what an answer says of a sheet: it is good, or this is its first fault
+abbrev pub Told : List ℕ → Answer → Type 0
+Told s Good = firstFault s ≡ none
+Told s (Bad f) = Faulty s f
+
+-- The reader's answer r, known to be x, says so: good, or this fault.
+pub told : (s : List ℕ) {r x : Answer} → r ≡ answerOf (firstFault s) → r ≡ x → Told s x
+told s {r} e same = subst (Told s) (sym e ∙ same) (by (firstFault s) refl)
   where
-    by : (o : Option Fault) → firstFault s ≡ o → Faulty s n
-    by none q = absurd (nz (e ∙ ap readNumber q))
-    by (some f) q = record { fault = f; first = q; number = e ∙ ap readNumber q }
+    by : (o : Option Fault) → firstFault s ≡ o → Told s (answerOf (firstFault s))
+    by none q = subst (λ (o : Option Fault). Told s (answerOf o)) (sym q) q
+    by (some f) q =
+        let small = place-within s q in
+        let faulty : Faulty s (faultOf f) = record { fault = f; first = q; number = number-kept (f .why); place = refl; small = small } in
+        subst (λ (o : Option Fault). Told s (answerOf o)) (sym q) faulty
 
--- every answer, at the place of its number
-answers : List Answer
-answers =
-    Good ∷ Bad BadSize ∷ Bad BadVersion ∷ Bad BadLength ∷ Bad BadLetters ∷ Bad TooMany ∷ Bad RecordMissing ∷ Bad BadShape
-    ∷ Bad BadLiteral ∷ Bad NotAscending ∷ Bad Surplus ∷ []
+placed-good : (s : List ℕ) → firstFault s ≡ none → ReadPlaced s 0 0
+unfolding ReadPlaced ReadSays readNumber placeOf
+placed-good s good = record { number = ap readNumber (sym good); where-met = ap placeOf (sym good) }
 
-found-again : (a : Answer) → getD answers (answerNumber a) Good ≡ a
-unfolding answers
-found-again Good = refl
-found-again (Bad BadSize) = refl
-found-again (Bad BadVersion) = refl
-found-again (Bad BadLength) = refl
-found-again (Bad BadLetters) = refl
-found-again (Bad TooMany) = refl
-found-again (Bad RecordMissing) = refl
-found-again (Bad BadShape) = refl
-found-again (Bad BadLiteral) = refl
-found-again (Bad NotAscending) = refl
-found-again (Bad Surplus) = refl
+placed-bad : (s : List ℕ) {f : F.Fault} → Faulty s f → ReadPlaced s (whyNumber (f .why)) (f .at)
+unfolding ReadPlaced ReadSays readNumber placeOf
+placed-bad s bad =
+    record { number = bad .number ∙ ap readNumber (sym (bad .first)); where-met = bad .place ∙ ap placeOf (sym (bad .first)) }
 
--- Two answers with one number are the same answer.
-pub answer-number-unique : (a b : Answer) → answerNumber a ≡ answerNumber b → a ≡ b
-answer-number-unique a b e = sym (found-again a) ∙ ap (λ (n : ℕ). getD answers n Good) e ∙ found-again b
+-- In numbers: the reader's number and place.
+pub read-placed : (s : List ℕ) {r x : Answer} → r ≡ answerOf (firstFault s) → r ≡ x → ReadPlaced s (answerNumber x) (answerPlace x)
+read-placed s {r} {x} e same = by x (told s e same)
+  where
+    by : (x : Answer) → Told s x → ReadPlaced s (answerNumber x) (answerPlace x)
+    by Good good = placed-good s good
+    by (Bad f) bad = placed-bad s bad
+
+-- The number alone, and both numbers as the C form hands them over; n is the answer's number.
+pub read-says : (s : List ℕ) {r x : Answer} {n : ℕ} → r ≡ answerOf (firstFault s) → r ≡ x → n ≡ answerNumber x → ReadSays s n
+unfolding ReadPlaced
+read-says s e same is = subst (ReadSays s) (sym is) (read-placed s e same .number)
+
+pub read-out : (s : List ℕ) {r x : Answer} {n : ℕ} → r ≡ answerOf (firstFault s) → r ≡ x → n ≡ answerNumber x
+    → ReadOut s (n ∷ answerPlace x ∷ [])
+read-out s {x = x} e same is = record {
+  number = answerNumber x;
+  place = answerPlace x;
+  promise = read-placed s e same;
+  written = ap (λ (k : ℕ). k ∷ answerPlace x ∷ []) is;
+}
+
+-- Two answers that meet the reader's promise are the same answer.
+pub read-answer-unique : (s : List ℕ) {r r′ : Answer} → r ≡ answerOf (firstFault s) → r′ ≡ answerOf (firstFault s) → r ≡ r′
+read-answer-unique s e e′ = e ∙ sym e′
 
 -- ---- checks in a row
 

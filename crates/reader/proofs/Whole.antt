@@ -9,16 +9,15 @@ use lib.Dec.{leb, eqb}
 use lib.ListN.{length}
 use borrow.Author.Tests.{le-leb, lt-leb}
 use native.Mathlib.Omega.{arith}
-use Rattle.meaning.specs.Promises.{ReadSays, readNumber}
-use Rattle.meaning.specs.Sheet as Sheet
-use Rattle.meaning.specs.Sheet.{badSize, badVersion, badLength, badLetters, _then_, Fault, numberOf, byte, lettersIn, firstFault}
+use Rattle.meaning.specs.Sheet.{badSize, badVersion, badLength, badLetters, _then_, Fault, byte, lettersIn, firstFault}
 use Rattle.reader.specs.declared.Why.the-variants.{BadSize, BadVersion, BadLength, BadLetters, TooMany}
 use Rattle.reader.specs.declared.Fault as F
 use Rattle.reader.specs.declared.cursor.Cursor.{Cursor}
 use Rattle.reader.specs.declared.cursor.Step.{Step}
 use Rattle.reader.specs.declared.cursor.Step.the-variants.{Moved, Refused}
 use Rattle.meaning.specs.Sheet.{Kind, aLimit, aFirst, aStep, aPromise, recordsFault, firstsAt, stepsAt, promisesAt, endAt}
-use Rattle.reader.specs.Answer.{whyOf, faultOf, whyNumber, stepTo, recordsStep, onwards, Within, endStep}
+use Rattle.reader.specs.declared.Answer.the-variants.{Good, Bad}
+use Rattle.reader.specs.Answer.{faultOf, answerOf, stepTo, recordsStep, onwards, Within, endStep}
 use Rattle.reader.specs.Place.{SheetAsks}
 use Rattle.reader.proofs.Sections.{onwards-records, onwards-end, records-within, onwards-within}
 use Rattle.reader.proofs.Reading.{moved, refused}
@@ -162,27 +161,14 @@ header-refused s q = refused 8 (endAt s) (headerFault s) (sectionsFault s) q ∙
 
 -- ---- the answer
 
-number-kept : (w : Sheet.Why) → whyNumber (whyOf w) ≡ numberOf w
-number-kept Sheet.badSize = refl
-number-kept Sheet.badVersion = refl
-number-kept Sheet.badLength = refl
-number-kept Sheet.badLetters = refl
-number-kept Sheet.tooMany = refl
-number-kept Sheet.recordMissing = refl
-number-kept Sheet.badShape = refl
-number-kept Sheet.badLiteral = refl
-number-kept Sheet.notAscending = refl
-number-kept Sheet.surplus = refl
+-- A walk to the end answers good; a refused one answers its fault.
+pub answers-good : (s : List ℕ) {c : Cursor} → stepTo (endAt s) (firstFault s) ≡ Moved c → Good ≡ answerOf (firstFault s)
+answers-good s q = ap answerOf (sym (moved (endAt s) (firstFault s) q .0))
 
-pub says-good : (s : List ℕ) {c : Cursor} → stepTo (endAt s) (firstFault s) ≡ Moved c → ReadSays s 0
-unfolding ReadSays readNumber
-says-good s q = ap readNumber (sym (moved (endAt s) (firstFault s) q .0))
-
-pub says-bad : (s : List ℕ) {f : F.Fault} → stepTo (endAt s) (firstFault s) ≡ Refused f → ReadSays s (whyNumber (f .why))
-unfolding ReadSays readNumber
-says-bad s {f} q = by (firstFault s) refl
+pub answers-bad : (s : List ℕ) {f : F.Fault} → stepTo (endAt s) (firstFault s) ≡ Refused f → Bad f ≡ answerOf (firstFault s)
+answers-bad s {f} q = by (firstFault s) refl
   where
-    by : (o : Option Fault) → firstFault s ≡ o → whyNumber (f .why) ≡ readNumber (firstFault s)
+    by : (o : Option Fault) → firstFault s ≡ o → Bad f ≡ answerOf (firstFault s)
     by none e =
         let r : stepTo (endAt s) none ≡ Refused f = ap (stepTo (endAt s)) (sym e) ∙ q in
         let z : _≡_ {A = ℕ} 0 1 = cc in
@@ -190,4 +176,4 @@ says-bad s {f} q = by (firstFault s) refl
     by (some g) e =
         let r : Refused (faultOf g) ≡ Refused f = ap (stepTo (endAt s)) (sym e) ∙ q in
         let same : faultOf g ≡ f = cc in
-        ap (λ (x : F.Fault). whyNumber (x .why)) (sym same) ∙ number-kept (g .why) ∙ ap readNumber (sym e)
+        ap Bad (sym same) ∙ ap answerOf (sym e)

@@ -43,9 +43,14 @@ whyNumber BadLiteral = 8
 whyNumber NotAscending = 9
 whyNumber Surplus = 10
 
+-- and order 1's place, 0 for a good sheet
 abbrev pub answerNumber : Answer → ℕ
 answerNumber Good = 0
-answerNumber (Bad why) = whyNumber why
+answerNumber (Bad f) = whyNumber (f .why)
+
+abbrev pub answerPlace : Answer → ℕ
+answerPlace Good = 0
+answerPlace (Bad f) = f .at
 
 abbrev pub kindOf : Kind → Sheet.Kind
 kindOf Limit = Sheet.aLimit
@@ -55,6 +60,11 @@ kindOf Promise = Sheet.aPromise
 
 abbrev pub faultOf : Sheet.Fault → Fault
 faultOf f = record { why = whyOf (f .why); at = f .at }
+
+-- what reading a sheet answers for its first fault
+abbrev pub answerOf : Option Sheet.Fault → Answer
+answerOf none = Good
+answerOf (some f) = Bad (faultOf f)
 
 abbrev pub refusal : Why → ℕ → Step
 refusal why at = Refused (record { why = why; at = at })

@@ -1,10 +1,11 @@
-// The sheet reader: whether a sheet is good, or the number of its first fault. One pass, front to back; nothing is copied and nothing
-// changed. What a caller may rely on is `ReadSays` of the meaning; what follows for a good sheet is in proofs/Good.antt.
+// The sheet reader: whether a sheet is good, or its first fault and the byte where it stands. One pass, front to back; nothing is copied and
+// nothing changed. What a caller may rely on is the meaning's `firstFault` itself; in numbers it is `ReadPlaced` (`read-placed`), and what
+// follows for a good sheet is in proofs/Good.antt.
 use cursor::Step;
 ghost use mathlib.Core.Path.{_≡_};
 ghost use Rattle.meaning.specs.Sheet.{endAt, firstFault};
-ghost use Rattle.meaning.specs.Promises.{ReadSays};
-ghost use Rattle.reader.specs.Answer.{stepTo, whyNumber, answerNumber};
+ghost use Rattle.meaning.specs.Promises.{ReadSays, ReadOut};
+ghost use Rattle.reader.specs.Answer.{stepTo, whyNumber, answerOf};
 
 pub mod cursor;
 pub mod header;
@@ -25,7 +26,7 @@ pub enum Why {
     Surplus,
 }
 
-// A fault and the byte where it was met. Only its number is public.
+// A fault and the byte where it was met: its place.
 pub struct Fault {
     pub why: Why,
     pub at: usize,
@@ -39,10 +40,10 @@ pub enum Kind {
     Promise,
 }
 
-// What reading a sheet says: it is good, or what its first fault is.
+// What reading a sheet says: it is good, or its first fault with its place.
 pub enum Answer {
     Good,
-    Bad(Why),
+    Bad(Fault),
 }
 
 // The sheet's first fault, or a cursor at its end.
@@ -55,16 +56,13 @@ fn walk(sheet: &[u8]) -> Step
     }
 }
 
-// Whether a sheet is good, or what its first fault is.
+// Whether a sheet is good, or what its first fault is and where.
 pub fn read(sheet: &[u8]) -> Answer
-    ensures { λ r. ⌜ ReadSays (now (sheet .entry)) (answerNumber r) ⌝ }
+    ensures { λ r. ⌜ r ≡ answerOf (firstFault (now (sheet .entry))) ⌝ }
 {
     match walk(sheet) {
         Step::Moved(_) => Answer::Good,
-        Step::Refused(f) => {
-            let why = f.why;
-            Answer::Bad(why)
-        }
+        Step::Refused(f) => Answer::Bad(f),
     }
 }
 
@@ -86,13 +84,33 @@ pub fn number(why: Why) -> u32
     }
 }
 
-// The same for callers in C: 0 for a good sheet, or the number of its first fault.
+// The number for callers in C: 0 for a good sheet, or that of its first fault.
 #[no_mangle]
 pub extern "C" fn naxxurbi_read(sheet: &[u8]) -> u32
     ensures { λ r. ⌜ ReadSays (now (sheet .entry)) r ⌝ }
 {
     match read(sheet) {
         Answer::Good => 0,
-        Answer::Bad(why) => number(why),
+        Answer::Bad(f) => {
+            let why = f.why;
+            number(why)
+        }
+    }
+}
+
+// The same with the place: number and place go into `out`, in this order, whatever the sheet. The place of a good sheet is 0.
+#[no_mangle]
+pub extern "C" fn naxxurbi_read_place(sheet: &[u8], out: &mut [u32; 2])
+    ensures { λ _. ⌜ ReadOut (now (sheet .entry)) (now (out .exit)) ⌝ }
+{
+    match read(sheet) {
+        Answer::Good => {
+            *out = [0, 0];
+        }
+        Answer::Bad(f) => {
+            let why = f.why;
+            let place = f.at as u32;
+            *out = [number(why), place];
+        }
     }
 }
