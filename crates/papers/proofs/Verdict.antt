@@ -1,20 +1,23 @@
--- How a checker comes to its number: what a test says (says-yes, says-no, says-test, and of two tests in turn), the reader's number first
--- (read-good, read-bad), then 0 or 14 for the paper (accepts, refuses), and that what a checker accepts may be said in another way
+-- How a checker comes to its number and its place: what a test says (says-yes, says-no, says-test, and of two tests in turn), the sheet's fault
+-- first (placed-faulty, placed-good), then 0 or 14 for the paper (accepts, refuses), and that what a checker accepts may be said in another way
 -- (checked-as). Assumes nothing.
 use mathlib.Core.Path.{_≡_, refl, sym, _∙_, ap, subst}
 use mathlib.Core.Logic.{_↔_}
 use mathlib.Core.Bool.{Bool, true, false}
-use mathlib.Core.Option.{Option, none, some}
+use mathlib.Core.Option.{none}
 use mathlib.Core.List.{List}
 use Prim.Native.Nat.{ℕ}
 use native.Mathlib.Omega.{arith}
 use lib.Dec.{T}
 use Rattle.meaning.specs.System.{System}
-use Rattle.meaning.specs.Sheet.{Fault, firstFault, decode}
+use Rattle.meaning.specs.Sheet.{firstFault, decode}
 use Rattle.meaning.specs.Rules.{systemOf}
-use Rattle.meaning.specs.Promises.{ReadSays, readNumber, systemIn, Checked, faulty, accepted, refused}
+use Rattle.meaning.specs.Promises.{placeOf, Placed, systemIn, Checked, faulty, accepted, refused}
 use Rattle.meaning.proofs.Demands.{fault-number}
 use Rattle.meaning.proofs.Promised.{bad-not-good}
+use Rattle.reader.specs.declared.Fault as F
+use Rattle.reader.specs.Answer.{whyNumber}
+use Rattle.reader.proofs.Good.{Faulty}
 use Rattle.rules.proofs.Facts.{passed, passes}
 use Rattle.papers.specs.Paper.{Says}
 
@@ -41,23 +44,19 @@ says-as there back s = record { yes = λ t. there (s .yes t); never = λ f q. s 
 
 -- ---- the sheet first
 
--- The reader's 0 is that of a good sheet.
-pub read-good : (sheet : List ℕ) {n : ℕ} → ReadSays sheet n → n ≡ 0 → firstFault sheet ≡ none
-unfolding ReadSays readNumber
-read-good sheet {n} says zero-read = by (firstFault sheet) refl
-  where
-    by : (o : Option Fault) → firstFault sheet ≡ o → firstFault sheet ≡ none
-    by none e = e
-    by (some f) e = absurd (omega (arith, sym zero-read ∙ says ∙ ap readNumber e, fault-number (f .why)))
+-- A bad sheet's number and place are the checker's.
+pub placed-faulty : (sheet : List ℕ) {Ok : System → Type 0} {f : F.Fault} {n place : ℕ} → Faulty sheet f → n ≡ whyNumber (f .why) → place ≡ f .at
+    → Placed sheet (Checked sheet Ok) n place
+unfolding placeOf
+placed-faulty sheet bad number place = record {
+  number = faulty (bad .fault) (bad .first) (number ∙ bad .number);
+  where-met = place ∙ bad .place ∙ ap placeOf (sym (bad .first));
+}
 
--- Any other number of the reader is the checker's.
-pub read-bad : (sheet : List ℕ) {Ok : System → Type 0} {n : ℕ} → ReadSays sheet n → (n ≡ 0 → ⊥) → Checked sheet Ok n
-unfolding ReadSays readNumber
-read-bad sheet {Ok} {n} says more = by (firstFault sheet) refl
-  where
-    by : (o : Option Fault) → firstFault sheet ≡ o → Checked sheet Ok n
-    by none e = absurd (more (says ∙ ap readNumber e))
-    by (some f) e = faulty f e (says ∙ ap readNumber e)
+-- A good sheet has no place.
+pub placed-good : (sheet : List ℕ) {Ok : System → Type 0} {n : ℕ} → firstFault sheet ≡ none → Checked sheet Ok n → Placed sheet (Checked sheet Ok) n 0
+unfolding placeOf
+placed-good sheet good checked = record { number = checked; where-met = ap placeOf (sym good) }
 
 -- ---- then the paper, judged in a system that is the sheet's
 

@@ -4,6 +4,8 @@ ghost use mathlib.Core.Path.{_≡_};
 ghost use Prim.Native.Nat.{_+_, _*_, _<_};
 ghost use Rattle.papers.specs.Paper.{numberAt, countOf};
 
+pub mod answer;
+
 // How many numbers a part has.
 pub fn count_of(bytes: &[u8], numbers: &[u32]) -> usize
     ensures { λ r. ⌜ r ≡ countOf (now (bytes .entry)) (now (numbers .entry)) ⌝ }

@@ -1,14 +1,18 @@
-// Runs the reader on document 01's border cases and writes for each its name and the reader's number. Every fault stands once at its first
-// and once at its last possible place; where a sheet has two faults, reading order decides.
+// Runs the reader on document 01's border cases and writes for each its name, the reader's number and the fault's place. Every fault stands
+// once at its first and once at its last possible place; where a sheet has two faults, reading order decides.
 use libc::STDOUT_FILENO;
 
 mod built;
 
-// Prints a case's name and the reader's number for its sheet.
+// Prints a case's name, the reader's number for its sheet, and the place.
 pub fn show(name: &[u8], sheet: &[u8]) {
+    let mut out = [0u32; 2];
+    reader::naxxurbi_read_place(sheet, &mut out);
     io::write_all(STDOUT_FILENO, name);
     io::write_all(STDOUT_FILENO, b": ");
-    io::print_decimal(STDOUT_FILENO, reader::naxxurbi_read(sheet) as u64);
+    io::print_decimal(STDOUT_FILENO, out[0] as u64);
+    io::write_all(STDOUT_FILENO, b" at ");
+    io::print_decimal(STDOUT_FILENO, out[1] as u64);
     io::write_all(STDOUT_FILENO, b"\n");
 }
 

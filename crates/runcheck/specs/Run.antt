@@ -1,5 +1,5 @@
 -- The run checker's conditions one at a time, over any system, and its promise for a paper of which one part stands in bytes and the rest
--- in numbers. The two public calls promise what the meaning says (RunChecked, RunBytesChecked). Assumes nothing.
+-- in numbers. The two public calls promise what the meaning says (RunPlaced, RunBytesChecked). Assumes nothing.
 use mathlib.Core.List.{List}
 use Prim.Native.Nat.{ℕ, suc, _≤_, _<_}
 use lib.ListN.{length, getD}

@@ -2,41 +2,62 @@
 // It stands on the sheet reader and the compiled rules alone, and changes nothing.
 //
 // The theorem: each call returns the fault's number, 1 to 10, of a bad sheet; else 0 exactly if document 01 accepts the paper, else 14.
-// (`check_run` and `check_run_bytes` below; what 0 then means is said in proofs/Exactly.antt.)
+// On numbers it returns the fault's place as well, 0 on the other answers. (`check_run` and `check_run_bytes` below;
+// what 0 then means is said in proofs/Exactly.antt.)
+use papers::answer::Verdict;
 use papers::count_of;
 use papers::number_at;
+use reader::Answer;
 ghost use mathlib.Core.Path.{_≡_};
+ghost use mathlib.Core.Option.{none};
 ghost use Prim.Native.Nat.{_≤_, _<_};
+ghost use Rattle.meaning.specs.Sheet.{firstFault};
 ghost use Rattle.meaning.specs.Papers.{RunAccepted};
-ghost use Rattle.meaning.specs.Promises.{RunChecked, RunBytesChecked};
+ghost use Rattle.meaning.specs.Promises.{Placed, RunPlaced, RunBytesChecked};
 ghost use Rattle.papers.specs.Paper.{paper, countOf, Says};
 ghost use Rattle.rules.specs.Book.{Shaped, bookSystem};
 ghost use Rattle.runcheck.specs.Run.{MovesOn, KeptFrom, AllKept, PaperChecked};
 
 // Checks a run: these states, read to the last and then on from place a, for ever. 0 exactly if it obeys the sheet, 1 to 10 for a bad
-// sheet, else 14.
-pub fn check_run(sheet: &[u8], states: &[u32], a: u32) -> u32
-    ensures { λ r. ⌜ RunChecked (now (sheet .entry)) (now (states .entry)) a r ⌝ }
+// sheet and the place of its fault, else 14.
+pub fn check_run(sheet: &[u8], states: &[u32], a: u32) -> Verdict
+    ensures { λ r. ⌜ RunPlaced (now (sheet .entry)) (now (states .entry)) a (r .answer) (r .place) ⌝ }
 {
     check(sheet, &sheet[..0], states, a)
 }
 
-// The same with the states as bytes, four each, big-endian; a length that is no multiple of four gets 14.
+// The same with the states as bytes, four each, big-endian, and without the place; a length that is no multiple of four gets 14.
 pub fn check_run_bytes(sheet: &[u8], states: &[u8], a: u32) -> u32
     ensures { λ r. ⌜ RunBytesChecked (now (sheet .entry)) (now (states .entry)) a r ⌝ }
 {
     let none = [0u32; 1];
-    check(sheet, states, &none[..0], a)
+    let verdict = check(sheet, states, &none[..0], a);
+    verdict.answer
 }
 
-// The sheet first, then the bytes' length, then the run.
-fn check(sheet: &[u8], bytes: &[u8], numbers: &[u32], a: u32) -> u32
+// The sheet first, then the paper.
+fn check(sheet: &[u8], bytes: &[u8], numbers: &[u32], a: u32) -> Verdict
+    ensures { λ r. ⌜ Placed (now (sheet .entry)) (PaperChecked (now (sheet .entry)) (now (bytes .entry)) (now (numbers .entry)) a) (r .answer) (r .place) ⌝ }
+{
+    match reader::read(sheet) {
+        Answer::Good => {
+            let answer = check_paper(sheet, bytes, numbers, a);
+            Verdict { answer, place: 0 }
+        }
+        Answer::Bad(f) => {
+            let why = f.why;
+            let answer = reader::number(why);
+            let place = f.at as u32;
+            Verdict { answer, place }
+        }
+    }
+}
+
+// For a good sheet: the bytes' length, then the run.
+fn check_paper(sheet: &[u8], bytes: &[u8], numbers: &[u32], a: u32) -> u32
+    requires { ⌜ firstFault (now sheet) ≡ none ⌝ }
     ensures { λ r. ⌜ PaperChecked (now (sheet .entry)) (now (bytes .entry)) (now (numbers .entry)) a r ⌝ }
 {
-    let fault = reader::naxxurbi_read(sheet);
-    if fault != 0 {
-        return fault;
-    }
     if bytes.len() % 4 != 0 {
         return 14;
     }

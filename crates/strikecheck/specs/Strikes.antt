@@ -1,5 +1,5 @@
 -- The strike checker's conditions one at a time, over any system (more of them in crate covers, specs/Asks.antt), and its promise for a
--- paper whose parts stand in bytes or in numbers. The two public calls promise what the meaning says (StrikesChecked,
+-- paper whose parts stand in bytes or in numbers. The two public calls promise what the meaning says (StrikesPlaced,
 -- StrikesBytesChecked). Assumes nothing.
 use mathlib.Core.Path.{_≡_}
 use mathlib.Core.Bool.{Bool, true}

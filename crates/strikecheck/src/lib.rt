@@ -2,7 +2,8 @@
 // the compiled rules and the counting walk alone, and changes nothing.
 //
 // The theorem: each call returns the fault's number, 1 to 10, of a bad sheet; else 0 exactly if document 01 accepts the paper, else 14.
-// (`check_strikes` and `check_strikes_bytes` below; that 0 leaves no obeying run is said in proofs/Exactly.antt.)
+// On numbers it returns the fault's place as well, 0 on the other answers. (`check_strikes` and `check_strikes_bytes` below;
+// that 0 leaves no obeying run is said in proofs/Exactly.antt.)
 //
 // It does not search, it counts: words never fall, so "listed with a smaller word" is "among the first m entries"; and all next states are
 // among them exactly if there are as many next states as different ones among these entries. A state that may move only where one
@@ -11,13 +12,17 @@ use covers::firsts_listed;
 use covers::nexts_within;
 use marks::mark;
 use marks::met;
+use papers::answer::Verdict;
 use papers::count_of;
 use papers::number_at;
+use reader::Answer;
 ghost use mathlib.Core.Path.{_≡_};
 ghost use mathlib.Core.Bool.{true};
+ghost use mathlib.Core.Option.{none};
 ghost use Prim.Native.Nat.{_<_, min};
 ghost use lib.ListN.{length};
-ghost use Rattle.meaning.specs.Promises.{StrikesChecked, StrikesBytesChecked};
+ghost use Rattle.meaning.specs.Sheet.{firstFault};
+ghost use Rattle.meaning.specs.Promises.{Placed, StrikesPlaced, StrikesBytesChecked};
 ghost use Rattle.papers.specs.Paper.{paper, Says};
 ghost use Rattle.rules.specs.Book.{Shaped, bookSystem};
 ghost use Rattle.covers.specs.Asks.{AllLawful};
@@ -26,30 +31,48 @@ ghost use Rattle.strikecheck.specs.Strikes.{Rising, ReasonsFit, StateOk,
 ghost use Rattle.strikecheck.specs.Strikes.{Follows, EntryAsks, EntriesAsk, Accepted, AllRight, PaperChecked};
 ghost use Rattle.strikecheck.specs.Windows.{pastAll, Window};
 
-// Checks a strike list. 0 exactly if document 01 accepts it (then no run obeys the sheet), 1 to 10 for a bad sheet, else 14.
-pub fn check_strikes(sheet: &[u8], states: &[u32], words: &[u32]) -> u32
-    ensures { λ r. ⌜ StrikesChecked (now (sheet .entry)) (now (states .entry)) (now (words .entry)) r ⌝ }
+// Checks a strike list. 0 exactly if document 01 accepts it (then no run obeys the sheet), 1 to 10 for a bad sheet and the place of its fault,
+// else 14.
+pub fn check_strikes(sheet: &[u8], states: &[u32], words: &[u32]) -> Verdict
+    ensures { λ r. ⌜ StrikesPlaced (now (sheet .entry)) (now (states .entry)) (now (words .entry)) (r .answer) (r .place) ⌝ }
 {
     check(sheet, &sheet[..0], states, &sheet[..0], words)
 }
 
-// The same with states and words as bytes, four each, big-endian; a length that is no multiple of four gets 14.
+// The same with states and words as bytes, four each, big-endian, and without the place; a length that is no multiple of four gets 14.
 pub fn check_strikes_bytes(sheet: &[u8], states: &[u8], words: &[u8]) -> u32
     ensures { λ r. ⌜ StrikesBytesChecked (now (sheet .entry)) (now (states .entry)) (now (words .entry)) r ⌝ }
 {
     let none = [0u32; 1];
     let empty = &none[..0];
-    check(sheet, states, empty, words, empty)
+    let verdict = check(sheet, states, empty, words, empty);
+    verdict.answer
 }
 
-// The sheet first, then the bytes' lengths, then the list. sb and sn are the states, wb and wn the words.
-fn check(sheet: &[u8], sb: &[u8], sn: &[u32], wb: &[u8], wn: &[u32]) -> u32
+// The sheet first, then the paper. sb and sn are the states, wb and wn the words.
+fn check(sheet: &[u8], sb: &[u8], sn: &[u32], wb: &[u8], wn: &[u32]) -> Verdict
+    ensures { λ r. ⌜ Placed (now (sheet .entry))
+        (PaperChecked (now (sheet .entry)) (now (sb .entry)) (now (sn .entry)) (now (wb .entry)) (now (wn .entry))) (r .answer) (r .place) ⌝ }
+{
+    match reader::read(sheet) {
+        Answer::Good => {
+            let answer = check_paper(sheet, sb, sn, wb, wn);
+            Verdict { answer, place: 0 }
+        }
+        Answer::Bad(f) => {
+            let why = f.why;
+            let answer = reader::number(why);
+            let place = f.at as u32;
+            Verdict { answer, place }
+        }
+    }
+}
+
+// For a good sheet: the bytes' lengths, then the list.
+fn check_paper(sheet: &[u8], sb: &[u8], sn: &[u32], wb: &[u8], wn: &[u32]) -> u32
+    requires { ⌜ firstFault (now sheet) ≡ none ⌝ }
     ensures { λ r. ⌜ PaperChecked (now (sheet .entry)) (now (sb .entry)) (now (sn .entry)) (now (wb .entry)) (now (wn .entry)) r ⌝ }
 {
-    let fault = reader::naxxurbi_read(sheet);
-    if fault != 0 {
-        return fault;
-    }
     if sb.len() % 4 != 0 {
         return 14;
     }

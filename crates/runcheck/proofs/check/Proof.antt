@@ -1,56 +1,54 @@
--- `runcheck::check` meets its contract: the sheet's number first, then the bytes' length, then the run in the book's system, which is the sheet's.
--- Assumes nothing.
+-- `runcheck::check` meets its contract: a bad sheet's number and place, else what `check_paper` says and no place. Assumes nothing.
 use mathlib.Core.Path.{refl}
 use borrow.Author.Needs.{needs}
-use Rattle.papers.proofs.Verdict.{read-good}
-use Rattle.runcheck.proofs.Answers.{answers-fault, answers-odd, answers-accepted, answers-refused}
+use native.Mathlib.Omega.{arith}
+use Rattle.reader.proofs.Good.{told}
+use Rattle.runcheck.proofs.Answers.{answers-fault, answers-good}
 use Rattle.runcheck.proofs.check.Statement.{statement}
 use Rattle.runcheck.proofs.check.Tie as tie
 
-naxxurbi-read-requires : tie.Need-naxxurbi-read-requires
-naxxurbi-read-requires c κs = search needs
+check-paper-requires : tie.Need-check-paper-requires
+check-paper-requires c κs =
+    let read = c .before .before in
+    let start = read .before .before .before .before in
+    told (start .args .sheet .now) (read .read .ensures) (c .enum-told .given .1)
+
+cast-place : tie.Need-cast-place
+cast-place c =
+    let fault = c .before .before .before in
+    let read = fault .before .before in
+    let start = read .before .before .before .before in
+    let bad = told (start .args .sheet .now) (read .read .ensures) (fault .f .given .1) in
+    omega (arith, bad .small)
 
 returns : tie.Need-returns
-returns c = answers-fault _ _ _ _ _ (c .before .naxxurbi-read .ensures) (c .if1 .taken)
+returns c =
+    let known = c .before in
+    let read = known .before .before in
+    let start = read .before .before .before .before in
+    let a = start .args in
+    let good = told (a .sheet .now) (read .read .ensures) (known .enum-told .given .1) in
+    answers-good (a .sheet .now) (a .bytes .now) (a .numbers .now) (a .a) good (c .check-paper .ensures)
 
 returns-2 : tie.Need-returns-2
-returns-2 c = answers-odd _ _ _ _ _ (c .before .before .naxxurbi-read .ensures) (c .before .if1 .left) (c .if2 .taken)
-
-slice-aggregate-compile : tie.Need-slice-aggregate-compile
-slice-aggregate-compile c = search needs
-
-compile-requires : tie.Need-compile-requires
-compile-requires c κs = (read-good _ (c .before .before .before .naxxurbi-read .ensures) (c .before .before .if1 .left), refl)
-
-slice-aggregate-accepted : tie.Need-slice-aggregate-accepted
-slice-aggregate-accepted c = search needs
-
-accepted-requires : tie.Need-accepted-requires
-accepted-requires c κs = search needs
-
-returns-3 : tie.Need-returns-3
-returns-3 c =
-    answers-accepted _ _ _ _ _ (c .before .before .before .before .before .before .before .before .naxxurbi-read .ensures)
-    (c .before .before .before .before .before .before .before .if1 .left) (c .before .before .before .before .before .before .if2 .left)
-    (c .before .before .before .before .compile .ensures)
-    (c .before .accepted .ensures .yes (c .if3 .taken))
-
-returns-4 : tie.Need-returns-4
-returns-4 c =
-    answers-refused _ _ _ _ _ (c .before .before .before .before .before .before .before .before .naxxurbi-read .ensures)
-    (c .before .before .before .before .before .before .before .if1 .left) (c .before .before .before .before .compile .ensures)
-    (c .before .accepted .ensures .never (c .if3 .left))
+returns-2 c =
+    let numbered = c .before in
+    let fault = numbered .before .before in
+    let read = fault .before .before in
+    let start = read .before .before .before .before in
+    let a = start .args in
+    let bad = told (a .sheet .now) (read .read .ensures) (fault .f .given .1) in
+    answers-fault (a .sheet .now) (a .bytes .now) (a .numbers .now) (a .a) bad (numbered .number .ensures) refl
 
 pub check-spec : {M : Type 1} → statement M
 check-spec =
     tie.close
     (tie.spec
-    naxxurbi-read-requires
+    (λ c κs. search needs)
+    (λ c. search needs)
+    check-paper-requires
+    (λ c. search needs)
+    (λ c κs. search needs)
+    cast-place
     returns
-    returns-2
-    slice-aggregate-compile
-    compile-requires
-    slice-aggregate-accepted
-    accepted-requires
-    returns-3
-    returns-4)
+    returns-2)

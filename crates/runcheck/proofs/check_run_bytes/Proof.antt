@@ -14,7 +14,7 @@ check-requires : tie.Need-check-requires
 check-requires c κs = search needs
 
 returns : tie.Need-returns
-returns c = run-bytes-checked _ _ _ _ (c .check .ensures)
+returns c = run-bytes-checked _ _ _ _ (c .check .ensures .number)
 
 pub check-run-bytes-spec : {M : Type 1} → statement M
 check-run-bytes-spec =

@@ -1,6 +1,6 @@
 -- `strikecheck::check_strikes` meets its contract, the strike checker's theorem on numbers. Assumes nothing.
 use borrow.Author.Needs.{needs}
-use Rattle.strikecheck.proofs.Answers.{strikes-checked}
+use Rattle.strikecheck.proofs.Answers.{strikes-placed}
 use Rattle.strikecheck.proofs.check_strikes.Statement.{statement}
 use Rattle.strikecheck.proofs.check_strikes.Tie as tie
 
@@ -14,7 +14,7 @@ check-requires : tie.Need-check-requires
 check-requires c κs = search needs
 
 returns : tie.Need-returns
-returns c = strikes-checked _ _ _ _ (c .check .ensures)
+returns c = strikes-placed _ _ _ _ _ (c .check .ensures)
 
 pub check-strikes-spec : {M : Type 1} → statement M
 check-strikes-spec =

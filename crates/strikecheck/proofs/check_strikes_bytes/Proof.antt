@@ -14,7 +14,7 @@ check-requires : tie.Need-check-requires
 check-requires c κs = search needs
 
 returns : tie.Need-returns
-returns c = strikes-bytes-checked _ _ _ _ (c .check .ensures)
+returns c = strikes-bytes-checked _ _ _ _ (c .check .ensures .number)
 
 pub check-strikes-bytes-spec : {M : Type 1} → statement M
 check-strikes-bytes-spec =
