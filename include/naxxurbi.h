@@ -7,7 +7,8 @@
  *
  * Numbers returned:
  *    0        good sheet / paper accepted / the sheet can be kept
- *    1 .. 10  the sheet's first fault, in reading order (the table below); nothing lent is changed
+ *    1 .. 10  the sheet's first fault, in reading order (the table below); nothing lent is changed. naxxurbi_read_place and naxxurbi_judge
+ *             tell its place as well, the byte counted from 0; on every other answer the place is 0
  *   11        the judge only: more reachable states than there is room for
  *   12        the judge only: the sheet can be kept, but the run slice is too short for the sample run; b says how long it must be
  *   13        the judge only: the sheet cannot be kept
@@ -19,6 +20,9 @@
  *    4  number of letters not 1 to 24       9  a list's literals do not ascend
  *    5  over 32 limits or 16 promises      10  bytes after the last record
  *
+ * Places: 0 for 1 and 2, 1 for 3, 3 for 4; for 5 that of the limit count (4) before that of the promise count (7); for 6 and 7 the record's
+ * length byte, or the sheet's length where that byte is missing; for 8 and 9 the literal's own byte; for 10 the first surplus byte.
+ *
  * A state is a number below 2 to the power n, n the sheet's number of letters: letter k holds in it when the bit worth 2 to the power k - 1
  * is set. What is read from outside comes as bytes, four to a number with the highest first; the judge's own slices are plain numbers.
  *
@@ -26,7 +30,8 @@
  *
  *    - the machine is x86-64 under Linux;
  *    - a pointer is valid for its length: so many bytes, or numbers of four bytes, can be read there, and in the judge's slices and in
- *      `out` also written. A pointer may be null where its length is 0; `out` has room for four numbers and is never null;
+ *      `out` also written. A pointer may be null where its length is 0; `out` has room for its numbers, five
+ *      for the judge and two for naxxurbi_read_place, and is never null;
  *    - a pointer to uint32_t is aligned for it, to 4 bytes. Bytes may stand anywhere;
  *    - the judge's four slices and `out` lie apart: from one another, and from the sheet;
  *    - no slice has 2 to the power 63 bytes or more; for one of numbers, that is below 2 to the power 61 of them;
@@ -40,7 +45,7 @@
  * The judge takes nearly as much for the smallest sheet (one letter, no rules: 830,960 bytes), since its rooms have a fixed size.
  *
  * Link libnaxxurbi.a, which bin/install makes and which has every call; a program takes in only the objects that it calls. Or link the
- * archives it is made of: libfirmware.a (both checkers), libjudge.a (naxxurbi_judge), libreader.a (naxxurbi_read); each stands alone. Their
+ * archives it is made of: libfirmware.a (both checkers), libjudge.a (naxxurbi_judge), libreader.a (naxxurbi_read, naxxurbi_read_place); each stands alone. Their
  * code takes at most 10 KB, 16 KB and 2 KB (of 1,024 bytes); they have no data of their own. The only outside function that they call is
  * memset.
  *
@@ -65,6 +70,9 @@ extern "C" {
 /* Reads a sheet: 0 if it is good, else the number of its first fault, 1 to 10. */
 uint32_t naxxurbi_read(const uint8_t *sheet, size_t sheet_len);
 
+/* The same with the place: out[0] is the number, out[1] the place. Both are written for every sheet. */
+void naxxurbi_read_place(const uint8_t *sheet, size_t sheet_len, uint32_t out[2]);
+
 /*
  * Checks a proposed run: states_len / 4 states, each four bytes with the highest first, read from the first to the last and then from
  * state a on again, for ever. 0 exactly if that endless run obeys the sheet (and a is the number of a state on the paper, counted from
@@ -85,12 +93,13 @@ uint32_t naxxurbi_check_strikes(const uint8_t *sheet, size_t sheet_len, const ui
  * The caller lends four slices of numbers; what they hold beforehand does not matter. Let C be the least of table_len, words_len, half of
  * scratch_len (rounded down) and 16,384: C is how many reachable states there is room for. Lengths count numbers, not bytes.
  *
- * out[0] is the answer, out[1] the count, out[2] a, out[3] b; those not named here are 0. All four are written on every answer.
+ * out[0] is the answer, out[1] the count, out[2] a, out[3] b, out[4] the place; those not named here are 0. All five are written on every
+ * answer. (Before the place came, out had four numbers. Nothing was released in that form.)
  *
  *    0        can be kept. count: how many states occur in some obeying run; table: those states, ascending, then zeros. run: the first b
  *             places hold a sample run, which goes on from its last state to state a, counted from 0; the rest of run is unchanged.
  *             words and scratch: zeros. The run, as bytes, is accepted by naxxurbi_check_run with this a.
- *    1 .. 10  the sheet's first fault; the four slices are unchanged
+ *    1 .. 10  the sheet's first fault, and its place; the four slices are unchanged
  *   11        more than C states are reachable. table, words and scratch: zeros; run: unchanged. Lend more, up to 16,384 states (table and
  *             words 16,384, scratch 32,768).
  *   12        can be kept, but run_len is below b, which is given and never above 262,144. table, words and scratch: zeros; run:
@@ -99,7 +108,7 @@ uint32_t naxxurbi_check_strikes(const uint8_t *sheet, size_t sheet_len, const ui
  *             scratch: zeros; run: unchanged. The list, as bytes, is accepted by naxxurbi_check_strikes.
  */
 void naxxurbi_judge(const uint8_t *sheet, size_t sheet_len, uint32_t *table, size_t table_len, uint32_t *words, size_t words_len,
-                    uint32_t *scratch, size_t scratch_len, uint32_t *run, size_t run_len, uint32_t out[4]);
+                    uint32_t *scratch, size_t scratch_len, uint32_t *run, size_t run_len, uint32_t out[5]);
 
 #ifdef __cplusplus
 }

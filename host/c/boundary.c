@@ -17,7 +17,7 @@ static const uint32_t OLD = 0xDEADBEEF;
 
 /* What is lent without fences, and the outcome there. */
 static uint32_t lent[SLICES][2 * (ROOM + 1)];
-static uint32_t out[4];
+static uint32_t out[5];
 static uint8_t states[4 * LONG_PAPER], words[4 * LONG_PAPER];
 
 static void fill(uint32_t *slice, size_t len)

@@ -13,7 +13,7 @@ enum { MOST = 11, LENT = 64, CANNOT = 13 };
 /* A sheet, the four numbers, and the paper: the run's states, or the strike list's states and words. */
 struct told {
     const char *file;
-    uint32_t out[4];
+    uint32_t out[5];
     size_t count;
     uint32_t states[MOST];
     uint32_t words[MOST];
@@ -70,7 +70,7 @@ static void open_sheet(const char *folder, const char *file)
 /* Judges one sheet and has its paper checked. */
 static void as_told(const struct told *told)
 {
-    uint32_t table[LENT], words[LENT], scratch[2 * LENT], run[LENT], out[4];
+    uint32_t table[LENT], words[LENT], scratch[2 * LENT], run[LENT], out[5];
     uint8_t paper[4 * LENT], marks[4 * LENT];
     int cannot = told->out[0] == CANNOT;
     naxxurbi_judge(sheet, sheet_len, table, LENT, words, LENT, scratch, (size_t)2 * LENT, run, LENT, out);

@@ -16,7 +16,7 @@ enum { READ_PAGES = 1, RUN_PAGES = 2, STRIKES_PAGES = 4, JUDGE_PAGES = 205, FENC
 
 enum { STATES = 16384, MOMENTS = 262144 };
 
-static uint32_t table[STATES], words[STATES], scratch[2 * STATES], run[MOMENTS], out[4], answer;
+static uint32_t table[STATES], words[STATES], scratch[2 * STATES], run[MOMENTS], out[5], answer;
 static uint8_t states_paper[4 * MOMENTS], words_paper[4 * STATES];
 static size_t states_len, words_len;
 

@@ -28,6 +28,8 @@ SHEET(w14, "W14", 0x01, 0x00, 0x16, 0x04, 0x02, 0x01, 0x00, 0x00, 0x04, 0x00, 0x
 SHEET(bad, "a bad sheet", 0x02, 0x00, 0x14, 0x01, 0x00, 0x01, 0x02, 0x01, 0x01, 0x01, 0x03, 0x01, 0x01, 0xFF, 0x03, 0x01, 0xFF, 0xFF, 0x01,
       0x01);
 
+SHEET(twice, "a limit with a literal twice", 0x01, 0x00, 0x0D, 0x01, 0x01, 0x00, 0x00, 0x00, 0x04, 0x01, 0x01, 0x01, 0x01);
+
 /* What is lent, and what should stand in it afterwards: the front, the rest of it, and beyond its length always OLD. */
 struct slice {
     size_t len;
@@ -39,7 +41,7 @@ struct slice {
 struct example {
     const struct sheet *sheet;
     const char *what;
-    uint32_t out[4];
+    uint32_t out[5];
     struct slice table;
     struct slice words;
     struct slice scratch;
@@ -71,6 +73,8 @@ static const struct example examples[] = {
     {&w2, "W16, C = 2, no run", {12, 0, 0, 2}, ZEROS(2), ZEROS(2), ZEROS(4), UNCHANGED(0)},
     {&w2, "C = 2, a run of two", {0, 2, 1, 2}, {2, 2, {0, 1}, 0}, ZEROS(2), ZEROS(4), {2, 2, {0, 1}, 0}},
     {&bad, "nothing is changed", {2, 0, 0, 0}, UNCHANGED(3), UNCHANGED(2), UNCHANGED(1), UNCHANGED(4)},
+    /* A fault has a place, here byte 12. */
+    {&twice, "nothing is changed", {9, 0, 0, 0, 12}, UNCHANGED(3), UNCHANGED(2), UNCHANGED(1), UNCHANGED(4)},
 };
 
 /* Whether the first `many` numbers are as wanted: the slice, and nothing beyond its length touched. */
@@ -94,7 +98,7 @@ static void fill(uint32_t *slice)
 
 static void judge_rows(void)
 {
-    uint32_t table[LENT], words[LENT], scratch[LENT], run[LENT], out[4];
+    uint32_t table[LENT], words[LENT], scratch[LENT], run[LENT], out[5];
     for (size_t i = 0; i < sizeof examples / sizeof examples[0]; i++) {
         const struct example *row = &examples[i];
         const char *name = row->sheet->name;
@@ -104,7 +108,7 @@ static void judge_rows(void)
         fill(run);
         naxxurbi_judge(row->sheet->bytes, row->sheet->len, table, row->table.len, words, row->words.len, scratch, row->scratch.len, run,
                        row->run.len, out);
-        for (size_t field = 0; field < 4; field++) {
+        for (size_t field = 0; field < 5; field++) {
             expect(name, row->what, out[field], row->out[field]);
         }
         expect(name, "table", (uint32_t)is_as_wanted(table, &row->table, LENT), 1);
@@ -223,7 +227,7 @@ static void lawful_and_first(void)
 /* The judge's table says the same: without step rules every lawful state is livable. */
 static void livable(void)
 {
-    uint32_t table[LENT], words[LENT], scratch[LENT], run[LENT], out[4];
+    uint32_t table[LENT], words[LENT], scratch[LENT], run[LENT], out[5];
     for (size_t i = 0; i < sizeof claims / sizeof claims[0]; i++) {
         const struct states *row = &claims[i];
         size_t count = row->lawful_count;

@@ -12,7 +12,7 @@ static const uint8_t w4[] = {0x01, 0x00, 0x14, 0x01, 0x00, 0x01, 0x02, 0x01, 0x0
 static const uint8_t states[] = {0, 0, 0, 0, 0, 0, 0, 1}, words[] = {0, 0, 0, 33, 0, 0, 0, 64}, run[] = {0, 0, 0, 0};
 
 int main(void) {
-    uint32_t table[2], marks[2], scratch[4], sample[4], out[4];
+    uint32_t table[2], marks[2], scratch[4], sample[4], out[5];
     naxxurbi_judge(w4, sizeof w4, table, 2, marks, 2, scratch, 4, sample, 4, out);
     printf("read %u, judge %u %u, strikes %u, run %u\n", (unsigned)naxxurbi_read(w4, sizeof w4), (unsigned)out[0], (unsigned)out[1],
            (unsigned)naxxurbi_check_strikes(w4, sizeof w4, states, sizeof states, words, sizeof words),

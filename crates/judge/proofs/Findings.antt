@@ -25,7 +25,7 @@ listed-room lent r lists room =
     record { reached = length (take r (lent .table)); number = lists-number lists; room = subst (λ n. n ≤ capacity lent) (sym long) room }
 
 -- 11: R is above C.
-pub crowded-judged : {S : System} {table words scratch table′ words′ scratch′ : List ℕ} {j : Judgement} (run : List ℕ) → j ≡ refused 11 0
+pub crowded-judged : {S : System} {table words scratch table′ words′ scratch′ : List ℕ} {j : Judgement} (run : List ℕ) → j ≡ refused 11 0 0
     → ((r : ℕ) → IsR S r → capacity (lentOf table words scratch run) < r) → LeftOver 0 0 table words scratch table′ words′ scratch′
     → JudgedBy S (lentOf table words scratch run) (outcomeOf j (lentOf table′ words′ scratch′ run))
 unfolding outcome cleared
@@ -37,6 +37,7 @@ crowded-judged {table = table} {words} {table′ = table′} {words′} run is m
     count = is i .count;
     a = is i .a;
     b = is i .b;
+    place = is i .place;
     leaves = record {
       table = wiped-whole table′ table (L .table-is) i;
       words = wiped-whole words′ words (L .words-is) i;
@@ -47,7 +48,7 @@ crowded-judged {table = table} {words} {table′ = table′} {words′} run is m
 }
 
 -- 12: it can be kept, but the run needs b places.
-pub short-judged : {S : System} {table words scratch run words₁ run₁ table′ words′ scratch′ : List ℕ} {a b : ℕ} {j : Judgement} → j ≡ refused 12 b
+pub short-judged : {S : System} {table words scratch run words₁ run₁ table′ words′ scratch′ : List ℕ} {a b : ℕ} {j : Judgement} → j ≡ refused 12 b 0
     → RoomFor S (lentOf table words scratch run) → CanBeKept S → Steered S run run₁ a b → length words₁ ≡ length words → length run < b
     → LeftOver 0 0 table words₁ scratch table′ words′ scratch′
     → JudgedBy S (lentOf table words scratch run) (outcomeOf j (lentOf table′ words′ scratch′ run₁))
@@ -60,6 +61,7 @@ short-judged {table = table} {words} {words₁ = words₁} {table′ = table′}
     count = is i .count;
     a = is i .a;
     b = is i .b;
+    place = is i .place;
     leaves = record {
       table = wiped-whole table′ table (L .table-is) i;
       words = (wiped-whole words′ words₁ (L .words-is) ∙ zeros-same words₁ words long) i;
@@ -73,7 +75,7 @@ short-judged {table = table} {words} {words₁ = words₁} {table′ = table′}
 pub kept-judged : {S : System} {table words scratch run words₁ run₁ table′ words′ scratch′ : List ℕ} {k a b : ℕ}
     → RoomFor S (lentOf table words scratch run) → CanBeKept S → Lists (Livable S) (take k table) → k ≤ length table
     → Steered S run run₁ a b → length words₁ ≡ length words → b ≤ length run → LeftOver k 0 table words₁ scratch table′ words′ scratch′
-    → JudgedBy S (lentOf table words scratch run) (outcomeOf (record { answer = 0; count = k; a = a; b = b }) (lentOf table′ words′ scratch′ run₁))
+    → JudgedBy S (lentOf table words scratch run) (outcomeOf (record { answer = 0; count = k; a = a; b = b; place = 0 }) (lentOf table′ words′ scratch′ run₁))
 unfolding outcome
 kept-judged {table = table} {words} {run = run} {words₁ = words₁} {words′ = words′} {k = k} room kept lists fits steered long enough L = record {
   finding = can (take k table) (steered .states) (steered .back);
@@ -83,6 +85,7 @@ kept-judged {table = table} {words} {run = run} {words₁ = words₁} {words′ 
     count = sym (length-take-le k table fits) i;
     a = steered .fits enough .1 i;
     b = sym (steered .long) i;
+    place = 0;
     leaves = record {
       table = L .table-is i;
       words = (wiped-whole words′ words₁ (L .words-is) ∙ zeros-same words₁ words long) i;
@@ -97,7 +100,7 @@ pub cannot-judged : {S : System} {table words scratch words₁ scratch₁ table�
     → r ≤ capacity (lentOf table words scratch run) → Lists (Reachable S) (take r table) → Marked S table words₁ r 0
     → length words₁ ≡ length words → length scratch₁ ≡ length scratch
     → StrikesWritten table words₁ scratch₁ r table′ words′ scratch′
-    → JudgedBy S (lentOf table words scratch run) (outcomeOf (record { answer = 13; count = r; a = 0; b = 0 }) (lentOf table′ words′ scratch′ run))
+    → JudgedBy S (lentOf table words scratch run) (outcomeOf (record { answer = 13; count = r; a = 0; b = 0; place = 0 }) (lentOf table′ words′ scratch′ run))
 unfolding outcome
 cannot-judged {S} {table} {words} {scratch} {words₁} {scratch₁} {r = r} run room lists marked words-long scratch-long W = record {
   finding = cannot (take r (W .states)) (take r (W .marks));
@@ -107,6 +110,7 @@ cannot-judged {S} {table} {words} {scratch} {words₁} {scratch₁} {r = r} run 
     count = sym (length-take-le r (W .states) (omega (arith, places .in-table, W .in-order .long-table))) i;
     a = 0;
     b = 0;
+    place = 0;
     leaves = record {
       table = W .table-is i;
       words = (W .words-is ∙ ap (over (take r (W .marks))) (zeros-same words₁ words words-long)) i;

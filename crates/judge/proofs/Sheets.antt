@@ -1,15 +1,12 @@
 -- From a book to its sheet: what is promised over the book's system is promised of the sheet; and a bad sheet's promise. Assumes nothing.
-use mathlib.Core.Path.{_≡_, refl, ap, subst, _∙_}
-use mathlib.Core.Option.{Option, none, some}
+use mathlib.Core.Path.{_≡_, ap, subst, _∙_}
+use mathlib.Core.Option.{none}
 use mathlib.Core.List.{List}
 use Prim.Native.Nat.{ℕ}
-use native.Mathlib.Omega.{arith}
-use Rattle.meaning.specs.Sheet.{Fault, numberOf, firstFault, decode}
+use Rattle.meaning.specs.Sheet.{firstFault, decode}
 use Rattle.meaning.specs.Rules.{systemOf}
 use Rattle.meaning.specs.Promises.{
   systemIn,
-  readNumber,
-  ReadSays,
   Lent,
   Outcome,
   Finding,
@@ -25,42 +22,30 @@ use Rattle.meaning.specs.Promises.{
 }
 use Rattle.meaning.proofs.SheetSystem.{finite-in}
 use Rattle.meaning.proofs.Judging.{number-of-reachable}
-use Rattle.meaning.proofs.Demands.{fault-number}
+use Rattle.reader.specs.declared.Fault as F
+use Rattle.reader.specs.Answer.{whyNumber}
+use Rattle.reader.proofs.Good.{Faulty}
 use Rattle.rules.specs.Book.{BookOf, bookSystem}
 use Rattle.rules.proofs.Same.{book-system}
 use Rattle.judge.specs.declared.Judgement.{Judgement}
 use Rattle.judge.specs.Judging.{outcomeOf, refused, RoomFor, FoundBy, JudgedBy}
 
--- The reader's 0 says that the sheet is good.
-pub read-good : (sheet : List ℕ) (n : ℕ) → ReadSays sheet n → n ≡ 0 → firstFault sheet ≡ none
-unfolding ReadSays readNumber
-read-good sheet n says zero = by (firstFault sheet) refl
-  where
-    by : (x : Option Fault) → firstFault sheet ≡ x → firstFault sheet ≡ none
-    by none e = e
-    by (some f) e =
-        let number : n ≡ numberOf (f .why) = says ∙ ap readNumber e in
-        absurd (omega (arith, fault-number (f .why) .0))
-
--- Another number is that of its first fault: nothing is changed.
-pub bad-judged : (sheet : List ℕ) (n : ℕ) {j : Judgement} (lent : Lent) → j ≡ refused n 0 → ReadSays sheet n → (n ≡ 0 → ⊥)
-    → Judged sheet lent (outcomeOf j lent)
-unfolding ReadSays readNumber outcome
-bad-judged sheet n {j} lent is says fault = by (firstFault sheet) refl
-  where
-    by : (x : Option Fault) → firstFault sheet ≡ x → Judged sheet lent (outcomeOf j lent)
-    by none e = absurd (fault (says ∙ ap readNumber e))
-    by (some f) e = record {
-      finding = bad f;
-      found = e;
-      returned = λ i. record {
-        answer = (ap (λ (k : Judgement). k .answer) is ∙ says ∙ ap readNumber e) i;
-        count = is i .count;
-        a = is i .a;
-        b = is i .b;
-        leaves = lent;
-      };
-    }
+-- A bad sheet gets the number and the place of its first fault, and nothing is changed.
+pub bad-judged : {sheet : List ℕ} {f : F.Fault} {n : ℕ} {j : Judgement} (lent : Lent) → Faulty sheet f → n ≡ whyNumber (f .why)
+    → j ≡ refused n 0 (f .at) → Judged sheet lent (outcomeOf j lent)
+unfolding outcome
+bad-judged lent faulty number is = record {
+  finding = bad (faulty .fault);
+  found = faulty .first;
+  returned = λ i. record {
+    answer = (ap (λ (k : Judgement). k .answer) is ∙ number ∙ faulty .number) i;
+    count = is i .count;
+    a = is i .a;
+    b = is i .b;
+    place = (ap (λ (k : Judgement). k .place) is ∙ faulty .place) i;
+    leaves = lent;
+  };
+}
 
 roomy : {sheet : List ℕ} {lent : Lent} → firstFault sheet ≡ none → RoomFor (systemIn sheet) lent → Roomy sheet lent
 roomy good room = record { good = good; reached = room .reached; number = room .number; room = room .room }

@@ -31,7 +31,7 @@ returned-alike run t = record { table-long = t .table-long; words-long = t .word
 
 -- Above cap states were found, so R is above C.
 pub returned-crowded : {S : System} {cap r : ℕ} {table table₁ table′ words words₁ words′ scratch scratch₁ scratch′ : List ℕ} {j : Judgement} (run : List ℕ)
-    → j ≡ refused 11 0 → cap ≡ min (min (length table) (length words)) (min (length scratch / 2) 16384)
+    → j ≡ refused 11 0 0 → cap ≡ min (min (length table) (length words)) (min (length scratch / 2) 16384)
     → Returned S cap table table₁ words words₁ scratch scratch₁ r → cap < r → LeftOver 0 0 table₁ words₁ scratch₁ table′ words′ scratch′
     → JudgedBy S (lentOf table words scratch run) (outcomeOf j (lentOf table′ words′ scratch′ run))
 returned-crowded {S} {cap} {r} {table} {table₁} {words = words} {words₁} {scratch = scratch} {scratch₁} run numbers is t above L =

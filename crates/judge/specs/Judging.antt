@@ -1,4 +1,4 @@
--- The judge's promise over the system of a book, part by part, and how its four numbers and four slices make an outcome. Assumes nothing.
+-- The judge's promise over the system of a book, part by part, and how its five numbers and four slices make an outcome. Assumes nothing.
 use mathlib.Core.Path.{_≡_}
 use mathlib.Core.List.{List}
 use Prim.Native.Nat.{ℕ, _≤_, _<_}
@@ -17,11 +17,11 @@ lentOf table words scratch run = record { table = table; words = words; scratch 
 
 -- what is returned and left, as document 01's outcome
 abbrev pub outcomeOf : Judgement → Lent → Outcome
-outcomeOf r leaves = record { answer = r .answer; count = r .count; a = r .a; b = r .b; leaves = leaves }
+outcomeOf r leaves = record { answer = r .answer; count = r .count; a = r .a; b = r .b; place = r .place; leaves = leaves }
 
--- "fields not named below are 0": the four numbers of a refusal, and of 11 and 12
-abbrev pub refused : (answer b : ℕ) → Judgement
-refused answer b = record { answer = answer; count = 0; a = 0; b = b }
+-- "fields not named below are 0": the five numbers of a refusal, and of 11 and 12
+abbrev pub refused : (answer b place : ℕ) → Judgement
+refused answer b place = record { answer = answer; count = 0; a = 0; b = b; place = place }
 
 -- all reachable states have room
 pub record RoomFor (S : System) (lent : Lent) : Type 0 where

@@ -1,30 +1,35 @@
 // The judge: reads a sheet, lists its reachable states, strikes those that nobody could keep, and hands over a sample run or a strike list
 // in the slices that it was lent. Its promise is `Judged` of the meaning; it asks nothing.
+use reader::Answer;
 ghost use mathlib.Core.Path.{_≡_};
+ghost use mathlib.Core.Option.{none};
 ghost use Prim.Native.Nat.{_≤_, _/_, min};
 ghost use lib.ListN.{length, take};
+ghost use Rattle.meaning.specs.Sheet.{firstFault};
 ghost use Rattle.meaning.specs.Promises.{Judged, JudgedOut, over, zeros};
 ghost use Rattle.rules.specs.Book.{Shaped, bookSystem};
 ghost use Rattle.arrange.specs.Placing.{Orderable};
 ghost use Rattle.judge.specs.Judging.{lentOf, outcomeOf, refused, JudgedBy, Reached, Kept, LeftOver, StrikesWritten};
 
-// What the judge returns: document 01's answer, count, a and b.
+// What the judge returns: document 01's answer, count, a and b, and the place of a bad sheet's fault.
 pub struct Judgement {
     pub answer: u32,
     pub count: u32,
     pub a: u32,
     pub b: u32,
+    pub place: u32,
 }
 
 // An answer that counts nothing and hands over no run.
-fn refusal(answer: u32, b: u32) -> Judgement
-    ensures { λ r. ⌜ r ≡ refused answer b ⌝ }
+fn refusal(answer: u32, b: u32, place: u32) -> Judgement
+    ensures { λ r. ⌜ r ≡ refused answer b place ⌝ }
 {
     Judgement {
         answer,
         count: 0,
         a: 0,
         b,
+        place,
     }
 }
 
@@ -99,7 +104,7 @@ fn judge_kept(
     let needed = b as usize;
     if run.len() < needed {
         leave(table, words, scratch, 0, 0);
-        return refusal(12, b);
+        return refusal(12, b, 0);
     }
     leave(table, words, scratch, k, 0);
     let kept = k as u32;
@@ -108,6 +113,7 @@ fn judge_kept(
         count: kept,
         a,
         b,
+        place: 0,
     }
 }
 
@@ -134,6 +140,7 @@ fn judge_reached(
             count: reached,
             a: 0,
             b: 0,
+            place: 0,
         };
     }
     let k = arrange::keep(table, words, r);
@@ -157,16 +164,34 @@ fn judge_book(
     let r = explore::explore(book, table, words, scratch, cap);
     if cap < r {
         leave(table, words, scratch, 0, 0);
-        return refusal(11, 0);
+        return refusal(11, 0, 0);
     }
     judge_reached(book, table, words, scratch, run, r)
+}
+
+// For a good sheet.
+fn judge_good(
+    sheet: &[u8],
+    table: &mut [u32],
+    words: &mut [u32],
+    scratch: &mut [u32],
+    run: &mut [u32],
+) -> Judgement
+    requires { ⌜ firstFault (now sheet) ≡ none ⌝ }
+    ensures { λ r. ⌜ Judged (now (sheet .entry))
+        (lentOf (now (table .entry)) (now (words .entry)) (now (scratch .entry)) (now (run .entry)))
+        (outcomeOf r (lentOf (now (table .exit)) (now (words .exit)) (now (scratch .exit)) (now (run .exit)))) ⌝ }
+{
+    let mut book = [0u32; BOOK];
+    rules::compile(sheet, &mut book);
+    judge_book(&book, table, words, scratch, run)
 }
 
 // Judges a sheet: is there an endless run that obeys it? Any bytes and any slices may be handed in. There is room for C states, the least of
 // the table's length, the words' length, half the scratch length and 16,384. The answer is 0 (can be kept: the table lists the K livable
 // states, run has the sample run of b states, which goes back to place a), 13 (cannot be kept: table and words have the strike list of all R
-// states), 11 (R is above C), 12 (the run needs b places), or 1 to 10 (the sheet's first fault; nothing lent is changed). What each slice
-// then holds is `outcome` of the meaning.
+// states), 11 (R is above C), 12 (the run needs b places), or 1 to 10 (the sheet's first fault, and the place is its
+// byte; nothing lent is changed). What each slice then holds is `outcome` of the meaning.
 pub fn judge(
     sheet: &[u8],
     table: &mut [u32],
@@ -178,16 +203,18 @@ pub fn judge(
         (lentOf (now (table .entry)) (now (words .entry)) (now (scratch .entry)) (now (run .entry)))
         (outcomeOf r (lentOf (now (table .exit)) (now (words .exit)) (now (scratch .exit)) (now (run .exit)))) ⌝ }
 {
-    let fault = reader::naxxurbi_read(sheet);
-    if fault != 0 {
-        return refusal(fault, 0);
+    match reader::read(sheet) {
+        Answer::Good => judge_good(sheet, table, words, scratch, run),
+        Answer::Bad(f) => {
+            let why = f.why;
+            let answer = reader::number(why);
+            let place = f.at as u32;
+            refusal(answer, 0, place)
+        }
     }
-    let mut book = [0u32; BOOK];
-    rules::compile(sheet, &mut book);
-    judge_book(&book, table, words, scratch, run)
 }
 
-// The same for callers in C: answer, count, a and b go into `out`, in this order, whatever the answer.
+// The same for callers in C: answer, count, a, b and place go into `out`, in this order, whatever the answer.
 #[no_mangle]
 pub extern "C" fn naxxurbi_judge(
     sheet: &[u8],
@@ -195,7 +222,7 @@ pub extern "C" fn naxxurbi_judge(
     words: &mut [u32],
     scratch: &mut [u32],
     run: &mut [u32],
-    out: &mut [u32; 4],
+    out: &mut [u32; 5],
 )
     ensures { λ _. ⌜ JudgedOut (now (sheet .entry))
         (lentOf (now (table .entry)) (now (words .entry)) (now (scratch .entry)) (now (run .entry)))
@@ -203,5 +230,5 @@ pub extern "C" fn naxxurbi_judge(
         (lentOf (now (table .exit)) (now (words .exit)) (now (scratch .exit)) (now (run .exit))) ⌝ }
 {
     let r = judge(sheet, table, words, scratch, run);
-    *out = [r.answer, r.count, r.a, r.b];
+    *out = [r.answer, r.count, r.a, r.b, r.place];
 }

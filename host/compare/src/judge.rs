@@ -14,14 +14,14 @@ extern "C" {
         scratch_len: usize,
         run: *mut u32,
         run_len: usize,
-        out: *mut [u32; 4],
+        out: *mut [u32; 5],
     );
 }
 
 /// Judges a sheet: answer, count, a and b.
 pub fn judge(sheet: &[u8], table: &mut [u32], words: &mut [u32], scratch: &mut [u32], run: &mut [u32]) -> Answer {
-    let mut out = [u32::MAX; 4];
-    // SAFETY: the call reads `sheet_len` bytes, reads and writes as many numbers of each slice as its length says, and writes the four
+    let mut out = [u32::MAX; 5];
+    // SAFETY: the call reads `sheet_len` bytes, reads and writes as many numbers of each slice as its length says, and writes the five
     // numbers; the slices do not overlap, for each is borrowed alone.
     unsafe {
         naxxurbi_judge(
@@ -38,6 +38,6 @@ pub fn judge(sheet: &[u8], table: &mut [u32], words: &mut [u32], scratch: &mut [
             &mut out,
         );
     }
-    let [answer, count, a, b] = out;
+    let [answer, count, a, b, _place] = out;
     Answer { answer, count, a, b }
 }
