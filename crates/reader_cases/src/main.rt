@@ -1,19 +1,30 @@
 // Runs the reader on document 01's border cases and writes for each its name, the reader's number and the fault's place. Every fault stands
 // once at its first and once at its last possible place; where a sheet has two faults, reading order decides.
 use libc::STDOUT_FILENO;
+use reader::Answer;
 
 mod built;
 
 // Prints a case's name, the reader's number for its sheet, and the place.
-pub fn show(name: &[u8], sheet: &[u8]) {
-    let mut out = [0u32; 2];
-    reader::naxxurbi_read_place(sheet, &mut out);
+fn print(name: &[u8], number: u32, place: usize) {
     io::write_all(STDOUT_FILENO, name);
     io::write_all(STDOUT_FILENO, b": ");
-    io::print_decimal(STDOUT_FILENO, out[0] as u64);
+    io::print_decimal(STDOUT_FILENO, number as u64);
     io::write_all(STDOUT_FILENO, b" at ");
-    io::print_decimal(STDOUT_FILENO, out[1] as u64);
+    io::print_decimal(STDOUT_FILENO, place as u64);
     io::write_all(STDOUT_FILENO, b"\n");
+}
+
+// Reads a case's sheet and prints what the reader answers.
+pub fn show(name: &[u8], sheet: &[u8]) {
+    match reader::read(sheet) {
+        Answer::Good => print(name, 0, 0),
+        Answer::Bad(f) => {
+            let why = f.why;
+            let number = reader::number(why);
+            print(name, number, f.at);
+        }
+    }
 }
 
 fn good() {
