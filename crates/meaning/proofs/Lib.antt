@@ -23,6 +23,7 @@ pub mod Placing
 pub mod Meetable
 pub mod Demands
 pub mod Sizes
+pub mod Numbered
 pub mod Tests
 pub mod Tables
 pub mod Walled
