@@ -18,7 +18,7 @@ extern "C" {
     );
 }
 
-/// Judges a sheet: answer, count, a and b.
+/// Judges a sheet: answer, count, a, b and place.
 pub fn judge(sheet: &[u8], table: &mut [u32], words: &mut [u32], scratch: &mut [u32], run: &mut [u32]) -> Answer {
     let mut out = [u32::MAX; 5];
     // SAFETY: the call reads `sheet_len` bytes, reads and writes as many numbers of each slice as its length says, and writes the five
@@ -38,6 +38,6 @@ pub fn judge(sheet: &[u8], table: &mut [u32], words: &mut [u32], scratch: &mut [
             &mut out,
         );
     }
-    let [answer, count, a, b, _place] = out;
-    Answer { answer, count, a, b }
+    let [answer, count, a, b, place] = out;
+    Answer { answer, count, a, b, place }
 }

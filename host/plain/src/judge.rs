@@ -7,7 +7,7 @@ use crate::sheet;
 use crate::strike::{strike, Strikes};
 use crate::walk::walk;
 
-/// The judge's four numbers. Those that document 01 does not name are 0.
+/// The judge's five numbers. Those that the documents do not name are 0.
 #[derive(Clone, Copy, Debug, Default, PartialEq, Eq)]
 pub struct Answer {
     /// The answer, 0 to 13.
@@ -18,6 +18,8 @@ pub struct Answer {
     pub a: u32,
     /// For answers 0 and 12, the moments that the sample run has.
     pub b: u32,
+    /// For answers 1 to 10, the byte at fault.
+    pub place: u32,
 }
 
 /// Judges a sheet.
@@ -38,7 +40,10 @@ pub fn judge(
 ) -> Answer {
     let rules = match sheet::read(sheet) {
         Ok(sheet) => Rules::new(&sheet),
-        Err(fault) => return Answer { answer: fault.number, ..Answer::default() },
+        Err(fault) => {
+            let place = fault.place as u32;
+            return Answer { answer: fault.number, place, ..Answer::default() };
+        }
     };
     table.fill(0);
     words.fill(0);
@@ -103,7 +108,7 @@ fn can_be_kept(
     for (place, (&state, _)) in table.iter_mut().zip(livable) {
         *place = state;
     }
-    Answer { answer: 0, count: strikes.left as u32, a: walk.back as u32, b }
+    Answer { answer: 0, count: strikes.left as u32, a: walk.back as u32, b, place: 0 }
 }
 
 fn cannot_be_kept(

@@ -1,6 +1,6 @@
 //! A plain implementation of the rule-sheet judge and its two checkers.
 //!
-//! It is written from document 01 alone and shares no code with the proved
+//! It is written from documents 01 and 02 alone and shares no code with the proved
 //! build, so that the two can be held against each other, and timed.
 //!
 //! | module       | what it does                                                     |
@@ -12,6 +12,7 @@
 //! | [`check`]    | the checkers of runs and of strike lists                         |
 //! | [`brute`]    | everything a second time, naively, for at most five letters      |
 //! | [`make`]     | sheets for tests and benchmarks, good and damaged                |
+//! | [`edges`]    | each fault at its first and last possible place                  |
 //! | [`families`] | sheets as people write them, in several orders of their letters  |
 //! | [`named`]    | the workshop wall's sheets and the guide's                       |
 //! | [`source`]   | the case studies and experiments of source document 000          |
@@ -22,6 +23,7 @@
 
 pub mod brute;
 pub mod check;
+pub mod edges;
 pub mod families;
 mod graph;
 mod hash;

@@ -430,7 +430,7 @@ impl Parts {
 }
 
 /// Writes the true length into bytes 1 and 2.
-fn with_length(mut sheet: Vec<u8>) -> Vec<u8> {
+pub(crate) fn with_length(mut sheet: Vec<u8>) -> Vec<u8> {
     let length = (sheet.len() as u16).to_be_bytes();
     if let Some(place) = sheet.get_mut(1..3) {
         place.copy_from_slice(&length);

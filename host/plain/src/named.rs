@@ -179,7 +179,7 @@ impl Judged {
 
     /// What the small program should print.
     pub fn line(&self) -> String {
-        let Answer { answer, count, a, b } = self.answer;
+        let Answer { answer, count, a, b, .. } = self.answer;
         format!("{answer} {count} {a} {b}")
     }
 }

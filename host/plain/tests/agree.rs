@@ -3,6 +3,7 @@
 #![deny(warnings)]
 
 use plain::check::{check_run, check_run_bytes, check_strikes, check_strikes_bytes, strikes_nodes};
+use plain::edges::{edges, PLACES};
 use plain::families::{self, any_order, in_orders, renamed, renamed_state, written};
 use plain::judge::{explored, judge, Answer};
 use plain::list::{each_lawful, first_states, lawful_states, next_states};
@@ -36,7 +37,7 @@ fn judged_freely(sheet: &[u8]) -> Outcome {
 }
 
 fn accepted(sheet: &[u8], outcome: &Outcome) {
-    let Answer { answer, count, a, b } = outcome.answer;
+    let Answer { answer, count, a, b, .. } = outcome.answer;
     match answer {
         0 => {
             let run = &outcome.run[..b as usize];
@@ -142,7 +143,7 @@ fn checkers_agree_with_brute() {
         if read(&sheet).is_ok_and(|sheet| sheet.letters() > 5) {
             continue;
         }
-        let Answer { answer, count, a, b } = outcome.answer;
+        let Answer { answer, count, a, b, .. } = outcome.answer;
         for _ in 0..4 {
             let mut states = match answer {
                 0 => outcome.run[..b as usize].to_vec(),
@@ -257,12 +258,14 @@ fn every_fault_is_seen_and_told_alike() {
             assert_eq!(number, told.map_or(0, |(number, _)| number));
             *seen.entry(number).or_default() += 1;
             if let Some((number, place)) = told {
+                let (_, first, last) = PLACES[number as usize - 1];
+                assert!((first..=last).contains(&place), "{number} at {place}");
                 let farthest = places.entry(number).or_default();
                 *farthest = place.max(*farthest);
                 let lent = [1, 2, 3, 4].map(|length| filled(&mut rng, length));
                 let [table, words, scratch, run] = &lent;
                 let outcome = judged(&sheet, [table, words, scratch, run]);
-                let answer = Answer { answer: number, ..Answer::default() };
+                let answer = Answer { answer: number, place: place as u32, ..Answer::default() };
                 assert_eq!(outcome.answer, answer);
                 assert_eq!([outcome.table, outcome.words, outcome.scratch, outcome.run], lent);
                 assert_eq!(check_run(&sheet, &[], 0), number);
@@ -276,6 +279,27 @@ fn every_fault_is_seen_and_told_alike() {
     for number in 0..=10 {
         assert!(seen.get(&number).is_some_and(|&times| times > 1000), "{seen:?}");
     }
+}
+
+/// Each fault at its first and its last possible place, told by both readers and
+/// the judge; the sheets' own places span exactly what is possible.
+#[test]
+fn every_fault_has_its_first_and_last_place() {
+    let mut spans: BTreeMap<u32, (usize, usize)> = BTreeMap::new();
+    for edge in edges() {
+        let what = &edge.what;
+        let told = read(&edge.sheet).err().map(|fault| (fault.number, fault.place));
+        assert_eq!(told, Some((edge.number, edge.place)), "{what}");
+        assert_eq!(brute::first_fault(&edge.sheet), told, "{what}");
+        let place = edge.place as u32;
+        let answer = Answer { answer: edge.number, place, ..Answer::default() };
+        assert_eq!(judged(&edge.sheet, [&[], &[], &[], &[]]).answer, answer, "{what}");
+        let span = spans.entry(edge.number).or_insert((edge.place, edge.place));
+        *span = (span.0.min(edge.place), span.1.max(edge.place));
+    }
+    let spans: Vec<(u32, usize, usize)> =
+        spans.into_iter().map(|(number, (first, last))| (number, first, last)).collect();
+    assert_eq!(spans, PLACES);
 }
 
 /// Random bytes and cut sheets never get past the naive reader either.
@@ -424,7 +448,7 @@ impl ByTable {
             }
         }
         let mut outcome = Outcome {
-            answer: Answer { answer: 13, count: count as u32, a: 0, b: 0 },
+            answer: Answer { answer: 13, count: count as u32, a: 0, b: 0, place: 0 },
             table,
             words,
             scratch: Vec::new(),
@@ -454,6 +478,7 @@ impl ByTable {
             count: outcome.table.len() as u32,
             a: moments[&(here, aim)] as u32,
             b: outcome.run.len() as u32,
+            place: 0,
         };
         outcome
     }
@@ -520,7 +545,7 @@ fn judge_agrees_on_larger_sheets() {
 
 /// At most K times p moments; each promise again in fewer than K times p moves.
 fn demand_3(rules: &Rules, outcome: &Outcome) {
-    let Answer { answer, count, a, b } = outcome.answer;
+    let Answer { answer, count, a, b, .. } = outcome.answer;
     let (a, b) = (a as usize, b as usize);
     let most = count as usize * rules.promises();
     if answer != 0 || most == 0 || b * most > 1 << 20 {
@@ -562,8 +587,8 @@ fn families_are_as_they_are_meant() {
         accepted(&family.sheet, &judged_freely(&family.sheet));
     }
     let answer = |draft: make::Draft| judged_freely(&draft.bytes()).answer;
-    let can = |count, a, b| Answer { answer: 0, count, a, b };
-    let cannot = |count| Answer { answer: 13, count, a: 0, b: 0 };
+    let can = |count, a, b| Answer { answer: 0, count, a, b, place: 0 };
+    let cannot = |count| Answer { answer: 13, count, a: 0, b: 0, place: 0 };
     let no_room = Answer { answer: 11, ..Answer::default() };
     assert_eq!(answer(make::w15()), cannot(4));
     assert_eq!(answer(make::exactly(20, 3)), can(1140, 0, 1));

@@ -39,7 +39,8 @@ fn padded(front: &[u32], rest: u32, length: usize) -> Vec<u32> {
 }
 
 fn can(sheet: &[u8], livable: &[u32], run: &[u32], a: u32) {
-    let answer = Answer { answer: 0, count: livable.len() as u32, a, b: run.len() as u32 };
+    let answer =
+        Answer { answer: 0, count: livable.len() as u32, a, b: run.len() as u32, place: 0 };
     let expected = Judged {
         answer,
         table: padded(livable, 0, ROOM[0]),
@@ -53,7 +54,7 @@ fn can(sheet: &[u8], livable: &[u32], run: &[u32], a: u32) {
 }
 
 fn cannot(sheet: &[u8], states: &[u32], words: &[u32]) {
-    let answer = Answer { answer: 13, count: states.len() as u32, a: 0, b: 0 };
+    let answer = Answer { answer: 13, count: states.len() as u32, a: 0, b: 0, place: 0 };
     let expected = Judged {
         answer,
         table: padded(states, 0, ROOM[0]),
@@ -148,7 +149,7 @@ fn w16_too_little_room() {
     for lengths in [[1, 9, 9, 5], [9, 1, 9, 5], [9, 9, 2, 5], [9, 9, 3, 5], [0, 0, 0, 0]] {
         let [table, words, scratch, run] = lengths;
         let expected = Judged {
-            answer: Answer { answer: 11, count: 0, a: 0, b: 0 },
+            answer: Answer { answer: 11, count: 0, a: 0, b: 0, place: 0 },
             table: vec![0; table],
             words: vec![0; words],
             scratch: vec![0; scratch],
@@ -158,7 +159,7 @@ fn w16_too_little_room() {
     }
     for run in [0, 1] {
         let expected = Judged {
-            answer: Answer { answer: 12, count: 0, a: 0, b: 2 },
+            answer: Answer { answer: 12, count: 0, a: 0, b: 2, place: 0 },
             table: vec![0; 2],
             words: vec![0; 2],
             scratch: vec![0; 4],
@@ -167,7 +168,7 @@ fn w16_too_little_room() {
         assert_eq!(judge_with(&w2(), [2, 2, 4, run]), expected);
     }
     let expected = Judged {
-        answer: Answer { answer: 0, count: 2, a: 1, b: 2 },
+        answer: Answer { answer: 0, count: 2, a: 1, b: 2, place: 0 },
         table: vec![0, 1],
         words: vec![0; 2],
         scratch: vec![0; 4],
@@ -176,7 +177,10 @@ fn w16_too_little_room() {
     assert_eq!(judge_with(&w2(), [2, 2, 4, 2]), expected);
     // No reachable states need no room.
     let w6 = Draft::new(1).exactly(2, [1]).bytes();
-    assert_eq!(judge_with(&w6, [0; 4]).answer, Answer { answer: 13, count: 0, a: 0, b: 0 });
+    assert_eq!(
+        judge_with(&w6, [0; 4]).answer,
+        Answer { answer: 13, count: 0, a: 0, b: 0, place: 0 }
+    );
     // Runs of no states.
     for sheet in [&W1[..], &w2(), &w3(), &W4, &w6] {
         assert_eq!(check_run(sheet, &[], 0), 14);
@@ -190,7 +194,7 @@ fn a_bad_sheet_changes_nothing() {
     let mut bad = W4;
     bad[0] = 2;
     let expected = Judged {
-        answer: Answer { answer: 2, count: 0, a: 0, b: 0 },
+        answer: Answer { answer: 2, count: 0, a: 0, b: 0, place: 0 },
         table: vec![OLD; 3],
         words: vec![OLD; 2],
         scratch: vec![OLD; 1],
@@ -297,7 +301,7 @@ fn hostile_papers_end() {
     let mut draft = Draft::new(24);
     draft.exactly(1, (1..=24).collect::<Vec<i8>>());
     let answer = judge_with(&draft.bytes(), [24, 24, 48, 1]).answer;
-    assert_eq!(answer, Answer { answer: 0, count: 24, a: 0, b: 1 });
+    assert_eq!(answer, Answer { answer: 0, count: 24, a: 0, b: 1, place: 0 });
 }
 
 #[test]

@@ -52,7 +52,8 @@ fn judged(family: &Family, room: usize, most: Duration, facts: impl FnOnce(Strin
     let Family { name, sheet } = family;
     let (mut table, mut words, mut scratch) = (vec![7; room], vec![7; room], vec![7; 2 * room]);
     let mut run = vec![7; MOMENTS];
-    let Answer { answer, count, a, b } = plain::judge::judge(sheet, &mut table, &mut words, &mut scratch, &mut run);
+    let theirs = plain::judge::judge(sheet, &mut table, &mut words, &mut scratch, &mut run);
+    let Answer { answer, count, a, b, .. } = theirs;
     run.truncate(b as usize);
     let facts = facts(format!("{answer} {count} {a} {b}"));
     let lent = [table, words, scratch, run];

@@ -1,8 +1,9 @@
 //! The judge: numbers and all four slices compared whole, and every paper handed to both checkers.
 
-use crate::{boundary_sheets, differs, Tally};
+use crate::{boundary_sheets, differs, Places, Tally};
 use compare::checkers::{bytes, check_run, check_strikes};
 use plain::brute::Outcome;
+use plain::edges::edges;
 use plain::judge::{reachable, Answer};
 use plain::make::{self, damage, letters, random_draft, Rng, DAMAGES};
 use plain::source;
@@ -25,16 +26,29 @@ pub fn judged(judge: Judge, sheet: &[u8], lent: &[Vec<u32>; 4]) -> Outcome {
     Outcome { answer, table, words, scratch, run }
 }
 
+/// What was answered, and where the faults were.
+pub struct Seen {
+    pub tally: Tally,
+    pub places: Places,
+}
+
+impl Seen {
+    pub fn new(name: &'static str) -> Seen {
+        Seen { tally: Tally::new(name), places: Places::new(name) }
+    }
+}
+
 /// Judges with both, compares them, and hands the paper to both checkers: the right one accepts it, the other does not.
-pub fn agree(tally: &mut Tally, sheet: &[u8], lent: &[Vec<u32>; 4]) -> bool {
+pub fn agree(seen: &mut Seen, sheet: &[u8], lent: &[Vec<u32>; 4]) -> bool {
     let ours = judged(compare::judge::judge, sheet, lent);
     let plain = judged(plain::judge::judge, sheet, lent);
     if differs("judge", sheet, &ours, &plain) {
         println!("  lent {:?}", lent.each_ref().map(Vec::len));
         return false;
     }
-    let Answer { answer, count, a, b } = ours.answer;
-    tally.count(answer);
+    let Answer { answer, count, a, b, place } = ours.answer;
+    seen.tally.count(answer);
+    seen.places.keep(answer, place);
     let (count, b) = (count as usize, b as usize);
     let (numbers, wanted) = match answer {
         0 => {
@@ -47,7 +61,7 @@ pub fn agree(tally: &mut Tally, sheet: &[u8], lent: &[Vec<u32>; 4]) -> bool {
         }
         _ => return true,
     };
-    tally.count(14);
+    seen.tally.count(14);
     !differs("a checker on the judge's paper", sheet, &numbers, &wanted)
 }
 
@@ -64,7 +78,7 @@ fn length(rng: &mut Rng, need: usize) -> usize {
 }
 
 /// A good sheet, several times over with other slices.
-pub fn good(rng: &mut Rng, tally: &mut Tally, sheet: &[u8]) -> bool {
+pub fn good(rng: &mut Rng, seen: &mut Seen, sheet: &[u8]) -> bool {
     // Where there are too many states, any need below serves to show that.
     let states = reachable(sheet, MOST_STATES).unwrap_or(rng.clone().below(MOST_STATES));
     let mut free = [vec![0; states], vec![0; states], vec![0; 2 * states], vec![0; 16 * states]];
@@ -73,42 +87,46 @@ pub fn good(rng: &mut Rng, tally: &mut Tally, sheet: &[u8]) -> bool {
     (0..4).all(|_| {
         let lengths = [length(rng, states), length(rng, states), length(rng, 2 * states), length(rng, moments)];
         let lent = filled(rng, lengths);
-        agree(tally, sheet, &lent)
+        agree(seen, sheet, &lent)
     })
 }
 
 /// Any sheet, with slices of a few numbers.
-fn any(rng: &mut Rng, tally: &mut Tally, sheet: &[u8]) -> bool {
+fn any(rng: &mut Rng, seen: &mut Seen, sheet: &[u8]) -> bool {
     let lengths = [0; 4].map(|_: usize| rng.below(20));
     let lent = filled(rng, lengths);
-    agree(tally, sheet, &lent)
+    agree(seen, sheet, &lent)
 }
 
 pub fn suite(rng: &mut Rng, rounds: usize) -> bool {
-    let mut tally = Tally::new("judge and checkers");
+    let mut seen = Seen::new("judge and checkers");
+    if !edges().iter().all(|edge| any(rng, &mut seen, &edge.sheet)) {
+        return false;
+    }
     for round in 0..3 * rounds {
-        if round % 64 == 0 && !boundary_sheets(rng).iter().all(|sheet| any(rng, &mut tally, sheet)) {
+        if round % 64 == 0 && !boundary_sheets(rng).iter().all(|sheet| any(rng, &mut seen, sheet)) {
             return false;
         }
         let letters = letters(rng);
         let sheet = random_draft(rng, letters).bytes();
-        if !good(rng, &mut tally, &sheet) {
+        if !good(rng, &mut seen, &sheet) {
             return false;
         }
         for _ in 0..3 {
             let way = rng.below(DAMAGES);
             let damaged = damage(rng, &sheet, way);
-            if !any(rng, &mut tally, &damaged) {
+            if !any(rng, &mut seen, &damaged) {
                 return false;
             }
         }
     }
-    tally.complete(&[0, 1, 2, 3, 4, 5, 6, 7, 8, 9, 10, 11, 12, 13, 14])
+    let all = seen.tally.complete(&[0, 1, 2, 3, 4, 5, 6, 7, 8, 9, 10, 11, 12, 13, 14]);
+    seen.places.complete() && all
 }
 
 /// Sheets with many states, long runs and many rounds; those of source document 000; and 16,384 states, and more, with room for more.
 pub fn large(rng: &mut Rng, _: usize) -> bool {
-    let mut tally = Tally::new("large sheets");
+    let mut seen = Seen::new("large sheets");
     let mut sheets: Vec<Vec<u8>> = source::families().into_iter().map(|family| family.sheet).collect();
     let drafts = [
         make::w15(),
@@ -128,16 +146,16 @@ pub fn large(rng: &mut Rng, _: usize) -> bool {
     sheets.extend((0..48).map(|_| make::loosened_counter(rng, 10).bytes()));
     for sheet in &sheets {
         let lent = filled(rng, [1100, 1100, 2200, 4096]);
-        if !agree(&mut tally, sheet, &lent) || !good(rng, &mut tally, sheet) {
+        if !agree(&mut seen, sheet, &lent) || !good(rng, &mut seen, sheet) {
             return false;
         }
     }
     // Exactly 16,384 states, then twice as many, for which there would be room.
     for (draft, lengths) in [(make::counter(14), [16_385, 16_500, 40_000, 16_384]), (make::counter(15), [33_000, 33_000, 66_000, 40_000])] {
         let lent = filled(rng, lengths);
-        if !agree(&mut tally, &draft.bytes(), &lent) {
+        if !agree(&mut seen, &draft.bytes(), &lent) {
             return false;
         }
     }
-    tally.complete(&[0, 11, 12, 13, 14])
+    seen.tally.complete(&[0, 11, 12, 13, 14])
 }

@@ -10,7 +10,9 @@ mod judge;
 mod reader;
 mod written;
 
+use plain::edges::PLACES;
 use plain::make::Rng;
+use std::collections::BTreeSet;
 
 /// How often each answer occurred.
 pub struct Tally {
@@ -43,6 +45,42 @@ impl Tally {
             println!("{}: never saw {missing:?}", self.name);
         }
         missing.is_empty()
+    }
+}
+
+/// The places at which each fault occurred.
+pub struct Places {
+    name: &'static str,
+    seen: BTreeSet<(u32, usize)>,
+}
+
+impl Places {
+    /// Nothing seen.
+    pub fn new(name: &'static str) -> Places {
+        Places { name, seen: BTreeSet::new() }
+    }
+
+    /// Keeps a fault's place; 0 is no fault.
+    pub fn keep(&mut self, number: u32, place: u32) {
+        if (1..=10).contains(&number) {
+            self.seen.insert((number, place as usize));
+        }
+    }
+
+    /// Prints how many there were; whether each fault occurred at its first and at its last possible place, and none outside.
+    pub fn complete(&self) -> bool {
+        let mut right = true;
+        print!("{}, places:", self.name);
+        for (number, first, last) in PLACES {
+            let places: Vec<usize> = self.seen.iter().filter(|seen| seen.0 == number).map(|seen| seen.1).collect();
+            print!(" {number} at {}", places.len());
+            right &= places.first() == Some(&first) && places.last() == Some(&last);
+        }
+        println!();
+        if !right {
+            println!("{}: some fault was never seen at its first or its last place, or was seen outside", self.name);
+        }
+        right
     }
 }
 

@@ -1,16 +1,23 @@
-//! The reader: every sheet, whole and damaged in every way.
+//! The reader: every sheet, whole and damaged in every way; number and place.
 
-use crate::{boundary_sheets, differs, Tally};
+use crate::{boundary_sheets, differs, Places, Tally};
+use plain::edges::edges;
 use plain::make::{damage, random_sheet, Rng, DAMAGES};
 
 pub fn suite(rng: &mut Rng, rounds: usize) -> bool {
     let mut tally = Tally::new("reader");
+    let mut places = Places::new("reader");
     let mut check = |sheet: &[u8]| {
-        let ours = compare::reader::read(sheet);
-        let plain = plain::sheet::read_number(sheet);
-        tally.count(plain);
+        let ours = (compare::reader::read(sheet), compare::reader::read_place(sheet));
+        let told = plain::sheet::read(sheet).map_or_else(|fault| (fault.number, fault.place as u32), |_| (0, 0));
+        let plain = (plain::sheet::read_number(sheet), told);
+        tally.count(told.0);
+        places.keep(told.0, told.1);
         !differs("reader", sheet, &ours, &plain)
     };
+    if !edges().iter().all(|edge| check(&edge.sheet)) {
+        return false;
+    }
     for round in 0..rounds {
         if round % 64 == 0 && !boundary_sheets(rng).iter().all(|sheet| check(sheet)) {
             return false;
@@ -25,5 +32,6 @@ pub fn suite(rng: &mut Rng, rounds: usize) -> bool {
             }
         }
     }
-    tally.complete(&[0, 1, 2, 3, 4, 5, 6, 7, 8, 9, 10])
+    let all = tally.complete(&[0, 1, 2, 3, 4, 5, 6, 7, 8, 9, 10]);
+    places.complete() && all
 }

@@ -14,7 +14,7 @@ const FEW_LETTERS: usize = 12;
 const ROOM: [usize; 4] = [600, 600, 1200, 9600];
 
 /// Judge and checkers on a sheet and on its papers, right and damaged.
-fn sheet(rng: &mut Rng, judged: &mut Tally, checked: &mut checkers::Checked, sheet: &[u8]) -> bool {
+fn sheet(rng: &mut Rng, judged: &mut judge::Seen, checked: &mut checkers::Checked, sheet: &[u8]) -> bool {
     naive(rng, sheet) && judge::good(rng, judged, sheet) && checkers::papers(rng, checked, sheet)
 }
 
@@ -31,7 +31,7 @@ fn naive(rng: &mut Rng, sheet: &[u8]) -> bool {
 pub fn suite(rng: &mut Rng, rounds: usize) -> bool {
     let (mut runs, mut lists) = (Tally::new("run checker, as written"), Tally::new("strike checker, as written"));
     let mut checked = checkers::Checked { runs: &mut runs, lists: &mut lists };
-    let mut judged = Tally::new("judge, as written");
+    let mut judged = judge::Seen::new("judge, as written");
     for round in 0..rounds {
         let most = if round % 4 == 0 { LETTERS } else { FEW_LETTERS };
         let letters = rng.within(2, most) as u8;
@@ -40,14 +40,14 @@ pub fn suite(rng: &mut Rng, rounds: usize) -> bool {
             return false;
         }
     }
-    judged.complete(&[0, 11, 12, 13, 14]) & runs.complete(&[0, 14]) & lists.complete(&[0, 14])
+    judged.tally.complete(&[0, 11, 12, 13, 14]) & runs.complete(&[0, 14]) & lists.complete(&[0, 14])
 }
 
 /// The benchmark's families, each in four orders of its letters.
 pub fn orders(rng: &mut Rng, _: usize) -> bool {
     let (mut runs, mut lists) = (Tally::new("run checker, in four orders"), Tally::new("strike checker, in four orders"));
     let mut checked = checkers::Checked { runs: &mut runs, lists: &mut lists };
-    let mut judged = Tally::new("judge, in four orders");
+    let mut judged = judge::Seen::new("judge, in four orders");
     for family in families().into_iter().chain(clashes()) {
         for bytes in in_orders(&family.sheet).expect("a good sheet") {
             let lent = judge::filled(rng, [4096, 4096, 8192, 4096]);
@@ -56,5 +56,5 @@ pub fn orders(rng: &mut Rng, _: usize) -> bool {
             }
         }
     }
-    judged.complete(&[0, 13, 14]) & runs.complete(&[0, 14]) & lists.complete(&[0, 14])
+    judged.tally.complete(&[0, 13, 14]) & runs.complete(&[0, 14]) & lists.complete(&[0, 14])
 }
