@@ -11,13 +11,14 @@
 #include "test.h"
 
 enum { TABLE, WORDS, SCRATCH, RUN, SLICES };
+enum { ANSWER, COUNT, A, B, PLACE, NUMBERS };
 enum { ROOM = 16384, NO_ROOM = 11, SHORT_RUN = 12, CANNOT = 13, LONG_PAPER = 50000 };
 
 static const uint32_t OLD = 0xDEADBEEF;
 
 /* What is lent without fences, and the outcome there. */
 static uint32_t lent[SLICES][2 * (ROOM + 1)];
-static uint32_t out[5];
+static uint32_t out[NUMBERS];
 static uint8_t states[4 * LONG_PAPER], words[4 * LONG_PAPER];
 
 static void fill(uint32_t *slice, size_t len)
@@ -41,60 +42,74 @@ static uint32_t *numbers(struct fenced copy)
     return (uint32_t *)(void *)copy.at;
 }
 
-/* Judges once more with everything fenced: whether the four numbers and all slices are the same, and nothing around them was touched. */
+/* Judges once more with everything fenced: whether the five numbers and all slices are the same, and nothing around them was touched. */
 static int judged_the_same(const uint8_t *sheet, size_t len, const size_t sizes[SLICES], enum place place)
 {
-    struct fenced copy = fence_to_read(sheet, len, place), slices[SLICES], four;
+    struct fenced copy = fence_to_read(sheet, len, place), slices[SLICES], five;
     static uint32_t old[sizeof lent[0] / sizeof lent[0][0]];
     int same;
     fill(old, sizeof old / sizeof old[0]);
-    four = fence(old, sizeof out, place);
+    five = fence(old, sizeof out, place);
     for (size_t i = 0; i < SLICES; i++) {
         slices[i] = fence(old, sizes[i] * sizeof old[0], place);
     }
     naxxurbi_judge(copy.at, len, numbers(slices[TABLE]), sizes[TABLE], numbers(slices[WORDS]), sizes[WORDS], numbers(slices[SCRATCH]),
-                   sizes[SCRATCH], numbers(slices[RUN]), sizes[RUN], numbers(four));
-    same = memcmp(four.at, out, sizeof out) == 0;
+                   sizes[SCRATCH], numbers(slices[RUN]), sizes[RUN], numbers(five));
+    same = memcmp(five.at, out, sizeof out) == 0;
     for (size_t i = 0; i < SLICES; i++) {
         same = same && (sizes[i] == 0 || memcmp(slices[i].at, lent[i], slices[i].len) == 0);
         same = unfence(slices[i]) && same;
     }
-    same = unfence(four) && same;
+    same = unfence(five) && same;
     unfence(copy);
     return same;
 }
 
+/* What the reader and both checkers answer; and whether nothing around the two numbers of naxxurbi_read_place was touched. */
+struct answers {
+    uint32_t read, read_place[2], run, strikes;
+    int clean;
+};
+
 /* The reader's and both checkers' answers on fenced copies. */
-static void read_and_check(const uint8_t *sheet, size_t len, size_t states_len, size_t words_len, uint32_t a, enum place place,
-                           uint32_t answers[3])
+static struct answers read_and_check(const uint8_t *sheet, size_t len, size_t states_len, size_t words_len, uint32_t a, enum place place)
 {
     struct fenced copy = fence_to_read(sheet, len, place);
     struct fenced paper = fence_to_read(states, states_len, place), marks = fence_to_read(words, words_len, place);
-    answers[0] = naxxurbi_read(copy.at, copy.len);
-    answers[1] = naxxurbi_check_run(copy.at, copy.len, paper.at, paper.len, a);
-    answers[2] = naxxurbi_check_strikes(copy.at, copy.len, paper.at, paper.len, marks.at, marks.len);
+    struct answers found = {.read_place = {OLD, OLD}};
+    struct fenced two = fence(found.read_place, sizeof found.read_place, place);
+    found.read = naxxurbi_read(copy.at, copy.len);
+    naxxurbi_read_place(copy.at, copy.len, numbers(two));
+    memcpy(found.read_place, two.at, sizeof found.read_place);
+    found.clean = unfence(two);
+    found.run = naxxurbi_check_run(copy.at, copy.len, paper.at, paper.len, a);
+    found.strikes = naxxurbi_check_strikes(copy.at, copy.len, paper.at, paper.len, marks.at, marks.len);
     unfence(copy);
     unfence(paper);
     unfence(marks);
+    return found;
 }
 
-/* One sheet that was made: these four numbers, without fences and with them; and the paper that came with it is accepted. */
-static void judged(const char *name, const size_t sizes[SLICES], const uint32_t wanted[4])
+/* One sheet that was made: these five numbers, without fences and with them; and the paper that came with it is accepted. */
+static void judged(const char *name, const size_t sizes[SLICES], const uint32_t wanted[NUMBERS])
 {
-    uint32_t answers[3], fault = wanted[0] <= 10 ? wanted[0] : 0;
+    uint32_t fault = wanted[ANSWER] <= 10 ? wanted[ANSWER] : 0;
     judge(made, made_len, sizes);
-    for (size_t field = 0; field < 4; field++) {
+    for (size_t field = 0; field < NUMBERS; field++) {
         expect(name, "judged", out[field], wanted[field]);
     }
-    int kept = wanted[0] == 0, cannot = wanted[0] == CANNOT;
-    size_t states_len = write_numbers(states, kept ? lent[RUN] : lent[TABLE], kept ? out[3] : cannot ? out[1] : 0);
-    size_t words_len = write_numbers(words, lent[WORDS], cannot ? out[1] : 0);
+    int kept = wanted[ANSWER] == 0, cannot = wanted[ANSWER] == CANNOT;
+    size_t states_len = write_numbers(states, kept ? lent[RUN] : lent[TABLE], kept ? out[B] : cannot ? out[COUNT] : 0);
+    size_t words_len = write_numbers(words, lent[WORDS], cannot ? out[COUNT] : 0);
     for (int place = 0; place < PLACES; place++) {
         expect(name, "judged the same between fences", (uint32_t)judged_the_same(made, made_len, sizes, place), 1);
-        read_and_check(made, made_len, states_len, words_len, out[2], place, answers);
-        expect(name, "read between fences", answers[0], fault);
-        expect(name, "run checked between fences", answers[1], fault > 0 ? fault : kept ? ACCEPTED : NOT_ACCEPTED);
-        expect(name, "strike list checked between fences", answers[2], fault > 0 ? fault : cannot ? ACCEPTED : NOT_ACCEPTED);
+        struct answers found = read_and_check(made, made_len, states_len, words_len, out[A], place);
+        expect(name, "read between fences", found.read, fault);
+        expect(name, "read between fences, with the place", found.read_place[0], fault);
+        expect(name, "place read between fences", found.read_place[1], wanted[PLACE]);
+        expect(name, "only the two numbers written", (uint32_t)found.clean, 1);
+        expect(name, "run checked between fences", found.run, fault > 0 ? fault : kept ? ACCEPTED : NOT_ACCEPTED);
+        expect(name, "strike list checked between fences", found.strikes, fault > 0 ? fault : cannot ? ACCEPTED : NOT_ACCEPTED);
     }
 }
 
@@ -102,31 +117,32 @@ static void judged(const char *name, const size_t sizes[SLICES], const uint32_t 
 static void filled(void)
 {
     make_longest();
-    judged("4,096 bytes", (const size_t[]){24, 24, 48, 1}, (const uint32_t[]){0, 24, 0, 1});
-    judged("4,096 bytes, a table too short", (const size_t[]){23, 24, 48, 1}, (const uint32_t[]){NO_ROOM, 0, 0, 0});
-    judged("4,096 bytes, no run", (const size_t[]){24, 24, 48, 0}, (const uint32_t[]){SHORT_RUN, 0, 0, 1});
+    judged("4,096 bytes", (const size_t[]){24, 24, 48, 1}, (const uint32_t[]){0, 24, 0, 1, 0});
+    judged("4,096 bytes, a table too short", (const size_t[]){23, 24, 48, 1}, (const uint32_t[]){NO_ROOM, 0, 0, 0, 0});
+    judged("4,096 bytes, no run", (const size_t[]){24, 24, 48, 0}, (const uint32_t[]){SHORT_RUN, 0, 0, 1, 0});
     made[made_len - 1]--;
-    judged("4,096 bytes, the last literal no higher", (const size_t[]){24, 24, 48, 1}, (const uint32_t[]){9, 0, 0, 0});
+    judged("4,096 bytes, the last literal no higher", (const size_t[]){24, 24, 48, 1}, (const uint32_t[]){9, 0, 0, 0, 4095});
     made_len--;
     state_length();
-    judged("4,095 bytes, the last record cut off", (const size_t[]){24, 24, 48, 1}, (const uint32_t[]){6, 0, 0, 0});
+    /* The last record has 42 literals, so its length byte stands 43 before byte 4,096. */
+    judged("4,095 bytes, the last record cut off", (const size_t[]){24, 24, 48, 1}, (const uint32_t[]){6, 0, 0, 0, 4053});
     make_longest();
     byte(0);
     state_length();
-    judged("4,097 bytes", (const size_t[]){24, 24, 48, 1}, (const uint32_t[]){1, 0, 0, 0});
+    judged("4,097 bytes", (const size_t[]){24, 24, 48, 1}, (const uint32_t[]){1, 0, 0, 0, 0});
     make_free(10, 0);
-    judged("1,024 states", (const size_t[]){1024, 1024, 2048, 1024}, (const uint32_t[]){0, 1024, 0, 1});
+    judged("1,024 states", (const size_t[]){1024, 1024, 2048, 1024}, (const uint32_t[]){0, 1024, 0, 1, 0});
     make_dead(10);
-    judged("1,024 states, no way on", (const size_t[]){1024, 1024, 2048, 1024}, (const uint32_t[]){CANNOT, 1024, 0, 0});
+    judged("1,024 states, no way on", (const size_t[]){1024, 1024, 2048, 1024}, (const uint32_t[]){CANNOT, 1024, 0, 0, 0});
     make_ring(1);
-    judged("a ring, its run just fitting", (const size_t[]){24, 24, 48, 384}, (const uint32_t[]){0, 24, 0, 384});
-    judged("a ring, its run just not fitting", (const size_t[]){24, 24, 48, 383}, (const uint32_t[]){SHORT_RUN, 0, 0, 384});
+    judged("a ring, its run just fitting", (const size_t[]){24, 24, 48, 384}, (const uint32_t[]){0, 24, 0, 384, 0});
+    judged("a ring, its run just not fitting", (const size_t[]){24, 24, 48, 383}, (const uint32_t[]){SHORT_RUN, 0, 0, 384, 0});
     make_ring(0);
-    judged("a chain", (const size_t[]){24, 24, 48, 0}, (const uint32_t[]){CANNOT, 24, 0, 0});
+    judged("a chain", (const size_t[]){24, 24, 48, 0}, (const uint32_t[]){CANNOT, 24, 0, 0, 0});
     make_free(14, 0);
-    judged("16,384 states", (const size_t[]){ROOM, ROOM, 2 * ROOM, 1}, (const uint32_t[]){0, ROOM, 0, 1});
+    judged("16,384 states", (const size_t[]){ROOM, ROOM, 2 * ROOM, 1}, (const uint32_t[]){0, ROOM, 0, 1, 0});
     make_free(15, 0);
-    judged("32,768 states", (const size_t[]){ROOM + 1, ROOM + 1, 2 * ROOM + 2, 1}, (const uint32_t[]){NO_ROOM, 0, 0, 0});
+    judged("32,768 states", (const size_t[]){ROOM + 1, ROOM + 1, 2 * ROOM + 2, 1}, (const uint32_t[]){NO_ROOM, 0, 0, 0, 0});
 }
 
 /* A slice may be null where its length is 0: each alone, all four, and the sheet. */
@@ -134,25 +150,30 @@ static void null_slices(void)
 {
     uint32_t table[2], marks[2], scratch[4], run[2];
     naxxurbi_judge(w2.bytes, w2.len, NULL, 0, marks, 2, scratch, 4, run, 2, out);
-    expect(w2.name, "no table", out[0], NO_ROOM);
+    expect(w2.name, "no table", out[ANSWER], NO_ROOM);
     naxxurbi_judge(w2.bytes, w2.len, table, 2, NULL, 0, scratch, 4, run, 2, out);
-    expect(w2.name, "no words", out[0], NO_ROOM);
+    expect(w2.name, "no words", out[ANSWER], NO_ROOM);
     naxxurbi_judge(w2.bytes, w2.len, table, 2, marks, 2, NULL, 0, run, 2, out);
-    expect(w2.name, "no scratch", out[0], NO_ROOM);
+    expect(w2.name, "no scratch", out[ANSWER], NO_ROOM);
     naxxurbi_judge(w2.bytes, w2.len, table, 2, marks, 2, scratch, 4, NULL, 0, out);
-    expect(w2.name, "no run", out[0], SHORT_RUN);
-    expect(w2.name, "no run: what it needs", out[3], 2);
+    expect(w2.name, "no run", out[ANSWER], SHORT_RUN);
+    expect(w2.name, "no run: what it needs", out[B], 2);
     naxxurbi_judge(w4.bytes, w4.len, table, 2, marks, 2, scratch, 4, NULL, 0, out);
-    expect(w4.name, "no run, and none needed", out[0], CANNOT);
+    expect(w4.name, "no run, and none needed", out[ANSWER], CANNOT);
     expect(w4.name, "no run, and none needed: words", marks[0] == 33 && marks[1] == 64, 1);
     naxxurbi_judge(w2.bytes, w2.len, NULL, 0, NULL, 0, NULL, 0, NULL, 0, out);
-    expect(w2.name, "nothing lent", out[0], NO_ROOM);
+    expect(w2.name, "nothing lent", out[ANSWER], NO_ROOM);
     naxxurbi_judge(w6.bytes, w6.len, NULL, 0, NULL, 0, NULL, 0, NULL, 0, out);
-    expect(w6.name, "nothing lent, and nothing needed", out[0], CANNOT);
+    expect(w6.name, "nothing lent, and nothing needed", out[ANSWER], CANNOT);
     naxxurbi_judge(NULL, 0, NULL, 0, NULL, 0, NULL, 0, NULL, 0, out);
-    expect("no sheet", "nothing lent", out[0], 1);
+    expect("no sheet", "nothing lent", out[ANSWER], 1);
     naxxurbi_judge(NULL, 0, table, 2, marks, 2, scratch, 4, run, 2, out);
-    expect("no sheet", "all lent", out[0], 1);
+    expect("no sheet", "all lent", out[ANSWER], 1);
+    expect("no sheet", "place", out[PLACE], 0);
+    uint32_t found[2] = {OLD, OLD};
+    naxxurbi_read_place(NULL, 0, found);
+    expect("no sheet", "read with the place", found[0], 1);
+    expect("no sheet", "place read", found[1], 0);
 }
 
 /* Whether an answer goes with this fault of the sheet; 0: it has none. */
@@ -161,15 +182,25 @@ static int goes_with(uint32_t answer, uint32_t fault)
     return fault > 0 ? answer == fault : answer == 0 || answer > 10;
 }
 
-/* Whether all four calls, between fences, say this fault of the sheet. */
-static int all_say(const uint8_t *sheet, size_t len, uint32_t fault, enum place place)
+/* Whether all calls, between fences, say this fault of the sheet, and those that tell a place this place. */
+static int all_say(const uint8_t *sheet, size_t len, const uint32_t fault[2], enum place place)
 {
     static const size_t sizes[SLICES] = {5, 4, 9, 3};
-    uint32_t answers[3];
     judge(sheet, len, sizes);
-    read_and_check(sheet, len, 8, 8, 0, place, answers);
-    return judged_the_same(sheet, len, sizes, place) && answers[0] == fault && goes_with(answers[1], fault) &&
-           goes_with(answers[2], fault) && goes_with(out[0], fault);
+    struct answers found = read_and_check(sheet, len, 8, 8, 0, place);
+    int read = found.clean && found.read == fault[0] && memcmp(found.read_place, fault, sizeof found.read_place) == 0;
+    int checked = goes_with(found.run, fault[0]) && goes_with(found.strikes, fault[0]);
+    return judged_the_same(sheet, len, sizes, place) && goes_with(out[ANSWER], fault[0]) && out[PLACE] == fault[1] && read && checked;
+}
+
+/* The length byte of W15's record that is not whole in the first `len` bytes, or `len` where that byte is missing. */
+static uint32_t first_not_whole(size_t len)
+{
+    size_t at = 8;
+    while (at < len && at + 1 + w15_bytes[at] <= len) {
+        at += (size_t)1 + w15_bytes[at];
+    }
+    return (uint32_t)at;
 }
 
 /* W15 cut off after every byte, with the length put right: too short (1), then a record missing or past the end (6). */
@@ -182,8 +213,8 @@ static void cut_off(void)
             cut[1] = 0;
             cut[2] = (uint8_t)len;
         }
-        int right = all_say(cut, len, len < 8 ? 1 : 6, AT_START) && all_say(cut, len, len < 8 ? 1 : 6, AT_END);
-        expect(w15.name, "cut off", (uint32_t)right, 1);
+        const uint32_t fault[2] = {len < 8 ? 1 : 6, len < 8 ? 0 : first_not_whole(len)};
+        expect(w15.name, "cut off", (uint32_t)(all_say(cut, len, fault, AT_START) && all_say(cut, len, fault, AT_END)), 1);
     }
 }
 
@@ -197,8 +228,9 @@ static void one_byte_changed(const struct sheet *sheet)
         memcpy(bytes, sheet->bytes, sheet->len);
         for (size_t value = 0; value < sizeof values; value++) {
             bytes[i] = values[value];
-            uint32_t fault = naxxurbi_read(bytes, sheet->len);
-            right = right && fault <= 10 && all_say(bytes, sheet->len, fault, AT_START) && all_say(bytes, sheet->len, fault, AT_END);
+            uint32_t fault[2];
+            naxxurbi_read_place(bytes, sheet->len, fault);
+            right = right && fault[0] <= 10 && all_say(bytes, sheet->len, fault, AT_START) && all_say(bytes, sheet->len, fault, AT_END);
         }
         expect(sheet->name, "one byte changed", (uint32_t)right, 1);
     }
@@ -207,19 +239,18 @@ static void one_byte_changed(const struct sheet *sheet)
 /* The made sheet has more states than any list could hold: a long list is refused, and the judge has no room. */
 static void hostile(const char *name)
 {
-    uint32_t answers[3];
     for (uint32_t i = 0; i < LONG_PAPER; i++) {
         const uint32_t state = 2 * i, word = 33;
         write_numbers(states + 4 * i, &state, 1);
         write_numbers(words + 4 * i, &word, 1);
     }
     for (int place = 0; place < PLACES; place++) {
-        read_and_check(made, made_len, sizeof states, sizeof words, 0, place, answers);
-        expect(name, "a long run", answers[1], NOT_ACCEPTED);
-        expect(name, "a long list", answers[2], NOT_ACCEPTED);
+        struct answers found = read_and_check(made, made_len, sizeof states, sizeof words, 0, place);
+        expect(name, "a long run", found.run, NOT_ACCEPTED);
+        expect(name, "a long list", found.strikes, NOT_ACCEPTED);
     }
     judge(made, made_len, (const size_t[]){ROOM + 1, ROOM + 1, 2 * ROOM + 2, 0});
-    expect(name, "judged", out[0], NO_ROOM);
+    expect(name, "judged", out[ANSWER], NO_ROOM);
 }
 
 /* Papers and sheets made to cost much: every call ends. */
@@ -230,7 +261,7 @@ static void hostile_papers(void)
     make_none_first(ALL_LETTERS, 1);
     hostile("24 letters, every state a next state");
     make_exactly(ALL_LETTERS, 1, 0);
-    judged("24 letters, few states", (const size_t[]){24, 24, 48, 1}, (const uint32_t[]){0, 24, 0, 1});
+    judged("24 letters, few states", (const size_t[]){24, 24, 48, 1}, (const uint32_t[]){0, 24, 0, 1, 0});
 }
 
 int main(void)

@@ -8,28 +8,28 @@
 #include "naxxurbi.h"
 #include "test.h"
 
-enum { MOST = 11, LENT = 64, CANNOT = 13 };
+enum { NUMBERS = 5, MOST = 11, LENT = 64, CANNOT = 13 };
 
-/* A sheet, the four numbers, and the paper: the run's states, or the strike list's states and words. */
+/* A sheet, the five numbers, and the paper: the run's states, or the strike list's states and words. */
 struct told {
     const char *file;
-    uint32_t out[5];
+    uint32_t out[NUMBERS];
     size_t count;
     uint32_t states[MOST];
     uint32_t words[MOST];
 };
 
 static const struct told sheets[] = {
-    {"clock", {CANNOT, 4, 0, 0}, 4, {9, 11, 5, 7}, {32, 32, 33, 33}},
-    {"clock-mended", {0, 6, 3, 4}, 4, {7, 9, 3, 1}, {0}},
+    {"clock", {CANNOT, 4, 0, 0, 0}, 4, {9, 11, 5, 7}, {32, 32, 33, 33}},
+    {"clock-mended", {0, 6, 3, 4, 0}, 4, {7, 9, 3, 1}, {0}},
     {"mistake-1",
-     {CANNOT, 11, 0, 0},
+     {CANNOT, 11, 0, 0, 0},
      11,
      {10, 9, 8, 7, 6, 5, 4, 3, 2, 1, 0},
      {32, 64, 96, 128, 160, 192, 224, 256, 288, 320, 352}},
-    {"mistake-2", {CANNOT, 2, 0, 0}, 2, {7, 11}, {33, 33}},
-    {"mistake-3", {0, 4, 1, 2}, 2, {1, 3}, {0}},
-    {"mistake-3-misread", {CANNOT, 1, 0, 0}, 1, {1}, {32}},
+    {"mistake-2", {CANNOT, 2, 0, 0, 0}, 2, {7, 11}, {33, 33}},
+    {"mistake-3", {0, 4, 1, 2, 0}, 2, {1, 3}, {0}},
+    {"mistake-3-misread", {CANNOT, 1, 0, 0, 0}, 1, {1}, {32}},
 };
 
 /* Walks that look like runs. */
@@ -70,11 +70,11 @@ static void open_sheet(const char *folder, const char *file)
 /* Judges one sheet and has its paper checked. */
 static void as_told(const struct told *told)
 {
-    uint32_t table[LENT], words[LENT], scratch[2 * LENT], run[LENT], out[5];
+    uint32_t table[LENT], words[LENT], scratch[2 * LENT], run[LENT], out[NUMBERS];
     uint8_t paper[4 * LENT], marks[4 * LENT];
     int cannot = told->out[0] == CANNOT;
     naxxurbi_judge(sheet, sheet_len, table, LENT, words, LENT, scratch, (size_t)2 * LENT, run, LENT, out);
-    for (size_t field = 0; field < 4; field++) {
+    for (size_t field = 0; field < NUMBERS; field++) {
         expect(told->file, "judged", out[field], told->out[field]);
     }
     size_t bytes = told->count * sizeof table[0];

@@ -25,6 +25,14 @@ static void call_read(void)
     answer = naxxurbi_read(made, made_len);
 }
 
+static uint32_t found[2];
+
+static void call_read_place(void)
+{
+    naxxurbi_read_place(made, made_len, found);
+    answer = found[0];
+}
+
 static void call_judge(void)
 {
     naxxurbi_judge(made, made_len, table, STATES, words, STATES, scratch, (size_t)2 * STATES, run, MOMENTS, out);
@@ -78,11 +86,31 @@ static void on_its_stack(const char *name, const char *what, void (*call)(void),
 static void all_calls(const char *name, uint32_t judged)
 {
     on_its_stack(name, "reader", call_read, READ_PAGES, 0);
+    on_its_stack(name, "reader, place", call_read_place, READ_PAGES, 0);
+    expect(name, "no place", found[1], 0);
     on_its_stack(name, "judge", call_judge, JUDGE_PAGES, judged);
+    expect(name, "judged, no place", out[4], 0);
     states_len = write_numbers(states_paper, judged == 0 ? run : table, judged == 0 ? out[3] : out[1]);
     words_len = write_numbers(words_paper, words, judged == 0 ? 0 : out[1]);
     on_its_stack(name, "run checker", call_check_run, RUN_PAGES, judged == 0 ? ACCEPTED : NOT_ACCEPTED);
     on_its_stack(name, "strike checker", call_check_strikes, STRIKES_PAGES, judged == 13 ? ACCEPTED : NOT_ACCEPTED);
+}
+
+/* The last literal of the longest sheet is no higher than the one before it: every call says 9, and those that tell a place byte 4,095. */
+static void bad_sheet(void)
+{
+    const char *name = "4,096 bytes, the last of them bad";
+    enum { BAD = 9 };
+    make_longest();
+    made[made_len - 1]--;
+    states_len = words_len = 0;
+    on_its_stack(name, "reader", call_read, READ_PAGES, BAD);
+    on_its_stack(name, "reader, place", call_read_place, READ_PAGES, BAD);
+    expect(name, "place read", found[1], MOST_BYTES - 1);
+    on_its_stack(name, "judge", call_judge, JUDGE_PAGES, BAD);
+    expect(name, "place judged", out[4], MOST_BYTES - 1);
+    on_its_stack(name, "run checker", call_check_run, RUN_PAGES, BAD);
+    on_its_stack(name, "strike checker", call_check_strikes, STRIKES_PAGES, BAD);
 }
 
 int main(void)
@@ -105,5 +133,6 @@ int main(void)
     all_calls("24 letters, more states than room", 11);
     make_free(1, 0);
     all_calls("1 letter", 0);
+    bad_sheet();
     return report();
 }

@@ -36,7 +36,7 @@ static void expect(const char *sheet, const char *what, uint32_t got, uint32_t w
 }
 
 /* Writes numbers as bytes, four to each, the highest first; gives back how many bytes. */
-static size_t write_numbers(uint8_t *bytes, const uint32_t *numbers, size_t count)
+static inline size_t write_numbers(uint8_t *bytes, const uint32_t *numbers, size_t count)
 {
     for (size_t i = 0; i < count; i++) {
         for (size_t j = 0; j < 4; j++) {

@@ -11,7 +11,7 @@
 #include "fence.h"
 #include "test.h"
 
-enum { MOST = 4, LENT = 64 };
+enum { NUMBERS = 5, MOST = NUMBERS, LENT = 64 };
 
 static const uint32_t OLD = 0xDEADBEEF;
 
@@ -41,7 +41,7 @@ struct slice {
 struct example {
     const struct sheet *sheet;
     const char *what;
-    uint32_t out[5];
+    uint32_t out[NUMBERS];
     struct slice table;
     struct slice words;
     struct slice scratch;
@@ -53,27 +53,27 @@ struct example {
 #define ZEROS(len) {len, 0, {0}, 0}
 
 static const struct example examples[] = {
-    {&w1, "can be kept", {0, 2, 0, 1}, {9, 2, {0, 1}, 0}, ZEROS(8), ZEROS(19), {7, 1, {0}, 0xDEADBEEF}},
-    {&w2, "can be kept", {0, 2, 1, 2}, {9, 2, {0, 1}, 0}, ZEROS(8), ZEROS(19), {7, 2, {0, 1}, 0xDEADBEEF}},
-    {&w3, "can be kept", {0, 2, 1, 3}, {9, 2, {0, 1}, 0}, ZEROS(8), ZEROS(19), {7, 3, {0, 1, 0}, 0xDEADBEEF}},
-    {&w4, "cannot be kept", {13, 2, 0, 0}, {9, 2, {0, 1}, 0}, {8, 2, {33, 64}, 0}, ZEROS(19), UNCHANGED(7)},
-    {&w5, "cannot be kept", {13, 2, 0, 0}, {9, 2, {0, 1}, 0}, {8, 2, {32, 32}, 0}, ZEROS(19), UNCHANGED(7)},
-    {&w6, "cannot be kept", {13, 0, 0, 0}, ZEROS(9), ZEROS(8), ZEROS(19), UNCHANGED(7)},
-    {&w6, "no room, and none needed", {13, 0, 0, 0}, ZEROS(0), ZEROS(0), ZEROS(0), UNCHANGED(0)},
-    {&w15, "cannot be kept", {13, 4, 0, 0}, {9, 4, {775, 8711, 16647, 24583}, 0}, {8, 4, {32, 32, 32, 32}, 0}, ZEROS(19), UNCHANGED(7)},
-    {&w15, "room for four", {13, 4, 0, 0}, {4, 4, {775, 8711, 16647, 24583}, 0}, {4, 4, {32, 32, 32, 32}, 0}, ZEROS(8), UNCHANGED(0)},
-    {&w15, "a table of three", {11, 0, 0, 0}, ZEROS(3), ZEROS(4), ZEROS(8), UNCHANGED(7)},
-    {&w15, "three words", {11, 0, 0, 0}, ZEROS(4), ZEROS(3), ZEROS(8), UNCHANGED(7)},
-    {&w15, "a scratch of seven", {11, 0, 0, 0}, ZEROS(4), ZEROS(4), ZEROS(7), UNCHANGED(7)},
+    {&w1, "can be kept", {0, 2, 0, 1, 0}, {9, 2, {0, 1}, 0}, ZEROS(8), ZEROS(19), {7, 1, {0}, 0xDEADBEEF}},
+    {&w2, "can be kept", {0, 2, 1, 2, 0}, {9, 2, {0, 1}, 0}, ZEROS(8), ZEROS(19), {7, 2, {0, 1}, 0xDEADBEEF}},
+    {&w3, "can be kept", {0, 2, 1, 3, 0}, {9, 2, {0, 1}, 0}, ZEROS(8), ZEROS(19), {7, 3, {0, 1, 0}, 0xDEADBEEF}},
+    {&w4, "cannot be kept", {13, 2, 0, 0, 0}, {9, 2, {0, 1}, 0}, {8, 2, {33, 64}, 0}, ZEROS(19), UNCHANGED(7)},
+    {&w5, "cannot be kept", {13, 2, 0, 0, 0}, {9, 2, {0, 1}, 0}, {8, 2, {32, 32}, 0}, ZEROS(19), UNCHANGED(7)},
+    {&w6, "cannot be kept", {13, 0, 0, 0, 0}, ZEROS(9), ZEROS(8), ZEROS(19), UNCHANGED(7)},
+    {&w6, "no room, and none needed", {13, 0, 0, 0, 0}, ZEROS(0), ZEROS(0), ZEROS(0), UNCHANGED(0)},
+    {&w15, "cannot be kept", {13, 4, 0, 0, 0}, {9, 4, {775, 8711, 16647, 24583}, 0}, {8, 4, {32, 32, 32, 32}, 0}, ZEROS(19), UNCHANGED(7)},
+    {&w15, "room for four", {13, 4, 0, 0, 0}, {4, 4, {775, 8711, 16647, 24583}, 0}, {4, 4, {32, 32, 32, 32}, 0}, ZEROS(8), UNCHANGED(0)},
+    {&w15, "a table of three", {11, 0, 0, 0, 0}, ZEROS(3), ZEROS(4), ZEROS(8), UNCHANGED(7)},
+    {&w15, "three words", {11, 0, 0, 0, 0}, ZEROS(4), ZEROS(3), ZEROS(8), UNCHANGED(7)},
+    {&w15, "a scratch of seven", {11, 0, 0, 0, 0}, ZEROS(4), ZEROS(4), ZEROS(7), UNCHANGED(7)},
     /* W16 is W2 with less room. */
-    {&w2, "W16, C = 1: table", {11, 0, 0, 0}, ZEROS(1), ZEROS(9), ZEROS(9), UNCHANGED(5)},
-    {&w2, "W16, C = 1: words", {11, 0, 0, 0}, ZEROS(9), ZEROS(1), ZEROS(9), UNCHANGED(5)},
-    {&w2, "W16, C = 1: scratch", {11, 0, 0, 0}, ZEROS(9), ZEROS(9), ZEROS(3), UNCHANGED(5)},
-    {&w2, "W16, C = 2, a run of one", {12, 0, 0, 2}, ZEROS(2), ZEROS(2), ZEROS(4), UNCHANGED(1)},
-    {&w2, "W16, C = 2, no run", {12, 0, 0, 2}, ZEROS(2), ZEROS(2), ZEROS(4), UNCHANGED(0)},
-    {&w2, "C = 2, a run of two", {0, 2, 1, 2}, {2, 2, {0, 1}, 0}, ZEROS(2), ZEROS(4), {2, 2, {0, 1}, 0}},
-    {&bad, "nothing is changed", {2, 0, 0, 0}, UNCHANGED(3), UNCHANGED(2), UNCHANGED(1), UNCHANGED(4)},
-    /* A fault has a place, here byte 12. */
+    {&w2, "W16, C = 1: table", {11, 0, 0, 0, 0}, ZEROS(1), ZEROS(9), ZEROS(9), UNCHANGED(5)},
+    {&w2, "W16, C = 1: words", {11, 0, 0, 0, 0}, ZEROS(9), ZEROS(1), ZEROS(9), UNCHANGED(5)},
+    {&w2, "W16, C = 1: scratch", {11, 0, 0, 0, 0}, ZEROS(9), ZEROS(9), ZEROS(3), UNCHANGED(5)},
+    {&w2, "W16, C = 2, a run of one", {12, 0, 0, 2, 0}, ZEROS(2), ZEROS(2), ZEROS(4), UNCHANGED(1)},
+    {&w2, "W16, C = 2, no run", {12, 0, 0, 2, 0}, ZEROS(2), ZEROS(2), ZEROS(4), UNCHANGED(0)},
+    {&w2, "C = 2, a run of two", {0, 2, 1, 2, 0}, {2, 2, {0, 1}, 0}, ZEROS(2), ZEROS(4), {2, 2, {0, 1}, 0}},
+    /* Version 2 stands in byte 0, the literal that does not ascend in byte 12. */
+    {&bad, "nothing is changed", {2, 0, 0, 0, 0}, UNCHANGED(3), UNCHANGED(2), UNCHANGED(1), UNCHANGED(4)},
     {&twice, "nothing is changed", {9, 0, 0, 0, 12}, UNCHANGED(3), UNCHANGED(2), UNCHANGED(1), UNCHANGED(4)},
 };
 
@@ -98,7 +98,7 @@ static void fill(uint32_t *slice)
 
 static void judge_rows(void)
 {
-    uint32_t table[LENT], words[LENT], scratch[LENT], run[LENT], out[5];
+    uint32_t table[LENT], words[LENT], scratch[LENT], run[LENT], out[NUMBERS];
     for (size_t i = 0; i < sizeof examples / sizeof examples[0]; i++) {
         const struct example *row = &examples[i];
         const char *name = row->sheet->name;
@@ -108,7 +108,7 @@ static void judge_rows(void)
         fill(run);
         naxxurbi_judge(row->sheet->bytes, row->sheet->len, table, row->table.len, words, row->words.len, scratch, row->scratch.len, run,
                        row->run.len, out);
-        for (size_t field = 0; field < 5; field++) {
+        for (size_t field = 0; field < NUMBERS; field++) {
             expect(name, row->what, out[field], row->out[field]);
         }
         expect(name, "table", (uint32_t)is_as_wanted(table, &row->table, LENT), 1);
@@ -144,12 +144,12 @@ static void judge_fenced(const struct example *row, enum place place)
     struct fenced sheet = fence_to_read(row->sheet->bytes, row->sheet->len, place);
     struct fenced table = lend(&row->table, place), words = lend(&row->words, place);
     struct fenced scratch = lend(&row->scratch, place), run = lend(&row->run, place);
-    struct slice four = {4, 4, {row->out[0], row->out[1], row->out[2], row->out[3]}, 0};
-    struct fenced out = lend(&four, place);
+    struct slice five = {NUMBERS, NUMBERS, {row->out[0], row->out[1], row->out[2], row->out[3], row->out[4]}, 0};
+    struct fenced out = lend(&five, place);
     naxxurbi_judge(sheet.at, sheet.len, numbers(table), row->table.len, numbers(words), row->words.len, numbers(scratch), row->scratch.len,
                    numbers(run), row->run.len, numbers(out));
     expect(name, "fenced sheet", (uint32_t)unfence(sheet), 1);
-    expect(name, "fenced out", given_back(out, &four), 1);
+    expect(name, "fenced out", given_back(out, &five), 1);
     expect(name, "fenced table", given_back(table, &row->table), 1);
     expect(name, "fenced words", given_back(words, &row->words), 1);
     expect(name, "fenced scratch", given_back(scratch, &row->scratch), 1);
@@ -227,7 +227,7 @@ static void lawful_and_first(void)
 /* The judge's table says the same: without step rules every lawful state is livable. */
 static void livable(void)
 {
-    uint32_t table[LENT], words[LENT], scratch[LENT], run[LENT], out[5];
+    uint32_t table[LENT], words[LENT], scratch[LENT], run[LENT], out[NUMBERS];
     for (size_t i = 0; i < sizeof claims / sizeof claims[0]; i++) {
         const struct states *row = &claims[i];
         size_t count = row->lawful_count;
@@ -235,6 +235,7 @@ static void livable(void)
         naxxurbi_judge(row->sheet->bytes, row->sheet->len, table, LENT, words, LENT, scratch, LENT, run, LENT, out);
         expect(row->sheet->name, "answer", out[0], count > 0 ? 0 : 13);
         expect(row->sheet->name, "count", out[1], (uint32_t)count);
+        expect(row->sheet->name, "place", out[4], 0);
         expect(row->sheet->name, "table", memcmp(table, row->lawful, count * sizeof table[0]) == 0, 1);
         if (count > 0) {
             expect(row->sheet->name, "the run's first state", run[0], row->first[0]);

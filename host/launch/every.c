@@ -1,0 +1,25 @@
+/*
+ * Calls every exported function of the installed library once: reads W4, judges it, has the strike list checked, has W1's run checked, and
+ * asks for the place of a bad sheet's fault.
+ * host/launch/run compiles it with the flags of the installed naxxurbi.pc. Prints the answers.
+ */
+#include <stdio.h>
+
+#include <naxxurbi.h>
+
+static const uint8_t w1[] = {0x01, 0x00, 0x08, 0x01, 0x00, 0x00, 0x00, 0x00};
+static const uint8_t w4[] = {0x01, 0x00, 0x14, 0x01, 0x00, 0x01, 0x02, 0x01, 0x01, 0x01,
+                             0x03, 0x01, 0x01, 0xFF, 0x03, 0x01, 0xFF, 0xFF, 0x01, 0x01};
+static const uint8_t states[] = {0, 0, 0, 0, 0, 0, 0, 1}, words[] = {0, 0, 0, 33, 0, 0, 0, 64}, run[] = {0, 0, 0, 0};
+/* A limit with a literal twice: 9, in byte 12. */
+static const uint8_t bad[] = {0x01, 0x00, 0x0D, 0x01, 0x01, 0x00, 0x00, 0x00, 0x04, 0x01, 0x01, 0x01, 0x01};
+
+int main(void) {
+    uint32_t table[2], marks[2], scratch[4], sample[4], out[5], fault[2];
+    naxxurbi_judge(w4, sizeof w4, table, 2, marks, 2, scratch, 4, sample, 4, out);
+    naxxurbi_read_place(bad, sizeof bad, fault);
+    printf("read %u, judge %u %u, strikes %u, run %u, fault %u at %u\n", (unsigned)naxxurbi_read(w4, sizeof w4), (unsigned)out[0],
+           (unsigned)out[1], (unsigned)naxxurbi_check_strikes(w4, sizeof w4, states, sizeof states, words, sizeof words),
+           (unsigned)naxxurbi_check_run(w1, sizeof w1, run, sizeof run, 0), (unsigned)fault[0], (unsigned)fault[1]);
+    return 0;
+}
