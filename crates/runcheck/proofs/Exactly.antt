@@ -9,16 +9,15 @@ use lib.ListN.{length}
 use Rattle.meaning.specs.System.{Obeys}
 use Rattle.meaning.specs.Sheet.{firstFault}
 use Rattle.meaning.specs.Papers.{reading}
-use Rattle.meaning.specs.Promises.{systemIn, Whole, numbersIn, stateBytes, RunChecked, RunPlaced, RunBytesChecked}
+use Rattle.meaning.specs.Promises.{systemIn, Whole, numbersIn, stateBytes, RunChecked, RunBytesChecked}
 use Rattle.meaning.proofs.Lasso.{run-accepted-exactly}
 use Rattle.papers.proofs.Verdict.{zero-exactly}
 
 -- Answer 0 on numbers.
-pub run-obeys-exactly : (sheet states : List ℕ) (a n place : ℕ) → RunPlaced sheet states a n place
+pub run-obeys-exactly : (sheet states : List ℕ) (a n : ℕ) → RunChecked sheet states a n
     → (n ≡ 0) ↔ ((firstFault sheet ≡ none) × ((a < length states) × Obeys (systemIn sheet) (reading states a)))
-unfolding RunPlaced RunChecked
-run-obeys-exactly sheet states a n place p =
-    let c = p .number in
+unfolding RunChecked
+run-obeys-exactly sheet states a n c =
     (λ z. let h = zero-exactly c .0 z in (h .0, run-accepted-exactly _ _ _ .0 (h .1)), λ h. zero-exactly c .1 (h .0, run-accepted-exactly _ _ _ .1 (h .1)))
 
 -- Answer 0 on bytes.

@@ -8,20 +8,20 @@ use Prim.Native.Nat.{ℕ}
 use Rattle.meaning.specs.System.{CanBeKept}
 use Rattle.meaning.specs.Sheet.{firstFault}
 use Rattle.meaning.specs.Papers.{StrikesAccepted}
-use Rattle.meaning.specs.Promises.{systemIn, Whole, numbersIn, stateBytes, wordBytes, StrikesChecked, StrikesPlaced, StrikesBytesChecked}
+use Rattle.meaning.specs.Promises.{systemIn, Whole, numbersIn, stateBytes, wordBytes, StrikesChecked, StrikesBytesChecked}
 use Rattle.meaning.proofs.Soundness.{accepted-strikes-no-run}
 use Rattle.papers.proofs.Verdict.{zero-exactly}
 
 -- Answer 0 on numbers, exactly; and what follows.
-pub strikes-accepted-exactly : (sheet states words : List ℕ) (n place : ℕ) → StrikesPlaced sheet states words n place
+pub strikes-accepted-exactly : (sheet states words : List ℕ) (n : ℕ) → StrikesChecked sheet states words n
     → (n ≡ 0) ↔ ((firstFault sheet ≡ none) × StrikesAccepted (systemIn sheet) states words)
-unfolding StrikesPlaced StrikesChecked
-strikes-accepted-exactly sheet states words n place p = zero-exactly (p .number)
+unfolding StrikesChecked
+strikes-accepted-exactly sheet states words n c = zero-exactly c
 
-pub strikes-no-run : (sheet states words : List ℕ) (n place : ℕ) → StrikesPlaced sheet states words n place → n ≡ 0
+pub strikes-no-run : (sheet states words : List ℕ) (n : ℕ) → StrikesChecked sheet states words n → n ≡ 0
     → (firstFault sheet ≡ none) × (CanBeKept (systemIn sheet) → ⊥)
-strikes-no-run sheet states words n place c z =
-    let h = strikes-accepted-exactly sheet states words n place c .0 z in (h .0, accepted-strikes-no-run (h .1))
+strikes-no-run sheet states words n c z =
+    let h = strikes-accepted-exactly sheet states words n c .0 z in (h .0, accepted-strikes-no-run (h .1))
 
 -- Answer 0 on bytes, exactly; and what follows.
 pub strikes-bytes-accepted-exactly : (sheet states words : List ℕ) (n : ℕ) → StrikesBytesChecked sheet states words n
