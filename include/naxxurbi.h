@@ -30,24 +30,24 @@
  *
  *    - the machine is x86-64 under Linux;
  *    - a pointer is valid for its length: so many bytes, or numbers of four bytes, can be read there, and in the judge's slices and in
- *      `out` also written. A pointer may be null where its length is 0; `out` has room for its numbers, five
- *      for the judge and two for naxxurbi_read_place, and is never null;
+ *      `out` also written. A pointer may be null where its length is 0; `out` has room for its numbers, five for the judge and two for
+ *      naxxurbi_read_place, and is never null;
  *    - a pointer to uint32_t is aligned for it, to 4 bytes. Bytes may stand anywhere;
- *    - the judge's four slices and `out` lie apart: from one another, and from the sheet;
+ *    - the judge's four slices and `out` lie apart: from one another, and from the sheet; so does naxxurbi_read_place's `out`;
  *    - no slice has 2 to the power 63 bytes or more; for one of numbers, that is below 2 to the power 61 of them;
  *    - while a call runs, nobody else writes what it was given, nor reads what it may write;
  *    - the stack has room, as follows.
  *
  * Stack, in pages of 4,096 bytes: 205 for the judge, 4 for the strike checker, 2 for the run checker, 1 for the reader; what the caller
  * and signal handlers take comes on top. host/c/stack.c runs each call on a fenced stack of just this size, on sheets of 24 letters that are
- * judged to the end, and prints what they take: at most 835,296, 12,128, 7,128 and 216 bytes.
+ * judged to the end and on a bad one, and prints what they take: at most 835,296, 12,160, 7,160 and 280 bytes.
  *
  * The judge takes nearly as much for the smallest sheet (one letter, no rules: 830,960 bytes), since its rooms have a fixed size.
  *
  * Link libnaxxurbi.a, which bin/install makes and which has every call; a program takes in only the objects that it calls. Or link the
- * archives it is made of: libfirmware.a (both checkers), libjudge.a (naxxurbi_judge), libreader.a (naxxurbi_read, naxxurbi_read_place); each stands alone. Their
- * code takes at most 10 KB, 16 KB and 2 KB (of 1,024 bytes); they have no data of their own. The only outside function that they call is
- * memset.
+ * archives it is made of: libfirmware.a (both checkers), libjudge.a (naxxurbi_judge), libreader.a (naxxurbi_read, naxxurbi_read_place);
+ * each stands alone. Their code takes at most 10 KB, 16 KB and 2 KB (of 1,024 bytes); they have no data of their own. The only outside
+ * function that they call is memset.
  *
  * Time. The run checker looks at each state once for each rule and promise. The strike checker counts, for the first states and for each
  * entry that asks for something new, the states that may come next, and stops once there are more than the list could hold. It settles

@@ -1,7 +1,7 @@
 //! `sheets FOLDER` writes the named sheets into the folder and prints the rows of
 //! its README's table. `sheets` alone prints each sheet's bytes and its paper.
 
-use plain::named::{all, Judged, Named};
+use plain::named::{all, bad, Judged, Named};
 
 fn main() -> std::io::Result<()> {
     let folder = std::env::args().nth(1);
@@ -13,6 +13,17 @@ fn main() -> std::io::Result<()> {
                 println!("| {}.sheet | {} | `{}` |", named.file, named.what, judged.line());
             }
             None => show(&named, &judged),
+        }
+    }
+    for bad in bad() {
+        let (named, judged) = (&bad.named, Judged::of(&bad.named.sheet));
+        match &folder {
+            Some(folder) => {
+                std::fs::write(format!("{folder}/{}.sheet", named.file), &named.sheet)?;
+                let (file, what) = (named.file, named.what);
+                println!("| {file}.sheet | {what} | `{}` | {} |", judged.line(), bad.place);
+            }
+            None => show(named, &judged),
         }
     }
     Ok(())

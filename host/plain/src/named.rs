@@ -1,10 +1,11 @@
-//! Sheets that have a name on a page: the workshop wall's and the guide's.
+//! Sheets that have a name on a page: the workshop wall's, the guide's, and one
+//! bad sheet for each of the ten faults.
 //!
 //! The folder `examples` has each of them as a file; `tests/examples.rs` holds
 //! the files and the table in `examples/README.md` to what stands here.
 
 use crate::judge::{judge, Answer};
-use crate::make::{w15, Draft};
+use crate::make::{w15, with_length, Draft};
 
 /// A sheet with a name.
 #[derive(Clone, Debug)]
@@ -151,11 +152,50 @@ pub fn all() -> Vec<Named> {
     sheets
 }
 
+/// A bad sheet with a name, and its fault.
+#[derive(Clone, Debug)]
+pub struct Bad {
+    /// The sheet.
+    pub named: Named,
+    /// The fault's number.
+    pub number: u32,
+    /// The fault's place.
+    pub place: u32,
+}
+
+/// The clock's sheet with each of the ten faults. Its records begin at bytes 8,
+/// 12 (limits), 17, 19 (first rules), 21, 26, 30 (step rules) and 34 (promise).
+pub fn bad() -> Vec<Bad> {
+    let good = clock().bytes();
+    let with = |changes: &[(usize, u8)]| {
+        let mut sheet = good.clone();
+        for &(at, value) in changes {
+            sheet[at] = value;
+        }
+        sheet
+    };
+    let bad = |file, what, sheet, place: u32| (Named { file, what, sheet }, place);
+    let sheets = [
+        bad("bad-01", "cut off in the header", with_length(good[..7].to_vec()), 0),
+        bad("bad-02", "version 2", with(&[(0, 2)]), 0),
+        bad("bad-03", "a byte lost, and the old length stated", good[..35].to_vec(), 1),
+        bad("bad-04", "25 letters", with(&[(3, 25)]), 3),
+        bad("bad-05", "17 promises", with(&[(7, 17)]), 7),
+        bad("bad-06", "two promises stated, and only one there", with(&[(7, 2)]), 36),
+        bad("bad-07", "step 2 with a left side longer than its record", with(&[(27, 3)]), 26),
+        bad("bad-08", "letter 5 on the right side of step 1", with(&[(25, 5)]), 25),
+        bad("bad-09", "limit 2 with 4 before 3", with(&[(15, 4), (16, 3)]), 16),
+        bad("bad-10", "a promise there, and none stated", with(&[(7, 0)]), 34),
+    ];
+    let numbered = (1..).zip(sheets);
+    numbered.map(|(number, (named, place))| Bad { named, number, place }).collect()
+}
+
 /// The judge's numbers and papers, lent what the small program lends: 4,096
 /// numbers each for table, words and run, and 8,192 for scratch.
 #[derive(Clone, Debug)]
 pub struct Judged {
-    /// The four numbers.
+    /// The five numbers.
     pub answer: Answer,
     /// Answer 0: the sample run. Answer 13: the strike list's states.
     pub states: Vec<u32>,
@@ -177,7 +217,7 @@ impl Judged {
         Judged { answer, states: states[..size as usize].to_vec(), words: words[..listed].to_vec() }
     }
 
-    /// What the small program should print.
+    /// What the small program should print: it omits the place.
     pub fn line(&self) -> String {
         let Answer { answer, count, a, b, .. } = self.answer;
         format!("{answer} {count} {a} {b}")

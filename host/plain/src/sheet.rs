@@ -1,8 +1,9 @@
 //! The reader of rule sheets.
 //!
 //! A sheet is read once, front to back. The same scan serves [`read`], which
-//! keeps what it saw, and [`read_number`], which keeps nothing and allocates
-//! nothing: the scan is generic in a [`Keeper`] that is told of each record.
+//! keeps what it saw, and [`read_number`] and [`read_place`], which keep nothing
+//! and allocate nothing: the scan is generic in a [`Keeper`] that is told of
+//! each record.
 
 /// The most letters a sheet may have.
 pub const MOST_LETTERS: u8 = 24;
@@ -122,6 +123,14 @@ pub fn read(sheet: &[u8]) -> Result<Sheet, Fault> {
     scan(sheet, &mut kept)?;
     kept.bytes = sheet.iter().map(|&byte| byte as i8).collect();
     Ok(kept)
+}
+
+/// The reader's number and place: 0 and 0 for a good sheet.
+pub fn read_place(sheet: &[u8]) -> (u32, u32) {
+    match scan(sheet, &mut Nothing) {
+        Ok(()) => (0, 0),
+        Err(fault) => (fault.number, fault.place as u32),
+    }
 }
 
 /// The reader's number alone: 0 for a good sheet, else 1 to 10.

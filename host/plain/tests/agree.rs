@@ -9,7 +9,7 @@ use plain::judge::{explored, judge, Answer};
 use plain::list::{each_lawful, first_states, lawful_states, next_states};
 use plain::make::{self, damage, families, random_draft, random_sheet, Rng, DAMAGES};
 use plain::rules::Rules;
-use plain::sheet::{read, read_number};
+use plain::sheet::{read, read_number, read_place};
 use plain::{brute, brute::Outcome};
 use std::collections::BTreeMap;
 use std::ops::ControlFlow;
@@ -256,6 +256,7 @@ fn every_fault_is_seen_and_told_alike() {
             let told = read(&sheet).err().map(|fault| (fault.number, fault.place));
             assert_eq!(told, brute::first_fault(&sheet), "{sheet:?}");
             assert_eq!(number, told.map_or(0, |(number, _)| number));
+            assert_eq!(read_place(&sheet), told.map_or((0, 0), |(n, place)| (n, place as u32)));
             *seen.entry(number).or_default() += 1;
             if let Some((number, place)) = told {
                 let (_, first, last) = PLACES[number as usize - 1];

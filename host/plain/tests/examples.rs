@@ -7,7 +7,7 @@
 use plain::check::{check_run, check_strikes};
 use plain::judge::{judge, reachable};
 use plain::make::Draft;
-use plain::named::{all, guide, Judged};
+use plain::named::{all, bad, guide, Judged};
 use plain::source::{families, football, philosophers, Dinner, Team};
 
 const FOLDER: &str = concat!(env!("CARGO_MANIFEST_DIR"), "/../../examples");
@@ -26,7 +26,27 @@ fn files_and_readme_are_as_made() {
     let sheets = std::fs::read_dir(FOLDER).expect("a folder").filter(|entry| {
         entry.as_ref().is_ok_and(|file| file.path().extension().is_some_and(|end| end == "sheet"))
     });
-    assert_eq!(sheets.count(), all().len());
+    assert_eq!(sheets.count(), all().len() + bad().len());
+}
+
+/// One bad sheet for each fault, at the place that is told.
+#[test]
+fn bad_files_and_readme_are_as_made() {
+    let readme = std::fs::read_to_string(format!("{FOLDER}/README.md")).expect("a README");
+    let rows: Vec<&str> = readme.lines().collect();
+    for bad in bad() {
+        let (file, what) = (bad.named.file, bad.named.what);
+        let stored = std::fs::read(format!("{FOLDER}/{file}.sheet")).expect("a file");
+        assert_eq!(stored, bad.named.sheet, "{file}");
+        let judged = Judged::of(&bad.named.sheet);
+        assert_eq!((judged.answer.answer, judged.answer.place), (bad.number, bad.place), "{file}");
+        let row = format!("| {file}.sheet | {what} | `{}` | {} |", judged.line(), bad.place);
+        assert!(rows.contains(&row.as_str()), "no row {row}");
+    }
+    assert_eq!(
+        bad().iter().map(|bad| bad.number).collect::<Vec<u32>>(),
+        (1..=10).collect::<Vec<u32>>()
+    );
 }
 
 /// The guide's sheets and papers, as the guide tells them.

@@ -2,7 +2,6 @@
 
 use crate::answers::Fault;
 use crate::model::{Limit, Literal, Sheet, Step};
-use crate::proved;
 
 /// The version byte of the sheets that are written.
 const VERSION: u8 = 1;
@@ -38,9 +37,8 @@ fn push(bytes: &mut Vec<u8>, before: &[u8], list: &[Literal]) {
 
 /// A sheet out of bytes, its letters still without names; or the proved reader's fault.
 pub fn read(bytes: &[u8]) -> Result<Sheet, Fault> {
-    let answer = proved::read(bytes);
-    if answer != 0 {
-        return Err(Fault::of_sheet(answer, bytes));
+    if let Some(fault) = Fault::of_sheet(bytes) {
+        return Err(fault);
     }
     let good = plain::sheet::read(bytes).expect("the plain reader takes what the proved reader takes");
     Ok(Sheet {

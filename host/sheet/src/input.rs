@@ -80,7 +80,7 @@ pub fn sheet(file: &str, call: &Call, colour: Colour) -> Result<Source, Trouble>
     let content = load(file, MOST_TEXT)?;
     let name = shown(file);
     if call.has("--bytes") || (!call.has("--text") && looks_like_bytes(&content)) {
-        return from_bytes(name, content, call);
+        return from_bytes(name, content, call, colour);
     }
     if call.has("--names") {
         return Err(Trouble::new(format!("{name}: --names is for a sheet of bytes, and this text names its letters itself")));
@@ -88,14 +88,14 @@ pub fn sheet(file: &str, call: &Call, colour: Colour) -> Result<Source, Trouble>
     let text = as_text(&name, content, MOST_TEXT, colour)?;
     let sheet = parse::parse(&text).map_err(|faults| Trouble { message: show_all(&faults, &name, colour), status: BAD, answer: None })?;
     let bytes = bytes::write(&sheet);
-    match crate::proved::read(&bytes) {
-        0 => Ok(Source { name, sheet, bytes }),
-        answer => Err(of_bytes(&name, &answers::Fault::of_sheet(answer, &bytes))),
+    match answers::Fault::of_sheet(&bytes) {
+        None => Ok(Source { name, sheet, bytes }),
+        Some(fault) => Err(of_bytes(&name, &fault, colour)),
     }
 }
 
-fn from_bytes(name: String, bytes: Vec<u8>, call: &Call) -> Result<Source, Trouble> {
-    let mut sheet = bytes::read(&bytes).map_err(|fault| of_bytes(&name, &fault))?;
+fn from_bytes(name: String, bytes: Vec<u8>, call: &Call, colour: Colour) -> Result<Source, Trouble> {
+    let mut sheet = bytes::read(&bytes).map_err(|fault| of_bytes(&name, &fault, colour))?;
     sheet.names = match call.value("--names") {
         None => names::defaults(sheet.names.len()),
         Some(list) => given_names(list, sheet.names.len()).map_err(|said| Trouble::new(format!("{name}: {said}")))?,
@@ -104,8 +104,8 @@ fn from_bytes(name: String, bytes: Vec<u8>, call: &Call) -> Result<Source, Troub
 }
 
 /// The trouble of a bad sheet of bytes.
-fn of_bytes(name: &str, fault: &answers::Fault) -> Trouble {
-    Trouble { answer: Some(fault.number), ..Trouble::new(format!("{name}: {}", fault.words())) }
+fn of_bytes(name: &str, fault: &answers::Fault, colour: Colour) -> Trouble {
+    Trouble { message: fault.show(name, colour), status: BAD, answer: Some(fault.number) }
 }
 
 /// The names behind `--names`, as many as the sheet has letters.

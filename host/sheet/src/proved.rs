@@ -4,6 +4,7 @@
 
 extern "C" {
     fn naxxurbi_read(sheet: *const u8, sheet_len: usize) -> u32;
+    fn naxxurbi_read_place(sheet: *const u8, sheet_len: usize, out: *mut [u32; 2]);
     fn naxxurbi_check_run(sheet: *const u8, sheet_len: usize, states: *const u8, states_len: usize, a: u32) -> u32;
     fn naxxurbi_check_strikes(
         sheet: *const u8,
@@ -24,14 +25,14 @@ extern "C" {
         scratch_len: usize,
         run: *mut u32,
         run_len: usize,
-        out: *mut [u32; 4],
+        out: *mut [u32; 5],
     );
 }
 
 /// The most reachable states that the judge takes in.
 pub const MOST_STATES: usize = 16_384;
 
-/// The judge's four numbers.
+/// The judge's five numbers.
 #[derive(Clone, Copy, Debug, PartialEq, Eq)]
 pub struct Numbers {
     /// 0 to 13, as in document 01.
@@ -42,12 +43,14 @@ pub struct Numbers {
     pub a: u32,
     /// The moments of the sample run.
     pub b: u32,
+    /// The byte at fault of a bad sheet, else 0.
+    pub place: u32,
 }
 
 /// What the judge answered and left in the lent slices.
 #[derive(Clone, Debug)]
 pub struct Judged {
-    /// The four numbers.
+    /// The five numbers.
     pub numbers: Numbers,
     /// Livable states (answer 0) or struck states (answer 13): `count` of them.
     pub table: Vec<u32>,
@@ -61,6 +64,14 @@ pub struct Judged {
 pub fn read(sheet: &[u8]) -> u32 {
     // SAFETY: the call reads `sheet_len` bytes from the pointer and changes nothing.
     unsafe { naxxurbi_read(sheet.as_ptr(), sheet.len()) }
+}
+
+/// The same number, and the place of the fault: a byte, or the sheet's length. 0 for a good sheet.
+pub fn read_place(sheet: &[u8]) -> (u32, u32) {
+    let mut out = [u32::MAX; 2];
+    // SAFETY: the call reads `sheet_len` bytes from the pointer and writes the two numbers.
+    unsafe { naxxurbi_read_place(sheet.as_ptr(), sheet.len(), &mut out) };
+    out.into()
 }
 
 /// Checks a run that goes back to moment `a`: 0 if it is accepted, 14 if not, 1 to 10 for a bad sheet.
@@ -95,8 +106,8 @@ pub fn judge(sheet: &[u8]) -> Judged {
 
 /// Judges a sheet in the slices lent.
 fn judge_in(sheet: &[u8], table: &mut [u32], words: &mut [u32], scratch: &mut [u32], run: &mut [u32]) -> Numbers {
-    let mut out = [u32::MAX; 4];
-    // SAFETY: the call reads `sheet_len` bytes, reads and writes as many numbers of each slice as its length says, and writes the four
+    let mut out = [u32::MAX; 5];
+    // SAFETY: the call reads `sheet_len` bytes, reads and writes as many numbers of each slice as its length says, and writes the five
     // numbers; the slices do not overlap, for each is borrowed alone.
     unsafe {
         naxxurbi_judge(
@@ -113,8 +124,8 @@ fn judge_in(sheet: &[u8], table: &mut [u32], words: &mut [u32], scratch: &mut [u
             &mut out,
         );
     }
-    let [answer, count, a, b] = out;
-    Numbers { answer, count, a, b }
+    let [answer, count, a, b, place] = out;
+    Numbers { answer, count, a, b, place }
 }
 
 /// Numbers as bytes, four to each, the highest first.

@@ -4,7 +4,8 @@
 
 #![deny(warnings)]
 
-use plain::make::{random_sheet, Rng};
+use plain::edges::edges;
+use plain::make::{random_sheet, Rng, DAMAGES};
 use plain::rules::Rules;
 use sheet::explain;
 use sheet::input::Source;
@@ -16,9 +17,10 @@ use sheet::{bytes, proved};
 /// A part of the test: so many sheets; what is wrong, if something is.
 type Part = (&'static str, fn(&mut Rng, usize) -> Result<String, String>);
 
-const PARTS: [Part; 5] = [
+const PARTS: [Part; 6] = [
     ("bytes to text and back", round_trip),
     ("damaged text", damaged_text),
+    ("damaged bytes", damaged_bytes),
     ("papers to text and back", papers),
     ("reasons against papers", reasons),
     ("states struck in pictures", pictures),
@@ -94,6 +96,43 @@ fn damaged_text(rng: &mut Rng, sheets: usize) -> Result<String, String> {
         return Err(format!("{taken} of the damaged texts were taken"));
     }
     Ok(format!("{} texts, {taken} of them still good sheets", sheets / 4))
+}
+
+/// A bad sheet of bytes is shown with the number and the place that the judge gives too, the mark under the byte that the line's first
+/// number counts to, and an account that names the record; nothing panics.
+fn damaged_bytes(rng: &mut Rng, sheets: usize) -> Result<String, String> {
+    let mut bad = 0;
+    let mut sheets_of_bytes: Vec<Vec<u8>> = edges().into_iter().map(|edge| edge.sheet).collect();
+    sheets_of_bytes.extend((0..sheets / 4).map(|round| {
+        let good = random_sheet(rng, 24);
+        plain::make::damage(rng, &good, round % DAMAGES)
+    }));
+    for bytes in &sheets_of_bytes {
+        let Err(fault) = bytes::read(bytes) else { continue };
+        bad += 1;
+        let numbers = proved::judge(bytes).numbers;
+        let shown = fault.show("random", sheet::out::Colour::NONE);
+        if (numbers.answer, numbers.place as usize) != (fault.number, fault.place) || marked(&shown) != Some(fault.place) {
+            return Err(format!("another place\n{shown}{numbers:?} {bytes:02x?}"));
+        }
+        let account = shown.lines().last().unwrap_or_default();
+        let record = ["limit ", "first rule ", "step rule ", "promise "].iter().any(|kind| account.trim_start().starts_with(kind));
+        if record != (6..=9).contains(&fault.number) {
+            return Err(format!("another account\n{shown}{bytes:02x?}"));
+        }
+    }
+    if bad == 0 || bad == sheets_of_bytes.len() {
+        return Err(format!("{bad} of the sheets were bad"));
+    }
+    Ok(format!("{} sheets, {bad} of them bad", sheets_of_bytes.len()))
+}
+
+/// The byte that the mark stands under, counted from the number at the line's beginning.
+fn marked(shown: &str) -> Option<usize> {
+    let mut lines = shown.lines().skip(1);
+    let from: usize = lines.next()?.split('|').next()?.trim().parse().ok()?;
+    let before = lines.next()?.find("^^")?.checked_sub("     | ".len())?;
+    Some(from + before / 3)
 }
 
 /// A text with a word left out, doubled, or changed for another.

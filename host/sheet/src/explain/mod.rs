@@ -1,5 +1,7 @@
-//! Why a paper is not accepted, in words. This is the command's own account, not proved; the verdict is the proved checker's.
+//! Why a paper is not accepted, or a sheet bad, in words. This is the command's own account, not proved; the verdicts are the proved
+//! checkers' and the proved reader's.
 
+pub mod fault;
 mod run;
 mod strikes;
 

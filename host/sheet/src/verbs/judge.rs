@@ -74,7 +74,7 @@ fn is_same_file(one: &str, other: &str) -> bool {
 /// Judges one sheet.
 fn one(source: &Source, call: &Call, page: &mut Page) {
     let judged = proved::judge(&source.bytes);
-    let proved::Numbers { answer, count, a, b } = judged.numbers;
+    let proved::Numbers { answer, count, a, b, .. } = judged.numbers;
     page.raise(match answer {
         0 => 0,
         13 => REFUSED,

@@ -1,6 +1,6 @@
 //! Reading a sheet.
 
-use crate::{measure, Only, Table, LONG};
+use crate::{measure, Only, Row, Table, LONG};
 use plain::make::{counter, w15, Draft};
 use std::hint::black_box;
 
@@ -33,6 +33,19 @@ fn most_records() -> Vec<u8> {
     draft.bytes()
 }
 
+/// The longest sheet with its last literal twice: number and place, which both readers find in the last byte.
+fn with_the_place(only: &Only) -> Option<Row> {
+    let name = "reading: longest sheet, its last byte bad, with the place".to_string();
+    let mut sheet = longest_sheet();
+    let last = sheet.len() - 1;
+    sheet[last] = sheet[last - 1];
+    let found = (9, last as u32);
+    assert_eq!((compare::reader::read_place(&sheet), plain::sheet::read_place(&sheet)), (found, found));
+    let length = vec![sheet.len().to_string()];
+    let (ours, plain) = (|| compare::reader::read_place(black_box(&sheet)), || plain::sheet::read_place(black_box(&sheet)));
+    only.wants(&name).then(|| measure(name, length, ours, plain))
+}
+
 pub fn table(only: &Only) -> Table {
     let sheets = [
         ("longest sheet", longest_sheet()),
@@ -49,6 +62,7 @@ pub fn table(only: &Only) -> Table {
             let length = vec![sheet.len().to_string()];
             measure(name, length, LONG, || compare::reader::read(black_box(&sheet)), || plain::sheet::read_number(black_box(&sheet)))
         })
+        .chain(with_the_place(only))
         .collect();
     Table { title: "Reading", heads: &["bytes"], rows }
 }

@@ -9,7 +9,7 @@ pub fn suite(rng: &mut Rng, rounds: usize) -> bool {
     let mut places = Places::new("reader");
     let mut check = |sheet: &[u8]| {
         let ours = (compare::reader::read(sheet), compare::reader::read_place(sheet));
-        let told = plain::sheet::read(sheet).map_or_else(|fault| (fault.number, fault.place as u32), |_| (0, 0));
+        let told = plain::sheet::read_place(sheet);
         let plain = (plain::sheet::read_number(sheet), told);
         tally.count(told.0);
         places.keep(told.0, told.1);
