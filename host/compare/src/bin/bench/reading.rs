@@ -43,7 +43,7 @@ fn with_the_place(only: &Only) -> Option<Row> {
     assert_eq!((compare::reader::read_place(&sheet), plain::sheet::read_place(&sheet)), (found, found));
     let length = vec![sheet.len().to_string()];
     let (ours, plain) = (|| compare::reader::read_place(black_box(&sheet)), || plain::sheet::read_place(black_box(&sheet)));
-    only.wants(&name).then(|| measure(name, length, ours, plain))
+    only.wants(&name).then(|| measure(name, length, LONG, ours, plain))
 }
 
 pub fn table(only: &Only) -> Table {
