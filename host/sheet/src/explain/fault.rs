@@ -4,10 +4,11 @@
 use crate::story::count;
 use plain::sheet::{HEADER, MOST_LETTERS, MOST_LIMITS, MOST_PROMISES};
 
-/// The kinds of records, in the sheet's order; the counts stand in the header from byte 4 on.
+/// The kinds of records, in the sheet's order; in the header the number of letters stands in byte 3, the counts from byte 4 on.
 const KINDS: [&str; 4] = ["limit", "first rule", "step rule", "promise"];
 const LIMIT: usize = 0;
 const STEP: usize = 2;
+const LETTERS: usize = 3;
 const COUNTS: usize = 4;
 
 /// A record that a sheet has, or should have.
@@ -26,7 +27,7 @@ impl Record {
 
     /// The byte of the record this far behind its length byte; 0 where there is none.
     fn byte(&self, bytes: &[u8], behind: usize) -> usize {
-        bytes.get(self.at + behind).map_or(0, |&byte| usize::from(byte))
+        byte_at(bytes, self.at + behind)
     }
 
     /// The list that a byte of the record stands in: which side of a step rule, and the list's first byte.
@@ -54,6 +55,11 @@ impl Record {
     }
 }
 
+/// A byte of the sheet; 0 where there is none.
+fn byte_at(bytes: &[u8], at: usize) -> usize {
+    bytes.get(at).map_or(0, |&byte| usize::from(byte))
+}
+
 /// A number of things that are there.
 fn are(number: usize, noun: &str) -> String {
     format!("{} {}", count(number, noun), if number == 1 { "is" } else { "are" })
@@ -64,7 +70,7 @@ fn records(bytes: &[u8]) -> Vec<Record> {
     let mut records = Vec::new();
     let mut at = HEADER;
     for kind in 0..KINDS.len() {
-        for number in 1..=bytes.get(COUNTS + kind).map_or(0, |&many| usize::from(many)) {
+        for number in 1..=byte_at(bytes, COUNTS + kind) {
             records.push(Record { kind, number, at });
             let Some(&length) = bytes.get(at) else {
                 return records;
@@ -77,7 +83,7 @@ fn records(bytes: &[u8]) -> Vec<Record> {
 
 /// What the fault of this number is about, in one sentence without its full stop.
 pub fn account(number: u32, place: usize, bytes: &[u8]) -> String {
-    let header = |at: usize| bytes.get(at).map_or(0, |&byte| usize::from(byte));
+    let header = |at: usize| byte_at(bytes, at);
     let length = count(bytes.len(), "byte");
     match number {
         1 => format!("the sheet has {length}"),
@@ -117,7 +123,7 @@ fn literal(number: u32, record: &Record, place: usize, bytes: &[u8]) -> String {
     let found = signed(place);
     match number {
         8 if found == 0 => format!("{which}, is 0, and 0 is no literal"),
-        8 => format!("{which}, is {found}, and the sheet has {}", count(usize::from(bytes[3]), "letter")),
+        8 => format!("{which}, is {found}, and the sheet has {}", count(byte_at(bytes, LETTERS), "letter")),
         _ => format!("{which}, is {found}, not above {}, the literal before it", signed(place.saturating_sub(1))),
     }
 }

@@ -70,10 +70,10 @@ impl Places {
     /// Prints how many there were; whether each fault occurred at its first and at its last possible place, and none outside.
     pub fn complete(&self) -> bool {
         let mut right = true;
-        print!("{}, places:", self.name);
+        print!("{}, different places of each fault:", self.name);
         for (number, first, last) in PLACES {
             let places: Vec<usize> = self.seen.iter().filter(|seen| seen.0 == number).map(|seen| seen.1).collect();
-            print!(" {number} at {}", places.len());
+            print!(" {number}={}", places.len());
             right &= places.first() == Some(&first) && places.last() == Some(&last);
         }
         println!();
