@@ -1,2 +1,3 @@
 pub mod Carrying
 pub mod Accounts
+pub mod Audits
