@@ -72,9 +72,9 @@ same-parts : (a b : Account) → a .count ≡ b .count → a .last ≡ b .last �
     → a .kept ≡ b .kept → a .broken ≡ b .broken → a ≡ b
 same-parts a b count last what moment rule kept broken =
     let all : (c l w m r : ℕ) (k x : List ℕ) → Account
-      = λ c l w m r k x. record { count = c; last = l; what = w; moment = m; rule = r; kept = k; broken = x } in
+    = λ c l w m r k x. record { count = c; last = l; what = w; moment = m; rule = r; kept = k; broken = x } in
     let numbers : all (a .count) (a .last) (a .what) (a .moment) (a .rule) (a .kept) (a .broken)
-      ≡ all (b .count) (b .last) (b .what) (b .moment) (b .rule) (b .kept) (b .broken) = cc (count, last, what, moment, rule, kept, broken) in
+    ≡ all (b .count) (b .last) (b .what) (b .moment) (b .rule) (b .kept) (b .broken) = cc (count, last, what, moment, rule, kept, broken) in
     numbers
 
 -- A log has one account.

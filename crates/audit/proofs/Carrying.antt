@@ -123,11 +123,11 @@ tally-new g rule log t (suc n) e =
     let some : eqb (suc n) 0 ≡ false = ne-eqb (suc n) 0 (λ z. omega arith) in
     ap (howMany (along g rule (log ++ t ∷ []))) now
     ∙ ap₂ _+_
-      (same-many n (λ i h. ap₂ (g rule) (state-before log t i (omega arith)) (state-before log t (suc i) (omega arith)))
-      ∙ ap (howMany (along g rule log)) (sym was))
-      (ap (λ (b : Bool). cond b 1 0)
-      (ap₂ (g rule) (last-before log t n e) (state-new log t (suc n) e)
-      ∙ sym (ap (λ (b : Bool). not b && g rule (lastOf log) t) some)))
+    (same-many n (λ i h. ap₂ (g rule) (state-before log t i (omega arith)) (state-before log t (suc i) (omega arith)))
+    ∙ ap (howMany (along g rule log)) (sym was))
+    (ap (λ (b : Bool). cond b 1 0)
+    (ap₂ (g rule) (last-before log t n e) (state-new log t (suc n) e)
+    ∙ sym (ap (λ (b : Bool). not b && g rule (lastOf log) t) some)))
 
 -- one more for each rule that passes, all at once
 more-each : (f g : StepRule → ℕ) (test : StepRule → Bool) → ((rule : StepRule) → f rule ≡ g rule + cond (test rule) 1 0)
@@ -211,12 +211,12 @@ noted-breach sheet log account t count-is last-is told = by told (ℕ-discrete (
     -- the three numbers, chosen by whether the state is the first breach
     chosen : (b : Bool) → isBreach sheet account t ≡ b
         → Told (cond b (isNext sheet account t) (account .what)) (cond b (account .count) (account .moment))
-          (cond b (breaksNext sheet account t) (account .rule))
+        (cond b (breaksNext sheet account t) (account .rule))
         → Told (noted sheet account t .what) (noted sheet account t .moment) (noted sheet account t .rule)
     chosen b e = subst
-      (λ (x : Bool). Told (cond x (isNext sheet account t) (account .what)) (cond x (account .count) (account .moment))
-      (cond x (breaksNext sheet account t) (account .rule)))
-      (sym e)
+        (λ (x : Bool). Told (cond x (isNext sheet account t) (account .what)) (cond x (account .count) (account .moment))
+        (cond x (breaksNext sheet account t) (account .rule)))
+        (sym e)
 
     by : Breach sheet log (account .what) (account .moment) (account .rule) ⊎ NoBreach sheet log (account .what) (account .moment) (account .rule)
         → Dec (whatAt sheet new (length log) ≡ nothing)

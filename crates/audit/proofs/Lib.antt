@@ -1,3 +1,6 @@
 pub mod Carrying
 pub mod Accounts
 pub mod Audits
+pub mod Tallies
+pub mod Telling
+pub mod Following

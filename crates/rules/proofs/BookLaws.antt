@@ -16,7 +16,7 @@ use Rattle.reader.proofs.Good.{good-header, limit-at, first-at, step-at, promis
 use Rattle.reader.proofs.Good.{promises-count, letters-count, promise-record, promise-good}
 use Rattle.rules.specs.Book.{Masks, Shaped, BookOf, allBelow, countOf, someOf, allOf, someAt, allAt, limitAt, firstAt, stepAt, promiseAt}
 use Rattle.rules.specs.Book.{limitOk, limitsOk, firstsOk, stepOk, stepsOk, bookLawful, bookFirst, bookMoves, bookKept}
-use Rattle.rules.specs.Book.{lettersOf, limitsOf, firstsOf, stepsOf, promisesOf}
+use Rattle.rules.specs.Book.{lettersOf, limitsOf, firstsOf, stepsOf, promisesOf, ruleOf}
 use Rattle.rules.specs.Literals.{Ordered}
 use Rattle.rules.specs.Compile.{MasksAt, LimitRow, StepRow, Written}
 use Rattle.rules.proofs.Masks.{tells}
@@ -139,6 +139,19 @@ module _ (s book : List ℕ) (good : firstFault s ≡ none) (f5 : byte s 5 ≤ 2
           let o = step-sound s good i k in
           step-says book i (lettersIn s) _ (w .steps i k) (o .left) (o .right) a t ∙ ap (stepHolds a t) (sym (step-at s i (stepOf []) k))
 
+  -- each side of a step rule by itself
+  left-says : (i t : ℕ) → i < stepsOf book → allAt book (stepAt i) t ≡ allTrue t (ruleOf (decode s) i .left)
+  left-says i t h =
+      let k : i < byte s 6 = (let c = w .counts .steps in omega arith) in
+      all-says book (stepAt i) (lettersIn s) _ (w .steps i k .left) (step-sound s good i k .left) t
+      ∙ ap (λ (rule : StepRule). allTrue t (rule .left)) (sym (step-at s i (stepOf []) k))
+
+  right-says : (i t : ℕ) → i < stepsOf book → someAt book (stepAt i + 2) t ≡ someTrue t (ruleOf (decode s) i .right)
+  right-says i t h =
+      let k : i < byte s 6 = (let c = w .counts .steps in omega arith) in
+      some-says book (stepAt i + 2) (lettersIn s) _ (w .steps i k .right) (step-sound s good i k .right) t
+      ∙ ap (λ (rule : StepRule). someTrue t (rule .right)) (sym (step-at s i (stepOf []) k))
+
   kept-says : (k t : ℕ) → bookKept book k t ≡ kept (decode s) k t
   unfolding bookKept kept
   kept-says k t = by (decLt k (byte s 7))
@@ -219,4 +232,7 @@ module _ (s book : List ℕ) (good : firstFault s ≡ none) (f5 : byte s 5 ≤ 2
     moves-is = moves-say;
     promises-is = w .counts .promises ∙ sym (promises-count s);
     kept-is = kept-says;
+    steps-is = w .counts .steps ∙ sym (steps-count s);
+    left-is = left-says;
+    right-is = right-says;
   }

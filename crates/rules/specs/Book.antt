@@ -4,15 +4,15 @@
 -- crates above know of a book is the system that it describes (`bookSystem`) and its shape (`Shaped`). Assumes nothing.
 use mathlib.Core.Path.{_≡_}
 use mathlib.Core.Bool.{Bool, true, false, not, _&&_, _||_}
-use mathlib.Core.List.{List}
+use mathlib.Core.List.{List, []}
 use Prim.Native.Nat.{ℕ, zero, suc, _+_, _-_, _*_, _^_, _≤_, _<_}
 use lib.Bits.{bitAnd}
 use lib.Count.{ones}
 use lib.Dec.{T, leb, ltb, eqb}
 use lib.ListN.{length, getD}
 use Rattle.meaning.specs.System.{System}
-use Rattle.meaning.specs.Sheet.{Sheet, mostLetters, mostLimits, mostPromises}
-use Rattle.meaning.specs.Rules.{lawful, firstState, moves, kept}
+use Rattle.meaning.specs.Sheet.{Sheet, StepRule, stepOf, mostLetters, mostLimits, mostPromises}
+use Rattle.meaning.specs.Rules.{lawful, firstState, moves, kept, allTrue, someTrue}
 
 -- ---- where things stand in a book
 
@@ -139,6 +139,10 @@ pub record Shaped (book : List ℕ) : Type 0 where
   pub rights : (i : ℕ) → i < stepsOf book → Masks book (lettersOf book) (stepAt i + 2)
   pub promises : (i : ℕ) → i < promisesOf book → Masks book (lettersOf book) (promiseAt i)
 
+-- the sheet's step rule i, from 0 (past the last: one that asks nothing and allows nothing)
+abbrev pub ruleOf : Sheet → ℕ → StepRule
+ruleOf sheet i = getD (sheet .steps) i (stepOf [])
+
 -- the book of a sheet: every test that it makes is the sheet's own (so its system is the sheet's: proofs/Same.antt)
 pub record BookOf (sheet : Sheet) (book : List ℕ) : Type 0 where
   pub shaped : Shaped book
@@ -147,6 +151,9 @@ pub record BookOf (sheet : Sheet) (book : List ℕ) : Type 0 where
   pub moves-is : (s t : ℕ) → bookMoves book s t ≡ moves sheet s t
   pub promises-is : promisesOf book ≡ length (sheet .promises)
   pub kept-is : (k s : ℕ) → bookKept book k s ≡ kept sheet k s
+  pub steps-is : stepsOf book ≡ length (sheet .steps)
+  pub left-is : (i s : ℕ) → i < stepsOf book → allAt book (stepAt i) s ≡ allTrue s (ruleOf sheet i .left)
+  pub right-is : (i s : ℕ) → i < stepsOf book → someAt book (stepAt i + 2) s ≡ someTrue s (ruleOf sheet i .right)
 
 -- ---- rules gathered for one state
 

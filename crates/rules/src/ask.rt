@@ -7,7 +7,7 @@ ghost use mathlib.Core.Bool.{true};
 ghost use Prim.Native.Nat.{_+_, _<_, _≤_};
 ghost use lib.ListN.{length};
 ghost use Rattle.rules.specs.Book.{someAt, allAt, limitAt, limitOk, limitsOk, bookLawful, firstsOk, bookFirst, stepOk};
-ghost use Rattle.rules.specs.Book.{stepsOk, bookMoves, bookKept, lettersOf, limitsOf, firstsOf, stepsOf, promisesOf, Shaped};
+ghost use Rattle.rules.specs.Book.{stepAt, stepsOk, bookMoves, bookKept, lettersOf, limitsOf, firstsOf, stepsOf, promisesOf, Shaped};
 
 // Whether some literal of the two masks at place `at` is true in s.
 pub fn some_at(l: &[u32], at: usize, s: u32) -> bool
@@ -174,4 +174,31 @@ pub fn promises(book: &[u32]) -> usize
     ensures { λ r. ⌜ r ≡ promisesOf (now (book .entry)) ⌝ }
 {
     book[4] as usize
+}
+
+// How many step rules the sheet has.
+pub fn steps(book: &[u32]) -> usize
+    requires { ⌜ Shaped (now book) ⌝ }
+    ensures { λ r. ⌜ r ≡ stepsOf (now (book .entry)) ⌝ }
+{
+    book[3] as usize
+}
+
+// Whether step rule i, counted from 0, asks something after s: its left side is true there.
+pub fn step_asks(book: &[u32], i: usize, s: u32) -> bool
+    requires { ⌜ Shaped (now book) × (i < stepsOf (now book)) ⌝ }
+    ensures { λ r. ⌜ r ≡ allAt (now (book .entry)) (stepAt i) s ⌝ }
+{
+    let at = 646 + 4 * i;
+    all_at(book, at, s)
+}
+
+// Whether t gives what step rule i asks for: its right side is true there.
+pub fn step_allows(book: &[u32], i: usize, t: u32) -> bool
+    requires { ⌜ Shaped (now book) × (i < stepsOf (now book)) ⌝ }
+    ensures { λ r. ⌜ r ≡ someAt (now (book .entry)) (stepAt i + 2) t ⌝ }
+{
+    let at = 646 + 4 * i;
+    let right = at + 2;
+    some_at(book, right, t)
 }
