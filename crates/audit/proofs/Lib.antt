@@ -4,3 +4,4 @@ pub mod Audits
 pub mod Tallies
 pub mod Telling
 pub mod Following
+pub mod Compiled
