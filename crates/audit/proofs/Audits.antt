@@ -47,17 +47,27 @@ audited-out-unique a b =
 
 -- Whether some tally is past the bound can be decided.
 pub some-past? : (tallies : List ℕ) → Dec (SomePast tallies)
-some-past? [] = no (λ p. absurd (omega (arith, p .within)))
-some-past? (n ∷ tallies) = by (decLt mostMoments n) (some-past? tallies)
+some-past? tallies = by (below mostTallies)
   where
-    by : Dec (mostMoments < n) → Dec (SomePast tallies) → Dec (SomePast (n ∷ tallies))
-    by (yes h) d = yes (record { at = 0; within = omega arith; past = h })
-    by (no h) (yes p) = yes (record { at = suc (p .at); within = omega (arith, p .within); past = p .past })
-    by (no h) (no p) = no (λ q. at-one (q .at) (q .within) (q .past))
+    Below : ℕ → Type 0
+    Below n = (i : ℕ) × (i < n) × (mostMoments < getD tallies i 0)
+
+    step : (n : ℕ) → Dec (Below n) → Dec (mostMoments < getD tallies n 0) → Dec (Below (suc n))
+    step n (yes (i, h, p)) d = yes (i, omega arith, p)
+    step n (no x) (yes p) = yes (n, omega arith, p)
+    step n (no x) (no y) = no (λ b. last (b .0) (b .1) (b .2) (decLt (b .0) n))
       where
-        at-one : (i : ℕ) → i < length (n ∷ tallies) → mostMoments < getD (n ∷ tallies) i 0 → ⊥
-        at-one zero w h′ = h h′
-        at-one (suc i) w h′ = p (record { at = i; within = omega arith; past = h′ })
+        last : (i : ℕ) → i < suc n → mostMoments < getD tallies i 0 → Dec (i < n) → ⊥
+        last i h p (yes q) = x (i, q, p)
+        last i h p (no q) = let e : i ≡ n = omega arith in y (subst (λ (k : ℕ). mostMoments < getD tallies k 0) e p)
+
+    below : (n : ℕ) → Dec (Below n)
+    below zero = no (λ b. absurd (omega (arith, b .1)))
+    below (suc n) = step n (below n) (decLt mostMoments (getD tallies n 0))
+
+    by : Dec (Below mostTallies) → Dec (SomePast tallies)
+    by (yes (i, h, p)) = yes (record { at = i; within = h; past = p })
+    by (no x) = no (λ p. x (p .at, p .within, p .past))
 
 -- Whether an account and a piece pass the bound can be decided.
 pub past? : (account : Account) (piece : List ℕ) → Dec (Past account piece)
@@ -67,17 +77,17 @@ past? account piece =
   where
     by : Dec (mostMoments < account .count) → Dec (SomePast (account .kept)) → Dec (SomePast (account .broken))
         → Dec (mostMoments < account .count + length piece) → Dec (Past account piece)
-    by (yes a) b c d = yes (inl a)
+    by (yes a) b c d = yes (inl (inl a))
     by (no a) (yes b) c d = yes (inr (inl b))
-    by (no a) (no b) (yes c) d = yes (inr (inr (inl c)))
-    by (no a) (no b) (no c) (yes d) = yes (inr (inr (inr d)))
+    by (no a) (no b) (yes c) d = yes (inr (inr c))
+    by (no a) (no b) (no c) (yes d) = yes (inl (inr d))
     by (no a) (no b) (no c) (no d) = no never
       where
         never : Past account piece → ⊥
-        never (inl x) = a x
+        never (inl (inl x)) = a x
+        never (inl (inr x)) = d x
         never (inr (inl x)) = b x
-        never (inr (inr (inl x))) = c x
-        never (inr (inr (inr x))) = d x
+        never (inr (inr x)) = c x
 
 pub audited-met : (sheet : List ℕ) (account : Account) (piece : List ℕ)
     → (n : ℕ) × (place : ℕ) × (back : Account) × Audited sheet account piece n place back
@@ -138,15 +148,15 @@ cutting-does-not-show sheet account pieces others same p q =
 -- An account of a log is refused only where its moments and the piece together pass the bound: never for a tally, never for its count alone.
 pub refused-by-length-only : (sheet : Sheet) (log : List ℕ) (account : Account) (piece : List ℕ) → AccountOf sheet log account
     → Past account piece ↔ (mostMoments < length (log ++ piece))
-refused-by-length-only sheet log account piece a = (to, λ h. inr (inr (inr (omega (arith, length-append log piece, a .count-is)))))
+refused-by-length-only sheet log account piece a = (to, λ h. inl (inr (omega (arith, length-append log piece, a .count-is))))
   where
     within : (tallies : List ℕ) → ((i : ℕ) → getD tallies i 0 ≤ length log) → SomePast tallies → mostMoments < length (log ++ piece)
     within tallies few p = omega (arith, p .past, few (p .at), length-append log piece)
 
     to : Past account piece → mostMoments < length (log ++ piece)
-    to (inl h) = omega (arith, length-append log piece, a .count-is)
+    to (inl (inl h)) = omega (arith, length-append log piece, a .count-is)
+    to (inl (inr h)) = omega (arith, length-append log piece, a .count-is)
     to (inr (inl p)) =
         within (account .kept) (λ i. subst (λ (l : List ℕ). getD l i 0 ≤ length log) (sym (a .kept-is)) (tallies-within keeps sheet log i)) p
-    to (inr (inr (inl p))) =
+    to (inr (inr p)) =
         within (account .broken) (λ i. subst (λ (l : List ℕ). getD l i 0 ≤ length log) (sym (a .broken-is)) (tallies-within breaks sheet log i)) p
-    to (inr (inr (inr h))) = omega (arith, length-append log piece, a .count-is)

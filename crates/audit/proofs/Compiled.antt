@@ -117,7 +117,7 @@ more-by-number (rule ∷ rules) f test same [] = bumped-nothing f (suc (length r
 more-by-number (rule ∷ rules) f test same (x ∷ l) =
     bumped-front f (length rules) x l
     ∙ ap₂ (λ (b : Bool) (m : List ℕ). (x + cond b 1 0) ∷ m) (same 0 (omega arith))
-      (more-by-number rules (λ k. f (suc k)) test (λ k h. same (suc k) (omega arith)) l)
+    (more-by-number rules (λ k. f (suc k)) test (λ k h. same (suc k) (omega arith)) l)
 
 -- ---- a sheet's own book
 
@@ -163,7 +163,7 @@ module _ {sheet : Sheet} {book : List ℕ} (of : BookOf sheet book) where
   is-next-is account t =
       ap₂ (λ (l f : Bool). cond l (cond none (cond f nothing brokeFirst) (cond (eqb broke 0) nothing brokeStep)) unlawful) (of .lawful-is t) (of .first-is t)
       ∙ ap (λ (b : ℕ). cond (lawful sheet t) (cond none (cond (firstState sheet t) nothing brokeFirst) (cond (eqb (cond none 0 b) 0) nothing brokeStep)) unlawful)
-        (first-broken-is (account .last) t)
+      (first-broken-is (account .last) t)
       ∙ by none (lawful sheet t)
     where
       none : Bool
@@ -193,7 +193,7 @@ module _ {sheet : Sheet} {book : List ℕ} (of : BookOf sheet book) where
     where
       by : (n l f : Bool)
           → cond (eqb (cond n (cond l (cond f nothing brokeFirst) unlawful) (nextIs sheet (account .last) t)) brokeStep)
-            (cond n 0 (firstBroken (account .last) t 1 (sheet .steps))) 0
+          (cond n 0 (firstBroken (account .last) t 1 (sheet .steps))) 0
           ≡ cond n 0 (cond (eqb (nextIs sheet (account .last) t) brokeStep) (firstBroken (account .last) t 1 (sheet .steps)) 0)
       by true true true = refl
       by true true false = refl
@@ -234,8 +234,8 @@ module _ {sheet : Sheet} {book : List ℕ} (of : BookOf sheet book) where
       ap₂ (λ (is rule : ℕ). told is rule (bookTallies (keptBy book) book account t (account .kept)) (bookTallies (brokenBy book) book account t (account .broken)))
       (is-next-is account t) (rule-told-is account t)
       ∙ ap₂ (told (isNext sheet account t) (breaksNext sheet account t))
-        (tallies-are account t (λ rule s u. allTrue s (rule .left) && someTrue u (rule .right)) (keptBy book) kept-is-rule (account .kept))
-        (tallies-are account t (λ rule s u. allTrue s (rule .left) && not (someTrue u (rule .right))) (brokenBy book) broken-is-rule (account .broken))
+      (tallies-are account t (λ rule s u. allTrue s (rule .left) && someTrue u (rule .right)) (keptBy book) kept-is-rule (account .kept))
+      (tallies-are account t (λ rule s u. allTrue s (rule .left) && not (someTrue u (rule .right))) (brokenBy book) broken-is-rule (account .broken))
 
 -- A whole piece.
 pub book-carried : {sheet : Sheet} {book : List ℕ} → BookOf sheet book → (account : Account) (piece : List ℕ)

@@ -37,8 +37,8 @@ following-none book states account c = record {
   few = omega arith;
   count-is = (let e : account .count ≡ account .count + 0 = omega arith in e);
   fits = c .few;
-  kept = record { long = c .kept .long; within = λ i. omega (arith, c .kept .within i) };
-  broken = record { long = c .broken .long; within = λ i. omega (arith, c .broken .within i) };
+  kept = record { within = λ i h. omega (arith, c .kept .within i h) };
+  broken = record { within = λ i h. omega (arith, c .broken .within i h) };
   left = refl;
 }
 
@@ -46,8 +46,8 @@ following-none book states account c = record {
 pub following-fits : {book states : List ℕ} {account now : Account} {i : ℕ} → Following book states account now i → i < length states
     → Within (mostMoments + mostMoments) (now .kept) × Within (mostMoments + mostMoments) (now .broken) × (now .count < mostMoments)
 following-fits {book} {states} {account} {now} {i} f h = (
-  record { long = f .kept .long; within = λ j. omega (arith, f .kept .within j, f .fits) },
-  record { long = f .broken .long; within = λ j. omega (arith, f .broken .within j, f .fits) },
+  record { within = λ j k. omega (arith, f .kept .within j k, f .fits) },
+  record { within = λ j k. omega (arith, f .broken .within j k, f .fits) },
   omega (arith, f .count-is, f .fits),
 )
 
@@ -73,8 +73,8 @@ following-next book states account head kept broken i kept′ broken′ broke ne
       few = omega arith;
       count-is = ap (λ (x : Head.Head). x .count) e ∙ ap suc (f .count-is) ∙ (let s : suc (account .count + i) ≡ account .count + (i + 1) = omega arith in s);
       fits = f .fits;
-      kept = record { long = grown .0 .long; within = λ j. omega (arith, grown .0 .within j) };
-      broken = record { long = grown .1 .long; within = λ j. omega (arith, grown .1 .within j) };
+      kept = record { within = λ j k. omega (arith, grown .0 .within j k) };
+      broken = record { within = λ j k. omega (arith, grown .1 .within j k) };
       left =
           ap (λ (k : ℕ). bookCarried book (withTallies next kept′ broken′) (drop k states)) one
           ∙ ap (λ (a : Account). bookCarried book a (drop (suc i) states)) noted

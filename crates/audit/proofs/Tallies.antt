@@ -9,7 +9,7 @@ use native.Mathlib.Decide.{ℕ-discrete, decLt}
 use native.Mathlib.Omega.{arith}
 use borrow.Author.Tests.{eq-eqb, ne-eqb}
 use lib.Dec.{eqb}
-use lib.ListN.{length, getD, set, length-set}
+use lib.ListN.{length, getD, set}
 use lib.Seq.{set-getD, getD-set-same, getD-set-other, set-out}
 use Rattle.rules.specs.Book.{allAt, someAt, stepAt, stepsOf}
 use Rattle.audit.specs.Account.{Account, mostTallies}
@@ -48,11 +48,6 @@ rule-broken book s t i kept broken a b =
 
 -- ---- all rules below n
 
-pub length-bumped : (test : ℕ → Bool) (n : ℕ) (l : List ℕ) → length (bumped test n l) ≡ length l
-unfolding bumped bump
-length-bumped test zero l = refl
-length-bumped test (suc n) l = length-set (bumped test n l) n _ ∙ length-bumped test n l
-
 -- Places from n on are as they were.
 pub bumped-above : (test : ℕ → Bool) (n : ℕ) (l : List ℕ) (i : ℕ) → n ≤ i → getD (bumped test n l) i 0 ≡ getD l i 0
 unfolding bumped bump
@@ -87,12 +82,9 @@ bumped-within test (suc n) l i = by (ℕ-discrete i n) (decLt n (length (bumped 
         let other = getD-set-other (bumped test n l) n i (getD (bumped test n l) n 0 + cond (test n) 1 0) 0 e in
         omega (arith, other, before)
 
--- 255 tallies within b are within b + 1 afterwards.
+-- Tallies within b are within b + 1 afterwards.
 pub within-more : (test : ℕ → Bool) (n b : ℕ) (l : List ℕ) → Within b l → Within (b + 1) (bumped test n l)
-within-more test n b l w = record {
-  long = length-bumped test n l ∙ w .long;
-  within = λ i. omega (arith, bumped-within test n l i, w .within i);
-}
+within-more test n b l w = record { within = λ i h. omega (arith, bumped-within test n l i, w .within i h) }
 
 -- ---- the loop over the rules
 
@@ -121,14 +113,14 @@ tallied-all {book} {s} {t} {m} {n} {kept} {broken} {kept′} {broken′} {first}
 -- The place of the next rule has not been counted at yet, and one more fits.
 pub place-fits : (book : List ℕ) (s t n : ℕ) (kept broken kept′ broken′ : List ℕ) (first : ℕ) → Within (mostMoments + mostMoments) kept
     → Within (mostMoments + mostMoments) broken → Tallied book s t n kept broken kept′ broken′ first
-    → (getD kept′ n 0 < 4294967295) × (getD broken′ n 0 < 4294967295)
-place-fits book s t n kept broken kept′ broken′ first k b before =
+    → n < mostTallies → (getD kept′ n 0 < 4294967295) × (getD broken′ n 0 < 4294967295)
+place-fits book s t n kept broken kept′ broken′ first k b before few =
     (one kept kept′ (keptBy book s t) k (before .keeps), one broken broken′ (brokenBy book s t) b (before .breaks))
   where
     one : (l l′ : List ℕ) (test : ℕ → Bool) → Within (mostMoments + mostMoments) l → l′ ≡ bumped test n l → getD l′ n 0 < 4294967295
     one l l′ test w e =
         let same : getD l′ n 0 ≡ getD l n 0 = ap (λ (x : List ℕ). getD x n 0) e ∙ bumped-above test n l n (omega arith) in
-        omega (arith, w .within n)
+        omega (arith, w .within n few)
 
 -- ---- the move into a state
 
@@ -163,7 +155,7 @@ moved-within book account t b kept broken first m k x =
     (one (keptBy book) (account .kept) kept k (m .keeps), one (brokenBy book) (account .broken) broken x (m .breaks))
   where
     by : (c : Bool) (test : ℕ → Bool) (l : List ℕ) → Within b l → Within (b + 1) (cond c l (bumped test (stepsOf book) l))
-    by true test l w = record { long = w .long; within = λ i. omega (arith, w .within i) }
+    by true test l w = record { within = λ i h. omega (arith, w .within i h) }
     by false test l w = within-more test (stepsOf book) b l w
 
     one : (test : ℕ → ℕ → ℕ → Bool) (l l′ : List ℕ) → Within b l → l′ ≡ bookTallies test book account t l → Within (b + 1) l′

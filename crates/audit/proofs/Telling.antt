@@ -1,16 +1,20 @@
 -- What one state is and what is told of it: the ladders of tests (tests), the first rule broken so far
 -- (earliest-here, earliest-none), what a state is (is-unlawful ..), the five numbers with it (noted-breach-numbers, noted-plain-numbers).
 -- Assumes nothing.
-use mathlib.Core.Path.{_≡_, refl, sym, _∙_, ap, ap₂}
+use mathlib.Core.Path.{_≡_, refl, sym, _∙_, ap, ap₂, subst}
+use mathlib.Core.Logic.{_⊎_, inl, inr, _↔_}
 use mathlib.Core.Bool.{Bool, true, false, cond, not, _&&_}
 use mathlib.Core.List.{List}
-use Prim.Native.Nat.{ℕ, suc, _+_}
+use Prim.Native.Nat.{ℕ, suc, _+_, _-_, _≤_, _<_}
+use native.Mathlib.Decide.{decLt}
 use native.Mathlib.Omega.{arith}
 use borrow.Author.Tests.{eq-eqb, ne-eqb, lt-ltb, le-ltb, le-leb, lt-leb}
 use lib.Dec.{eqb}
+use lib.ListN.{getD}
 use Rattle.rules.specs.Book.{bookLawful, bookFirst}
-use Rattle.audit.specs.Account.{nothing, unlawful, brokeFirst, brokeStep}
-use Rattle.audit.specs.Book.{bookIs, isFirst, ruleTold, headNoted}
+use Rattle.audit.specs.Account.{Account, mostTallies, nothing, unlawful, brokeFirst, brokeStep}
+use Rattle.audit.specs.Carry.{mostMoments, PastCount, PastBy, SomePast}
+use Rattle.audit.specs.Book.{bookIs, isFirst, ruleTold, headNoted, Carriable}
 use Rattle.audit.specs.declared.carry.Head as Head
 
 pub ruleset tests = (lt-ltb, le-ltb, le-leb, lt-leb, eq-eqb, ne-eqb)
@@ -83,3 +87,64 @@ pub noted-plain-numbers : (book : List ℕ) (head : Head.Head) (broke t is count
 noted-plain-numbers book head broke t is count e f c =
     ap (λ (n : ℕ). record { count = n; last = t; what = head .what; moment = head .moment; rule = head .rule }) c
     ∙ sym (noted-by book head broke t is false e f)
+
+-- ---- what is past the bound
+
+pub past-alone : (count more : ℕ) → mostMoments < count → PastCount count more
+past-alone count more h = inl h
+
+-- With the count within the bound, a piece passes it exactly if it is longer than the room left.
+pub past-with : (count more room : ℕ) → count ≤ mostMoments → room ≡ mostMoments - count → (room < more) ↔ PastCount count more
+past-with count more room few is = (λ h. inr (omega arith), from)
+  where
+    from : PastCount count more → room < more
+    from (inl h) = absurd (omega arith)
+    from (inr h) = omega arith
+
+-- no tally before place i is past the bound
+abbrev pub NonePast : List ℕ → ℕ → Type 0
+NonePast tallies i = (j : ℕ) → j < i → getD tallies j 0 ≤ mostMoments
+
+pub none-past-next : (tallies : List ℕ) (i : ℕ) → NonePast tallies i → getD tallies i 0 ≤ mostMoments → NonePast tallies (i + 1)
+none-past-next tallies i before here j h = by (decLt j i)
+  where
+    by : Dec (j < i) → getD tallies j 0 ≤ mostMoments
+    by (yes q) = before j q
+    by (no q) = let e : j ≡ i = omega arith in subst (λ (k : ℕ). getD tallies k 0 ≤ mostMoments) (sym e) here
+
+pub none-past-all : (tallies : List ℕ) (i : ℕ) → NonePast tallies i → mostTallies ≤ i → SomePast tallies → ⊥
+none-past-all tallies i before all p = omega (arith, before (p .at) (omega (arith, p .within)), p .past)
+
+-- True is not false, nor false true.
+pub true-not-false : {A : Type 0} → true ≡ false → A
+true-not-false e = let z : _≡_ {A = ℕ} 1 0 = ap (λ (b : Bool). cond b 1 0) e in absurd (omega arith)
+
+pub false-not-true : {A : Type 0} → false ≡ true → A
+false-not-true e = true-not-false (sym e)
+
+-- The broken tallies decide where the count and the kept ones are within the bound.
+pub past-by-broken : (account : Account) (more : ℕ) {r : Bool} → (PastCount (account .count) more → ⊥) → (SomePast (account .kept) → ⊥)
+    → (r ≡ true → SomePast (account .broken)) × (r ≡ false → SomePast (account .broken) → ⊥)
+    → (r ≡ true → PastBy account more) × (r ≡ false → PastBy account more → ⊥)
+past-by-broken account more {r} count kept (yes-broken, no-broken) = (λ e. inr (inr (yes-broken e)), never)
+  where
+    never : r ≡ false → PastBy account more → ⊥
+    never e (inl p) = count p
+    never e (inr (inl p)) = kept p
+    never e (inr (inr p)) = no-broken e p
+
+-- An account that is not past the bound may be carried on.
+pub carriable : (account : Account) (more : ℕ) → (PastBy account more → ⊥) → Carriable account more
+carriable account more fits = record {
+  few = count (decLt mostMoments (account .count + more));
+  kept = record { within = λ i h. one (account .kept) (λ p. fits (inr (inl p))) i h (decLt mostMoments (getD (account .kept) i 0)) };
+  broken = record { within = λ i h. one (account .broken) (λ p. fits (inr (inr p))) i h (decLt mostMoments (getD (account .broken) i 0)) };
+}
+  where
+    count : Dec (mostMoments < account .count + more) → account .count + more ≤ mostMoments
+    count (yes p) = absurd (fits (inl (inr p)))
+    count (no p) = omega arith
+
+    one : (tallies : List ℕ) → (SomePast tallies → ⊥) → (i : ℕ) → i < mostTallies → Dec (mostMoments < getD tallies i 0) → getD tallies i 0 ≤ mostMoments
+    one tallies none i h (yes p) = absurd (none (record { at = i; within = h; past = p }))
+    one tallies none i h (no p) = omega arith

@@ -101,10 +101,9 @@ bookCarried book account (t ∷ piece) = bookCarried book (bookNoted book accoun
 
 -- ---- bounds, so that no sum wraps
 
--- 255 tallies, none above b
+-- no tally is above b
 pub record Within (b : ℕ) (tallies : List ℕ) : Type 0 where
-  pub long : length tallies ≡ mostTallies
-  pub within : (i : ℕ) → getD tallies i 0 ≤ b
+  pub within : (i : ℕ) → i < mostTallies → getD tallies i 0 ≤ b
 
 -- ---- the code's structs
 

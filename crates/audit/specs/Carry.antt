@@ -82,13 +82,18 @@ mostMoments = 1000000
 -- some tally is past that
 pub record SomePast (tallies : List ℕ) : Type 0 where
   pub at : ℕ
-  pub within : at < length tallies
+  pub within : at < mostTallies
   pub past : mostMoments < getD tallies at 0
 
 -- "a piece that would pass that, or an account whose count or any tally is past it, is refused whole with 15"
+abbrev pub PastCount : (count more : ℕ) → Type 0
+PastCount count more = (mostMoments < count) ⊎ (mostMoments < count + more)
+
+abbrev pub PastBy : Account → ℕ → Type 0
+PastBy account more = PastCount (account .count) more ⊎ (SomePast (account .kept) ⊎ SomePast (account .broken))
+
 abbrev pub Past : Account → List ℕ → Type 0
-Past account piece =
-    (mostMoments < account .count) ⊎ (SomePast (account .kept) ⊎ (SomePast (account .broken) ⊎ (mostMoments < account .count + length piece)))
+Past account piece = PastBy account (length piece)
 
 -- The call's promise: its number, its place, and the account handed back. A bad sheet's 1 to 10 come first; a refusal hands the account back
 -- unchanged.

@@ -1,7 +1,17 @@
 // The audit of a log: a monitor's recorded states held against a sheet, piece by piece. What an account tells of a whole log is said in
 // specs/Account.antt, what the call promises in specs/Carry.antt, and that cutting a log does not show in proofs/Audits.antt. It stands on the
 // sheet reader and the compiled rules alone.
+use reader::Answer;
+ghost use mathlib.Core.Path.{_≡_};
+ghost use mathlib.Core.Bool.{true, false};
+ghost use mathlib.Core.Option.{none};
+ghost use lib.ListN.{length};
+ghost use Rattle.meaning.specs.Sheet.{firstFault};
+ghost use Rattle.audit.specs.Carry.{empty, SomePast, PastCount, PastBy, Audited, AuditedOut};
+ghost use Rattle.audit.specs.Book.{accountOf};
+
 mod carry;
+mod numbers;
 mod tally;
 
 // How many tallies an account has: one for each step rule that a sheet can have.
@@ -20,4 +30,108 @@ pub struct Account {
     pub rule: u32,
     pub kept: [u32; TALLIES],
     pub broken: [u32; TALLIES],
+}
+
+// What the audit hands back: 0 and the account carried on; 1 to 10 with a place for a bad sheet, or 15, and the account as it was.
+pub struct Report {
+    pub answer: u32,
+    pub place: u32,
+    pub account: Account,
+}
+
+// The account of nothing yet.
+pub fn fresh() -> Account
+    ensures { λ r. ⌜ accountOf r ≡ empty ⌝ }
+{
+    Account {
+        count: 0,
+        last: 0,
+        what: 0,
+        moment: 0,
+        rule: 0,
+        kept: [0; TALLIES],
+        broken: [0; TALLIES],
+    }
+}
+
+// Whether some tally is past the most moments.
+fn some_past(tallies: &[u32; TALLIES]) -> bool
+    ensures { λ r. ⌜ (r ≡ true → SomePast (now (tallies .entry))) × (r ≡ false → SomePast (now (tallies .entry)) → ⊥) ⌝ }
+{
+    let mut i: usize = 0;
+    while i < TALLIES {
+        if tallies[i] > MOMENTS {
+            return true;
+        }
+        i += 1;
+    }
+    false
+}
+
+// Whether a count and a piece of `more` states are past the most moments.
+fn count_past(count: u32, more: usize) -> bool
+    ensures { λ r. ⌜ (r ≡ true → PastCount count more) × (r ≡ false → PastCount count more → ⊥) ⌝ }
+{
+    if count > MOMENTS {
+        return true;
+    }
+    let room = MOMENTS - count;
+    (room as usize) < more
+}
+
+// Whether the account, or the account with a piece of `more` states, is past what an account may count.
+fn past(account: Account, more: usize) -> bool
+    ensures { λ r. ⌜ (r ≡ true → PastBy (accountOf account) more) × (r ≡ false → PastBy (accountOf account) more → ⊥) ⌝ }
+{
+    if count_past(account.count, more) {
+        return true;
+    }
+    let kept = account.kept;
+    if some_past(&kept) {
+        return true;
+    }
+    let broken = account.broken;
+    some_past(&broken)
+}
+
+// Carries the account on under a good sheet.
+fn audit_good(sheet: &[u8], account: Account, states: &[u32]) -> Report
+    requires { ⌜ firstFault (now sheet) ≡ none ⌝ }
+    ensures { λ r. ⌜ Audited (now (sheet .entry)) (accountOf account) (now (states .entry)) (r .answer) (r .place) (accountOf (r .account)) ⌝ }
+{
+    if past(account, states.len()) {
+        return Report {
+            answer: 15,
+            place: 0,
+            account,
+        };
+    }
+    let mut book = [0u32; 1698];
+    rules::compile(sheet, &mut book);
+    let back = carry::carry(&book, account, states);
+    Report {
+        answer: 0,
+        place: 0,
+        account: back,
+    }
+}
+
+// Audits a piece of a log: holds these states, which come behind those that the account has counted, against the sheet. Any account may be handed
+// in. 0 and the account carried on; a bad sheet's 1 to 10 and the place of its fault; 15 where the account or the piece passes 1,000,000
+// moments. A refusal hands the account back as it was.
+pub fn audit(sheet: &[u8], account: Account, states: &[u32]) -> Report
+    ensures { λ r. ⌜ Audited (now (sheet .entry)) (accountOf account) (now (states .entry)) (r .answer) (r .place) (accountOf (r .account)) ⌝ }
+{
+    match reader::read(sheet) {
+        Answer::Good => audit_good(sheet, account, states),
+        Answer::Bad(f) => {
+            let why = f.why;
+            let place = f.at as u32;
+            Report {
+                answer: reader::number(why),
+                place,
+                account,
+            }
+        }
+    }
 }

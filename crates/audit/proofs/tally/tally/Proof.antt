@@ -1,6 +1,6 @@
 -- The loop has counted the move for every rule below i. Assumes nothing.
 use mathlib.Core.Path.{_≡_, refl, sym, _∙_}
-use Prim.Native.Nat.{_-_, _≤_}
+use Prim.Native.Nat.{_-_, _≤_, _<_}
 use native.Mathlib.Omega.{arith}
 use borrow.Author.Needs.{needs}
 use Rattle.audit.specs.Book.{Tallied}
@@ -24,7 +24,8 @@ tally-rule-requires : tie.Need-tally-rule-requires Inv-loop μ-loop
 tally-rule-requires c κs =
     let head = c .before .before .before in
     let start = head .before .before .before in
-    let fits = place-fits _ _ _ _ _ _ _ _ _ (start .pre .1) (start .pre .2) (head .loop .inv .1) in
+    let few : head .loop .i < 255 = omega (arith, head .before .steps .ensures, c .before .before .loop-test .taken, start .pre .0 .few-steps) in
+    let fits = place-fits _ _ _ _ _ _ _ _ _ (start .pre .1) (start .pre .2) (head .loop .inv .1) few in
     (start .pre .0, omega (arith, head .before .steps .ensures, c .before .before .loop-test .taken), fits .0, fits .1)
 
 earliest-requires : tie.Need-earliest-requires Inv-loop μ-loop

@@ -1,0 +1,50 @@
+-- Refused whole, or carried on by the compiled sheet. Assumes nothing.
+use mathlib.Core.Path.{_≡_, refl, sym, _∙_}
+use Rattle.audit.specs.Carry.{past, done}
+use Rattle.audit.proofs.Telling.{carriable}
+use Rattle.audit.proofs.Compiled.{book-carried}
+use borrow.Author.Needs.{needs}
+use Rattle.audit.proofs.audit_good.Statement.{statement}
+use Rattle.audit.proofs.audit_good.Tie as tie
+use Rattle.audit.proofs.audit_good.Reads as reads
+use Rattle.audit.proofs.audit_good.Lts as lts
+use Rattle.audit.proofs.carry.carry.Reads as carry-reads
+use Rattle.audit.proofs.past.Reads as past-reads
+use Rattle.rules.proofs.compile.Reads as compile-reads
+
+past-requires : tie.Need-past-requires
+past-requires c κs = search needs
+
+returns : tie.Need-returns
+returns c = past (c .before .before .before .before .pre) (c .before .past .ensures .0 (c .if1 .taken)) refl refl refl
+
+slice-aggregate-compile : tie.Need-slice-aggregate-compile
+slice-aggregate-compile c = search needs
+
+compile-requires : tie.Need-compile-requires
+compile-requires c κs = search needs
+
+slice-aggregate-carry : tie.Need-slice-aggregate-carry
+slice-aggregate-carry c = search needs
+
+carry-requires : tie.Need-carry-requires
+carry-requires c κs =
+    (c .before .before .compile .ensures .shaped, carriable _ _ (c .before .before .before .before .before .past .ensures .1 (c .before .before .before .before .if1 .left)))
+
+returns-2 : tie.Need-returns-2
+returns-2 c =
+    let bound = c .before .before .before .before .before .before in
+    done (bound .before .before .before .pre) (bound .past .ensures .1 (c .before .before .before .before .before .if1 .left)) refl refl
+    (c .carry .ensures ∙ book-carried (c .before .before .before .compile .ensures) _ _)
+
+pub audit-good-spec : {M : Type 1} → statement M
+audit-good-spec =
+    tie.close
+    (tie.spec
+    past-requires
+    returns
+    slice-aggregate-compile
+    compile-requires
+    slice-aggregate-carry
+    carry-requires
+    returns-2)

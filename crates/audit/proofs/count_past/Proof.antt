@@ -1,0 +1,24 @@
+-- The count alone, or the piece is longer than the room left. Assumes nothing.
+use mathlib.Core.Path.{_≡_, refl}
+use mir.Facts.{clash}
+use borrow.Author.Tests.{ltb-true, ltb-false}
+use Rattle.audit.proofs.Telling.{past-alone, past-with, true-not-false}
+use borrow.Author.Needs.{needs}
+use Rattle.audit.proofs.count_past.Statement.{statement}
+use Rattle.audit.proofs.count_past.Tie as tie
+use Rattle.audit.proofs.count_past.Reads as reads
+use Rattle.audit.proofs.count_past.Lts as lts
+
+returns : tie.Need-returns
+returns c = (λ _. past-alone _ _ (c .if1 .taken), λ e. true-not-false e)
+
+cast-result : tie.Need-cast-result
+cast-result c = search needs
+
+returns-2 : tie.Need-returns-2
+returns-2 c =
+    let with = past-with (c .before .args .count) (c .before .args .more) _ (c .if1 .left) refl in
+    (λ e. with .0 (ltb-true _ _ e), λ e p. clash (with .1 p) (ltb-false _ _ e))
+
+pub count-past-spec : {M : Type 1} → statement M
+count-past-spec = tie.close (tie.spec returns cast-result returns-2)

@@ -1,0 +1,1 @@
+// An account as 515 numbers, for callers in C.
