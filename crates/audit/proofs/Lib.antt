@@ -5,3 +5,4 @@ pub mod Tallies
 pub mod Telling
 pub mod Following
 pub mod Compiled
+pub mod Written

@@ -149,3 +149,11 @@ pub record Carriable (account : Account) (more : ℕ) : Type 0 where
   pub few : account .count + more ≤ mostMoments
   pub kept : Within mostMoments (account .kept)
   pub broken : Within mostMoments (account .broken)
+
+-- ---- numbers copied from one list into another
+
+-- the first n of the numbers from place `at` on stand in the other from place `to` on; below that it is as it was, and as long
+pub record Copied (n : ℕ) (from : List ℕ) (at : ℕ) (into : List ℕ) (to : ℕ) (after : List ℕ) : Type 0 where
+  pub long : length after ≡ length into
+  pub below : (j : ℕ) → j < to → getD after j 0 ≡ getD into j 0
+  pub here : (j : ℕ) → j < n → getD after (to + j) 0 ≡ getD from (at + j) 0

@@ -8,7 +8,7 @@ use mathlib.Core.Option.{none, some}
 use mathlib.Core.List.{List, [], _∷_, _++_}
 use Prim.Native.Nat.{ℕ, zero, suc, _+_, _<_}
 use lib.Dec.{eqb}
-use lib.ListN.{length, getD, take, drop, replicate}
+use lib.ListN.{length, getD, replicate}
 use Rattle.meaning.specs.Sheet.{Sheet, StepRule, Fault, numberOf, firstFault, decode}
 use Rattle.meaning.specs.Rules.{allTrue, someTrue}
 use Rattle.audit.specs.Account.{Account, mostTallies, nothing, firstIs, nextIs, ruleIs}
@@ -106,6 +106,11 @@ pub data Audited (sheet : List ℕ) (account : Account) (piece : List ℕ) (n pl
 
 -- ---- the C form: an account as 515 numbers
 
+-- the n numbers of a list from place `at` on; past the list's end they are 0
+unfoldable pub numbersAt : (n : ℕ) → List ℕ → (at : ℕ) → List ℕ
+numbersAt zero l at = []
+numbersAt (suc n) l at = getD l at 0 ∷ numbersAt n l (suc at)
+
 -- "[0] count, [1] last state, [2] what the first breach was, [3] its moment, [4] its step rule or 0, [5] on kept, [260] on broken"
 unfoldable pub readAccount : List ℕ → Account
 readAccount l = record {
@@ -114,13 +119,14 @@ readAccount l = record {
   what = getD l 2 0;
   moment = getD l 3 0;
   rule = getD l 4 0;
-  kept = take mostTallies (drop 5 l);
-  broken = take mostTallies (drop 260 l);
+  kept = numbersAt mostTallies l 5;
+  broken = numbersAt mostTallies l 260;
 }
 
 unfoldable pub writeAccount : Account → List ℕ
 writeAccount account =
-    account .count ∷ account .last ∷ account .what ∷ account .moment ∷ account .rule ∷ (account .kept ++ account .broken)
+    account .count ∷ account .last ∷ account .what ∷ account .moment ∷ account .rule
+    ∷ (numbersAt mostTallies (account .kept) 0 ++ numbersAt mostTallies (account .broken) 0)
 
 -- the same promise without the place, of the 515 numbers before and after
 pub record AuditedOut (sheet before piece : List ℕ) (n : ℕ) (after : List ℕ) : Type 0 where

@@ -135,3 +135,19 @@ pub fn audit(sheet: &[u8], account: Account, states: &[u32]) -> Report
         }
     }
 }
+
+// The same for callers in C, without the place: the account's 515 numbers are carried on where they stand.
+#[no_mangle]
+pub extern "C" fn naxxurbi_audit(
+    sheet: &[u8],
+    account: &mut [u32; numbers::NUMBERS],
+    states: &[u32],
+) -> u32
+    ensures { λ r. ⌜ AuditedOut (now (sheet .entry)) (now (account .entry)) (now (states .entry)) r (now (account .exit)) ⌝ }
+{
+    let before = numbers::account_of(account);
+    let report = audit(sheet, before, states);
+    let back = report.account;
+    *account = numbers::numbers_of(back);
+    report.answer
+}

@@ -1,0 +1,80 @@
+-- The first i numbers are written. Assumes nothing.
+use mathlib.Core.Path.{_≡_, refl, subst}
+use Prim.Native.Nat.{ℕ, _+_, _-_, _≤_}
+use native.Mathlib.Omega.{arith}
+use lib.ListN.{length}
+use Rattle.audit.specs.Book.{Copied}
+use Rattle.audit.proofs.Written.{copied-none, copied-next}
+use Rattle.audit.proofs.numbers.put_tallies.Statement.{statement}
+use Rattle.audit.proofs.numbers.put_tallies.Tie as tie
+use Rattle.audit.proofs.numbers.put_tallies.Reads as reads
+use Rattle.audit.proofs.numbers.put_tallies.Lts as lts
+
+abbrev Inv-loop : tie.InvT-loop
+Inv-loop numbers₀ from tallies i₀ numbers i = (i ≤ 255) × (lib.ListN.length numbers₀ ≡ 515) × Copied i tallies 0 numbers₀ from numbers
+
+abbrev μ-loop : tie.MeasureT-loop
+μ-loop numbers₀ from tallies i₀ numbers i = 255 - i
+
+-- src/numbers.rt:36:5
+loop-holds : tie.Need-loop-holds Inv-loop μ-loop
+loop-holds c = (omega arith, c .pre .1, copied-none _ _ _ _)
+
+-- src/numbers.rt:37:18
+add-at : tie.Need-add-at Inv-loop μ-loop
+add-at c = omega arith
+
+-- src/numbers.rt:38:23
+mul-numbers : tie.Need-mul-numbers Inv-loop μ-loop
+mul-numbers c = omega arith
+
+-- src/numbers.rt:38:23
+element-copy-out-numbers : tie.Need-element-copy-out-numbers Inv-loop μ-loop
+element-copy-out-numbers c = omega arith
+
+-- src/numbers.rt:38:9
+mul-numbers-2 : tie.Need-mul-numbers-2 Inv-loop μ-loop
+mul-numbers-2 c = omega arith
+
+-- src/numbers.rt:38:9
+element-write-numbers : tie.Need-element-write-numbers Inv-loop μ-loop
+element-write-numbers c = omega arith
+
+-- src/numbers.rt:39:9
+add-i : tie.Need-add-i Inv-loop μ-loop
+add-i c = omega arith
+
+-- src/numbers.rt:36:5
+loop-less : tie.Need-loop-less Inv-loop μ-loop
+loop-less c = omega arith
+
+-- src/numbers.rt:36:5
+loop-again : tie.Need-loop-again Inv-loop μ-loop
+loop-again c =
+    let l = c .before .before .loop in
+    (omega arith, l .inv .1, copied-next (l .i) _ _ _ _ _ _ _ (l .inv .2) refl (omega arith) (omega arith))
+
+-- src/numbers.rt:31:1
+returns : tie.Need-returns Inv-loop μ-loop
+returns c =
+    let e : c .before .loop .i ≡ 255 = omega arith in
+    subst
+    (λ (n : ℕ). Copied n (c .before .before .args .tallies .now) 0 (c .before .before .args .numbers .now) (c .before .before .args .from) (c .before .loop .numbers))
+    e (c .before .loop .inv .2)
+
+pub put-tallies-spec : {M : Type 1} → statement M
+put-tallies-spec =
+    tie.close
+    (tie.spec
+    Inv-loop
+    μ-loop
+    loop-holds
+    add-at
+    mul-numbers
+    element-copy-out-numbers
+    mul-numbers-2
+    element-write-numbers
+    add-i
+    loop-less
+    loop-again
+    returns)

@@ -1,0 +1,81 @@
+-- The first i numbers are copied. Assumes nothing.
+use mathlib.Core.Path.{_≡_, refl, subst}
+use Prim.Native.Nat.{ℕ, _+_, _-_, _≤_}
+use native.Mathlib.Omega.{arith}
+use lib.ListN.{length, replicate}
+use Rattle.audit.specs.Book.{Copied}
+use Rattle.audit.proofs.Written.{copied-none, copied-next, numbers-read}
+use Rattle.audit.proofs.numbers.tallies_at.Statement.{statement}
+use Rattle.audit.proofs.numbers.tallies_at.Tie as tie
+use Rattle.audit.proofs.numbers.tallies_at.Reads as reads
+use Rattle.audit.proofs.numbers.tallies_at.Lts as lts
+
+abbrev Inv-loop : tie.InvT-loop
+Inv-loop numbers from tallies₀ i₀ tallies i = (i ≤ 255) × (lib.ListN.length tallies₀ ≡ 255) × Copied i numbers from tallies₀ 0 tallies
+
+abbrev μ-loop : tie.MeasureT-loop
+μ-loop numbers from tallies₀ i₀ tallies i = 255 - i
+
+-- src/numbers.rt:22:5
+loop-holds : tie.Need-loop-holds Inv-loop μ-loop
+loop-holds c = (omega arith, refl, copied-none _ _ _ _)
+
+-- src/numbers.rt:23:18
+add-at : tie.Need-add-at Inv-loop μ-loop
+add-at c = omega arith
+
+-- src/numbers.rt:24:22
+mul-tallies : tie.Need-mul-tallies Inv-loop μ-loop
+mul-tallies c = omega arith
+
+-- src/numbers.rt:24:22
+element-copy-out-tallies : tie.Need-element-copy-out-tallies Inv-loop μ-loop
+element-copy-out-tallies c = omega arith
+
+-- src/numbers.rt:24:9
+mul-tallies-2 : tie.Need-mul-tallies-2 Inv-loop μ-loop
+mul-tallies-2 c = omega arith
+
+-- src/numbers.rt:24:9
+array-write-tallies : tie.Need-array-write-tallies Inv-loop μ-loop
+array-write-tallies c = omega arith
+
+-- src/numbers.rt:25:9
+add-i : tie.Need-add-i Inv-loop μ-loop
+add-i c = omega arith
+
+-- src/numbers.rt:22:5
+loop-less : tie.Need-loop-less Inv-loop μ-loop
+loop-less c = omega arith
+
+-- src/numbers.rt:22:5
+loop-again : tie.Need-loop-again Inv-loop μ-loop
+loop-again c =
+    let l = c .before .before .loop in
+    (omega arith, refl, copied-next (l .i) _ _ _ _ _ _ _ (l .inv .2) (omega arith) refl (omega arith))
+
+-- src/numbers.rt:16:1
+returns : tie.Need-returns Inv-loop μ-loop
+returns c =
+    let e : c .before .loop .i ≡ 255 = omega arith in
+    numbers-read 255 (c .before .before .args .numbers .now) (c .before .before .args .from) (replicate {A = ℕ} 255 0) (c .before .loop .tallies) refl
+    (subst
+    (λ (n : ℕ). Copied n (c .before .before .args .numbers .now) (c .before .before .args .from) (replicate {A = ℕ} 255 0) 0 (c .before .loop .tallies))
+    e (c .before .loop .inv .2))
+
+pub tallies-at-spec : {M : Type 1} → statement M
+tallies-at-spec =
+    tie.close
+    (tie.spec
+    Inv-loop
+    μ-loop
+    loop-holds
+    add-at
+    mul-tallies
+    element-copy-out-tallies
+    mul-tallies-2
+    array-write-tallies
+    add-i
+    loop-less
+    loop-again
+    returns)
