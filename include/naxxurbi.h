@@ -1,9 +1,9 @@
 /*
- * Naxxurbi: a judge for rule sheets, and two checkers for its papers.
+ * Naxxurbi: a judge for rule sheets, two checkers for its papers, and an auditor of recorded logs.
  *
  * A rule sheet is a string of bytes (docs/FORMAT.md). The calls take any bytes and any numbers: none has a precondition, each
- * returns, and each is proved to keep the promise that is stated for it in crates/meaning/specs/Promises.antt. Of the pointers themselves C
- * callers owe what is listed below.
+ * returns, and each is proved to keep the promise that is stated for it in crates/meaning/specs/Promises.antt (the audit:
+ * crates/audit/specs/Carry.antt). Of the pointers themselves C callers owe what is listed below.
  *
  * Numbers returned:
  *    0        good sheet / paper accepted / the sheet can be kept
@@ -13,6 +13,7 @@
  *   12        the judge only: the sheet can be kept, but the run slice is too short for the sample run; b says how long it must be
  *   13        the judge only: the sheet cannot be kept
  *   14        the checkers only: the paper is not accepted
+ *   15        the audit only: the account, or the account with this piece, is past 1,000,000 moments
  *
  *    1  below 8 or above 4,096 bytes        6  record missing or past the end
  *    2  version not 1                       7  bad shape of a record
@@ -24,30 +25,33 @@
  * length byte, or the sheet's length where that byte is missing; for 8 and 9 the literal's own byte; for 10 the first surplus byte.
  *
  * A state is a number below 2 to the power n, n the sheet's number of letters: letter k holds in it when the bit worth 2 to the power k - 1
- * is set. What is read from outside comes as bytes, four to a number with the highest first; the judge's own slices are plain numbers.
+ * is set. What is read from outside comes as bytes, four to a number with the highest first; the judge's own slices, and the audit's
+ * account and states, are plain numbers.
  *
  * Nothing is kept between calls, and no memory is allocated. What the calls take for granted, and cannot check:
  *
  *    - the machine is x86-64 under Linux;
- *    - a pointer is valid for its length: so many bytes, or numbers of four bytes, can be read there, and in the judge's slices and in
- *      `out` also written. A pointer may be null where its length is 0; `out` has room for its numbers, five for the judge and two for
- *      naxxurbi_read_place, and is never null;
+ *    - a pointer is valid for its length: so many bytes, or numbers of four bytes, can be read there, and in the judge's slices, in
+ *      `out` and in `account` also written. A pointer may be null where its length is 0; `out` has room for its numbers, five for the judge
+ *      and two for naxxurbi_read_place, `account` for 515, and none of these is ever null;
  *    - a pointer to uint32_t is aligned for it, to 4 bytes. Bytes may stand anywhere;
- *    - the judge's four slices and `out` lie apart: from one another, and from the sheet; so does naxxurbi_read_place's `out`;
+ *    - the judge's four slices and `out` lie apart: from one another, and from the sheet; so does naxxurbi_read_place's `out` from the sheet,
+ *      and the account from the sheet and the states;
  *    - no slice has 2 to the power 63 bytes or more; for one of numbers, that is below 2 to the power 61 of them;
  *    - while a call runs, nobody else writes what it was given, nor reads what it may write;
  *    - the stack has room, as follows.
  *
- * Stack, in pages of 4,096 bytes: 205 for the judge, 4 for the strike checker, 2 for the run checker, 1 for the reader; what the caller
- * and signal handlers take comes on top. host/c/stack.c runs each call on a fenced stack of just this size, on sheets of 24 letters that are
- * judged to the end and on a bad one, and prints what they take: at most 835,296, 12,160, 7,160 and 280 bytes.
+ * Stack, in pages of 4,096 bytes: 205 for the judge, 4 for the strike checker, 4 for the audit, 2 for the run checker, 1 for the reader; what
+ * the caller and signal handlers take comes on top. host/c/stack.c runs each call on a fenced stack of just this size, on sheets of 24 letters
+ * that are judged to the end and on a bad one, and prints what they take: at most 835,296, 12,160, 12,200, 7,160 and 280 bytes. Of the
+ * audit's, 3,088 are the loader's, the first time that memcpy is called.
  *
  * The judge takes nearly as much for the smallest sheet (one letter, no rules: 830,960 bytes), since its rooms have a fixed size.
  *
  * Link libnaxxurbi.a, which bin/install makes and which has every call; a program takes in only the objects that it calls. Or link the
- * archives it is made of: libfirmware.a (both checkers), libjudge.a (naxxurbi_judge), libreader.a (naxxurbi_read, naxxurbi_read_place);
- * each stands alone. Their code takes at most 10 KB, 16 KB and 2 KB (of 1,024 bytes); they have no data of their own. The only outside
- * function that they call is memset.
+ * archives it is made of: libfirmware.a (both checkers), libjudge.a (naxxurbi_judge), libreader.a (naxxurbi_read, naxxurbi_read_place),
+ * libaudit.a (naxxurbi_audit); each stands alone. Their code takes at most 10 KB, 16 KB, 2 KB and 7 KB (of 1,024 bytes); they have no data of
+ * their own. The only outside functions that they call are memset and, in the audit, memcpy.
  *
  * Time. The run checker looks at each state once for each rule and promise. The strike checker counts, for the first states and for each
  * entry that asks for something new, the states that may come next, and stops once there are more than the list could hold. It settles
@@ -109,6 +113,26 @@ uint32_t naxxurbi_check_strikes(const uint8_t *sheet, size_t sheet_len, const ui
  */
 void naxxurbi_judge(const uint8_t *sheet, size_t sheet_len, uint32_t *table, size_t table_len, uint32_t *words, size_t words_len,
                     uint32_t *scratch, size_t scratch_len, uint32_t *run, size_t run_len, uint32_t out[5]);
+
+/*
+ * Audits a log: holds the states that a monitor recorded against a sheet, some at a time. The caller keeps an account of 515 numbers, all 0
+ * before the first piece, and hands it in with each piece of the log, the same sheet each time. Moments are counted from 0 by order of
+ * arrival. However the log is cut, the account ends the same.
+ *
+ *    account[0]         how many moments there were
+ *    account[1]         the last state; 0 while there was none
+ *    account[2]         what the first breach was: 0 none yet, 1 the state was unlawful (a number of 2 to the power n or more, or a limit that
+ *                       does not hold), 2 the log's first state broke a first rule, 3 the move into the state broke a step rule
+ *    account[3]         the moment of the first breach
+ *    account[4]         the step rule that it broke, the first in the sheet, counted from 1; 0 where it was no step rule
+ *    account[4 + r]     how many moves kept step rule r, its left side having been true before the move; r from 1 to 255
+ *    account[259 + r]   how many moves broke step rule r
+ *
+ * The tallies go on after a breach, also out of and into unlawful states. Promises are not judged on a log. 0 and the account carried on; a
+ * bad sheet's 1 to 10; 15 where account[0], with the states of this piece, or any tally is past 1,000,000. On 1 to 15 the account is
+ * unchanged. Any 515 numbers may be handed in; an empty piece then changes none of them.
+ */
+uint32_t naxxurbi_audit(const uint8_t *sheet, size_t sheet_len, uint32_t account[515], const uint32_t *states, size_t states_len);
 
 #ifdef __cplusplus
 }

@@ -12,13 +12,15 @@
 #include "test.h"
 
 /* What the header states, in pages of 4,096 bytes; and how wide the fences are: a call may take all its stack at once. */
-enum { READ_PAGES = 1, RUN_PAGES = 2, STRIKES_PAGES = 4, JUDGE_PAGES = 205, FENCE = 4 << 20 };
+enum { READ_PAGES = 1, RUN_PAGES = 2, STRIKES_PAGES = 4, AUDIT_PAGES = 4, JUDGE_PAGES = 205, FENCE = 4 << 20 };
 
 enum { STATES = 16384, MOMENTS = 262144 };
 
 static uint32_t table[STATES], words[STATES], scratch[2 * STATES], run[MOMENTS], out[5], answer;
 static uint8_t states_paper[4 * MOMENTS], words_paper[4 * STATES];
 static size_t states_len, words_len;
+static uint32_t account[515];
+static const uint32_t log_states[] = {1, 2, 4, 8, 3, 0, 0xFFFFFFFF};
 
 static void call_read(void)
 {
@@ -47,6 +49,11 @@ static void call_check_run(void)
 static void call_check_strikes(void)
 {
     answer = naxxurbi_check_strikes(made, made_len, states_paper, states_len, words_paper, words_len);
+}
+
+static void call_audit(void)
+{
+    answer = naxxurbi_audit(made, made_len, account, log_states, sizeof log_states / sizeof log_states[0]);
 }
 
 /* Runs a call on a fenced stack of so many pages, painted beforehand, and gives back how many bytes are no longer paint. */
@@ -88,6 +95,7 @@ static void all_calls(const char *name, uint32_t judged)
     on_its_stack(name, "reader", call_read, READ_PAGES, 0);
     on_its_stack(name, "reader, place", call_read_place, READ_PAGES, 0);
     expect(name, "no place", found[1], 0);
+    on_its_stack(name, "audit", call_audit, AUDIT_PAGES, 0);
     on_its_stack(name, "judge", call_judge, JUDGE_PAGES, judged);
     expect(name, "judged, no place", out[4], 0);
     states_len = write_numbers(states_paper, judged == 0 ? run : table, judged == 0 ? out[3] : out[1]);

@@ -1,4 +1,4 @@
--- The tallies of one move, rule by rule: what one rule adds (not-asked, rule-kept, rule-broken), what the next rule adds to those before it
+-- The tallies of one move, rule by rule: what one rule adds (rule-tallied), what the next rule adds to those before it
 -- (tallied-none, tallied-next), that places not reached yet are as they were (bumped-above), and that no tally grows by more than one
 -- (bumped-within, moved-within). Assumes nothing.
 use mathlib.Core.Path.{_≡_, refl, sym, _∙_, ap, ap₂, subst}
@@ -9,42 +9,37 @@ use native.Mathlib.Decide.{ℕ-discrete, decLt}
 use native.Mathlib.Omega.{arith}
 use borrow.Author.Tests.{eq-eqb, ne-eqb}
 use lib.Dec.{eqb}
+use mir.Val.{boolByte}
 use lib.ListN.{length, getD, set}
-use lib.Seq.{set-getD, getD-set-same, getD-set-other, set-out}
+use lib.Seq.{getD-set-same, getD-set-other, set-out}
 use Rattle.rules.specs.Book.{allAt, someAt, stepAt, stepsOf}
 use Rattle.audit.specs.Account.{Account, mostTallies}
 use Rattle.audit.specs.Carry.{mostMoments}
 use Rattle.audit.specs.Book.{keptBy, brokenBy, bump, bumped, firstOf, bookBroke, bookTallies, Within, Ruled, Tallied, Moved}
 
--- A place that is not counted stays.
-pub bump-none : (l : List ℕ) (i : ℕ) → l ≡ bump l i false
-unfolding bump
-bump-none l i =
-    let e : getD l i 0 + 0 ≡ getD l i 0 = omega arith in
-    sym (ap (set l i) e ∙ set-getD l i 0)
+-- A truth as a number: 1 or 0.
+byte-is : (b : Bool) → boolByte b ≡ cond b 1 0
+byte-is true = refl
+byte-is false = refl
 
-pub not-asked : (book : List ℕ) (s t i : ℕ) (kept broken : List ℕ) → allAt book (stepAt i) s ≡ false → Ruled book s t i kept broken kept broken false
-unfolding keptBy brokenBy
-not-asked book s t i kept broken e =
-    let k : keptBy book s t i ≡ false = ap (λ (b : Bool). b && someAt book (stepAt i + 2) t) e in
-    let x : brokenBy book s t i ≡ false = ap (λ (b : Bool). b && not (someAt book (stepAt i + 2) t)) e in
-    record { says = sym x; keeps = bump-none kept i ∙ ap (bump kept i) (sym k); breaks = bump-none broken i ∙ ap (bump broken i) (sym x) }
+pub byte-within : (b : Bool) → boolByte b ≤ 1
+byte-within true = omega arith
+byte-within false = omega arith
 
-pub rule-kept : (book : List ℕ) (s t i : ℕ) (kept broken : List ℕ) → allAt book (stepAt i) s ≡ true → someAt book (stepAt i + 2) t ≡ true
-    → Ruled book s t i kept broken (set kept i (getD kept i 0 + 1)) broken false
+-- What one rule adds: one to the kept moves, one to the broken ones, or none.
+pub rule-tallied : (book : List ℕ) (s t i : ℕ) (kept broken : List ℕ) (asks allows : Bool) → asks ≡ allAt book (stepAt i) s
+    → allows ≡ someAt book (stepAt i + 2) t
+    → Ruled book s t i kept broken (set kept i (getD kept i 0 + boolByte (asks && allows)))
+    (set broken i (getD broken i 0 + boolByte (asks && not allows))) (asks && not allows)
 unfolding keptBy brokenBy bump
-rule-kept book s t i kept broken a b =
-    let k : keptBy book s t i ≡ true = ap₂ (λ (x y : Bool). x && y) a b in
-    let x : brokenBy book s t i ≡ false = ap₂ (λ (x y : Bool). x && not y) a b in
-    record { says = sym x; keeps = ap (bump kept i) (sym k); breaks = bump-none broken i ∙ ap (bump broken i) (sym x) }
-
-pub rule-broken : (book : List ℕ) (s t i : ℕ) (kept broken : List ℕ) → allAt book (stepAt i) s ≡ true → someAt book (stepAt i + 2) t ≡ false
-    → Ruled book s t i kept broken kept (set broken i (getD broken i 0 + 1)) true
-unfolding keptBy brokenBy bump
-rule-broken book s t i kept broken a b =
-    let k : keptBy book s t i ≡ false = ap₂ (λ (x y : Bool). x && y) a b in
-    let x : brokenBy book s t i ≡ true = ap₂ (λ (x y : Bool). x && not y) a b in
-    record { says = sym x; keeps = bump-none kept i ∙ ap (bump kept i) (sym k); breaks = ap (bump broken i) (sym x) }
+rule-tallied book s t i kept broken asks allows a b =
+    let k : asks && allows ≡ keptBy book s t i = ap₂ (λ (x y : Bool). x && y) a b in
+    let x : asks && not allows ≡ brokenBy book s t i = ap₂ (λ (x y : Bool). x && not y) a b in
+    record {
+      says = x;
+      keeps = ap (λ (n : ℕ). set kept i (getD kept i 0 + n)) (byte-is (asks && allows) ∙ ap (λ (y : Bool). cond y 1 0) k);
+      breaks = ap (λ (n : ℕ). set broken i (getD broken i 0 + n)) (byte-is (asks && not allows) ∙ ap (λ (y : Bool). cond y 1 0) x);
+    }
 
 -- ---- all rules below n
 

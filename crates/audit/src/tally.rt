@@ -9,7 +9,8 @@ ghost use Rattle.rules.specs.Book.{Shaped, stepsOf};
 ghost use Rattle.audit.specs.Carry.{mostMoments};
 ghost use Rattle.audit.specs.Book.{Within, Ruled, Tallied};
 
-// Counts the move from s to t for step rule i; whether it broke the rule.
+// Counts the move from s to t for step rule i; whether it broke the rule. Both tallies are written, whatever the move: which one grows is hard
+// to foresee, and a branch on it costs more than the store.
 fn tally_rule(
     book: &[u32],
     i: usize,
@@ -21,17 +22,15 @@ fn tally_rule(
     requires { ⌜ Shaped (now book) × (i < stepsOf (now book)) × (getD (now kept) i 0 < 4294967295) × (getD (now broken) i 0 < 4294967295) ⌝ }
     ensures { λ r. ⌜ Ruled (now (book .entry)) s t i (now (kept .entry)) (now (broken .entry)) (now (kept .exit)) (now (broken .exit)) r ⌝ }
 {
-    if !rules::step_asks(book, i, s) {
-        return false;
-    }
-    if rules::step_allows(book, i, t) {
-        let n = kept[i];
-        kept[i] = n + 1;
-        return false;
-    }
-    let n = broken[i];
-    broken[i] = n + 1;
-    true
+    let asks = rules::step_asks(book, i, s);
+    let allows = rules::step_allows(book, i, t);
+    let keeps = asks & allows;
+    let breaks = asks & !allows;
+    let so_far = kept[i];
+    kept[i] = so_far + keeps as u32;
+    let until_now = broken[i];
+    broken[i] = until_now + breaks as u32;
+    breaks
 }
 
 // The first rule broken, counted from 1, once rule i has been looked at; 0 if none.

@@ -5,6 +5,7 @@
 
 #![deny(warnings)]
 
+pub mod audit;
 pub mod checkers;
 pub mod judge;
 pub mod reader;

@@ -1,4 +1,4 @@
-//! A plain implementation of the rule-sheet judge and its two checkers.
+//! A plain implementation of the rule-sheet judge, its two checkers and the auditor.
 //!
 //! It is written from documents 01 and 02 alone and shares no code with the proved
 //! build, so that the two can be held against each other, and timed.
@@ -10,6 +10,7 @@
 //! | [`list`]     | lists lawful, first and next states in ascending order           |
 //! | [`judge`]    | the judge: "can be kept" with a run, "cannot" with a strike list |
 //! | [`check`]    | the checkers of runs and of strike lists                         |
+//! | [`audit`]    | the auditor of recorded logs                                     |
 //! | [`brute`]    | everything a second time, naively, for at most five letters      |
 //! | [`make`]     | sheets for tests and benchmarks, good and damaged                |
 //! | [`edges`]    | each fault at its first and last possible place                  |
@@ -21,6 +22,7 @@
 #![deny(missing_docs)]
 #![forbid(unsafe_code)]
 
+pub mod audit;
 pub mod brute;
 pub mod check;
 pub mod edges;

@@ -67,7 +67,7 @@ const SUMMER: i8 = 3;
 const REPEATED: i8 = 4;
 
 /// The guide's sheets: the clock that goes back and its mending, then one for
-/// each of the three mistakes that students make.
+/// each of the three mistakes that students make, and the clock of a whole year.
 pub fn guide() -> Vec<Named> {
     vec![
         Named::new("clock", "the clock goes back", &clock()),
@@ -76,6 +76,7 @@ pub fn guide() -> Vec<Named> {
         Named::new("mistake-2", "the file's closing is put off for ever", &put_off()),
         Named::new("mistake-3", "at most two, and two must hold", &two_at_once(2)),
         Named::new("mistake-3-misread", "the same with fewer than two", &two_at_once(1)),
+        Named::new("clock-year", "a year, minute by minute", &clock_year()),
     ]
 }
 
@@ -102,6 +103,17 @@ fn clock_mended() -> Draft {
     draft.step([SUMMER], [SUMMER, REPEATED]).step([REPEATED], [FILE]);
     draft.step([REPEATED], [-SUMMER]).step([REPEATED], [-REPEATED]);
     draft.promise(-SUMMER).clone()
+}
+
+/// A year, a moment for each minute. It begins in winter; summer ends only with
+/// the repeated hour, which may last, and winter comes then. The first hour's
+/// file is closed before the repeated hour begins, and a new one is open in it.
+fn clock_year() -> Draft {
+    let mut draft = Draft::new(4);
+    draft.exactly(1, [MOTOR]).at_most(1, [SUMMER, REPEATED]).first([-SUMMER]).first([-REPEATED]);
+    draft.step([-SUMMER, -REPEATED], [-REPEATED]).step([SUMMER], [SUMMER, REPEATED]);
+    draft.step([REPEATED], [-SUMMER]).step([FILE, SUMMER], [-REPEATED]);
+    draft.step([REPEATED], [FILE, -REPEATED]).promise(FILE).clone()
 }
 
 /// The letters count the moves, letter 1 worth 1 and letter 4 worth 8. After

@@ -37,12 +37,13 @@ impl Literals {
 }
 
 /// A list split into letters named one way only and letters named both ways.
-struct List {
-    literals: Literals,
-    both: u32,
+pub(crate) struct List {
+    pub literals: Literals,
+    pub both: u32,
 }
 
-fn compile(list: &[i8]) -> List {
+/// Splits a list.
+pub(crate) fn compile(list: &[i8]) -> List {
     let (mut holds, mut fails) = (0u32, 0u32);
     for &literal in list {
         // The reader has seen to it that the size is 1 to 24.

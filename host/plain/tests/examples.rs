@@ -52,7 +52,7 @@ fn bad_files_and_readme_are_as_made() {
 /// The guide's sheets and papers, as the guide tells them.
 #[test]
 fn guide_is_as_told() {
-    let told: [(&str, &str, &[u32], &[u32]); 6] = [
+    let told: [(&str, &str, &[u32], &[u32]); 7] = [
         ("clock", "13 4 0 0", &[9, 11, 5, 7], &[32, 32, 33, 33]),
         ("clock-mended", "0 6 3 4", &[7, 9, 3, 1], &[]),
         (
@@ -64,6 +64,7 @@ fn guide_is_as_told() {
         ("mistake-2", "13 2 0 0", &[7, 11], &[33, 33]),
         ("mistake-3", "0 4 1 2", &[1, 3], &[]),
         ("mistake-3-misread", "13 1 0 0", &[1], &[32]),
+        ("clock-year", "0 6 1 2", &[1, 3], &[]),
     ];
     for (named, (file, line, states, words)) in guide().iter().zip(told) {
         let judged = Judged::of(&named.sheet);

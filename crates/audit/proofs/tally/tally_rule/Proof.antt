@@ -1,7 +1,7 @@
--- The rule is not asked, kept or broken. Assumes nothing.
-use mathlib.Core.Path.{sym, _∙_}
-use borrow.Author.Tests.{not-true, not-false}
-use Rattle.audit.proofs.Tallies.{not-asked, rule-kept, rule-broken}
+-- Both tallies are written: one more where the rule is kept, or broken. Assumes nothing.
+use mathlib.Core.Bool.{not, _&&_}
+use native.Mathlib.Omega.{arith}
+use Rattle.audit.proofs.Tallies.{byte-within, rule-tallied}
 use borrow.Author.Needs.{needs}
 use Rattle.audit.proofs.tally.tally_rule.Statement.{statement}
 use Rattle.audit.proofs.tally.tally_rule.Tie as tie
@@ -13,20 +13,20 @@ use Rattle.rules.proofs.step_asks.Reads as step-asks-reads
 step-asks-requires : tie.Need-step-asks-requires
 step-asks-requires c κs = search needs
 
-returns : tie.Need-returns
-returns c = not-asked _ _ _ _ _ _ (sym (c .before .step-asks .ensures) ∙ not-true _ (c .if1 .taken))
-
 step-allows-requires : tie.Need-step-allows-requires
 step-allows-requires c κs = search needs
 
-mul-n : tie.Need-mul-n
-mul-n c = search needs
+mul-so-far : tie.Need-mul-so-far
+mul-so-far c = search needs
 
-element-copy-out-n : tie.Need-element-copy-out-n
-element-copy-out-n c = search needs
+element-copy-out-so-far : tie.Need-element-copy-out-so-far
+element-copy-out-so-far c = search needs
+
+cast-kept : tie.Need-cast-kept
+cast-kept c = search needs
 
 add-kept : tie.Need-add-kept
-add-kept c = search needs
+add-kept c = omega (arith, byte-within (c .before .before .step-asks .result && c .before .step-allows .result), c .before .before .before .before .pre .2)
 
 mul-kept : tie.Need-mul-kept
 mul-kept c = search needs
@@ -34,19 +34,22 @@ mul-kept c = search needs
 element-write-kept : tie.Need-element-write-kept
 element-write-kept c = search needs
 
-returns-2 : tie.Need-returns-2
-returns-2 c =
-    rule-kept _ _ _ _ _ _ (sym (c .before .before .before .before .step-asks .ensures) ∙ not-false _ (c .before .before .before .if1 .left))
-    (sym (c .before .before .step-allows .ensures) ∙ c .before .if2 .taken)
+mul-until-now : tie.Need-mul-until-now
+mul-until-now c = search needs
 
-mul-n-2 : tie.Need-mul-n-2
-mul-n-2 c = search needs
+element-copy-out-until-now : tie.Need-element-copy-out-until-now
+element-copy-out-until-now c = search needs
 
-element-copy-out-n-2 : tie.Need-element-copy-out-n-2
-element-copy-out-n-2 c = search needs
+cast-broken : tie.Need-cast-broken
+cast-broken c = search needs
 
 add-broken : tie.Need-add-broken
-add-broken c = search needs
+add-broken c =
+    omega (
+      arith,
+      byte-within (c .before .before .before .step-asks .result && not (c .before .before .step-allows .result)),
+      c .before .before .before .before .before .pre .3,
+    )
 
 mul-broken : tie.Need-mul-broken
 mul-broken c = search needs
@@ -54,27 +57,25 @@ mul-broken c = search needs
 element-write-broken : tie.Need-element-write-broken
 element-write-broken c = search needs
 
-returns-3 : tie.Need-returns-3
-returns-3 c =
-    rule-broken _ _ _ _ _ _ (sym (c .before .before .before .before .step-asks .ensures) ∙ not-false _ (c .before .before .before .if1 .left))
-    (sym (c .before .before .step-allows .ensures) ∙ c .before .if2 .left)
+returns : tie.Need-returns
+returns c = rule-tallied _ _ _ _ _ _ _ _ (c .before .before .before .step-asks .ensures) (c .before .before .step-allows .ensures)
 
 pub tally-rule-spec : {M : Type 1} → statement M
 tally-rule-spec =
     tie.close
     (tie.spec
     step-asks-requires
-    returns
     step-allows-requires
-    mul-n
-    element-copy-out-n
+    mul-so-far
+    element-copy-out-so-far
+    cast-kept
     add-kept
     mul-kept
     element-write-kept
-    returns-2
-    mul-n-2
-    element-copy-out-n-2
+    mul-until-now
+    element-copy-out-until-now
+    cast-broken
     add-broken
     mul-broken
     element-write-broken
-    returns-3)
+    returns)

@@ -9,6 +9,7 @@
 
 #![deny(warnings)]
 
+mod auditing;
 mod checking;
 mod clock;
 mod judging;
@@ -161,6 +162,7 @@ fn main() -> std::io::Result<()> {
     tables.extend(checking::tables(&only));
     tables.extend(judging::tables(&only));
     tables.extend(orders::tables(&only));
+    tables.push(auditing::table(&only));
     tables.retain(|table| !table.rows.is_empty());
     let on = std::env::var("MEASURED_ON").map_or(String::new(), |words| words + "\n\n");
     let text = on + &tables.iter().map(markdown).collect::<Vec<_>>().join("\n");

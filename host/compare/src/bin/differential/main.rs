@@ -5,6 +5,7 @@
 
 #![deny(warnings)]
 
+mod audit;
 mod checkers;
 mod judge;
 mod reader;
@@ -17,13 +18,13 @@ use std::collections::BTreeSet;
 /// How often each answer occurred.
 pub struct Tally {
     name: &'static str,
-    seen: [u64; 15],
+    seen: [u64; 16],
 }
 
 impl Tally {
     /// A tally that has seen nothing.
     pub fn new(name: &'static str) -> Tally {
-        Tally { name, seen: [0; 15] }
+        Tally { name, seen: [0; 16] }
     }
 
     /// Counts an answer.
@@ -126,6 +127,8 @@ const SUITES: &[Suite] = &[
     ("checkers", checkers::suite),
     // Long papers, many next states.
     ("checkers, large", checkers::large),
+    // Logs in pieces, accounts of anything.
+    ("audit", audit::suite),
     // Random sheets with random slices.
     ("judge", judge::suite),
     // Many states, long runs, many rounds.
