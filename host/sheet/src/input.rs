@@ -51,27 +51,37 @@ pub fn shown(file: &str) -> String {
     }
 }
 
-/// Reads a file, or standard input for `-`: at most `most` bytes.
-fn load(file: &str, most: usize) -> Result<Vec<u8>, Trouble> {
-    let mut content = Vec::new();
-    let most_and_one = most as u64 + 1;
-    let done = if file == "-" {
-        std::io::stdin().lock().take(most_and_one).read_to_end(&mut content)
-    } else {
-        if std::path::Path::new(file).is_dir() {
-            return Err(Trouble::new(format!("{file}: this is a folder, and a file is needed")));
-        }
-        std::fs::File::open(file).and_then(|open| open.take(most_and_one).read_to_end(&mut content))
-    };
-    match done {
-        Err(error) if error.kind() == std::io::ErrorKind::NotFound => Err(Trouble::new(format!("{file}: there is no such file"))),
-        Err(error) => Err(Trouble::new(format!("{}: cannot be read: {error}", shown(file)))),
-        Ok(_) => Ok(content),
+/// Opens a file, or standard input for `-`.
+pub fn open(file: &str) -> Result<Box<dyn Read>, Trouble> {
+    if file == "-" {
+        return Ok(Box::new(std::io::stdin().lock()));
+    }
+    if std::path::Path::new(file).is_dir() {
+        return Err(Trouble::new(format!("{file}: this is a folder, and a file is needed")));
+    }
+    match std::fs::File::open(file) {
+        Err(error) => Err(unread(file, &error)),
+        Ok(open) => Ok(Box::new(open)),
     }
 }
 
-/// Is this a sheet's bytes, and not its text? No text is empty, begins with a byte below 9 or holds a zero byte.
-fn looks_like_bytes(content: &[u8]) -> bool {
+/// The trouble of a file that cannot be read.
+pub fn unread(file: &str, error: &std::io::Error) -> Trouble {
+    match error.kind() {
+        std::io::ErrorKind::NotFound => Trouble::new(format!("{file}: there is no such file")),
+        _ => Trouble::new(format!("{}: cannot be read: {error}", shown(file))),
+    }
+}
+
+/// Reads a file, or standard input for `-`: at most `most` bytes.
+fn load(file: &str, most: usize) -> Result<Vec<u8>, Trouble> {
+    let mut content = Vec::new();
+    open(file)?.take(most as u64 + 1).read_to_end(&mut content).map_err(|error| unread(file, &error))?;
+    Ok(content)
+}
+
+/// Are these bytes, and no text? No text is empty, begins with a byte below 9 or holds a zero byte.
+pub fn looks_like_bytes(content: &[u8]) -> bool {
     content.first().is_none_or(|&byte| byte < 9) || content.contains(&0)
 }
 

@@ -27,6 +27,64 @@ extern "C" {
         run_len: usize,
         out: *mut [u32; 5],
     );
+    fn naxxurbi_audit(sheet: *const u8, sheet_len: usize, account: *mut [u32; ACCOUNT], states: *const u32, states_len: usize) -> u32;
+}
+
+/// How many tallies of kept moves, and of broken moves, an account has.
+const TALLIES: usize = 255;
+/// How many numbers an account is.
+const ACCOUNT: usize = 5 + 2 * TALLIES;
+
+/// The account of a log so far, as the proved audit keeps it.
+#[derive(Clone, Debug)]
+pub struct Account([u32; ACCOUNT]);
+
+impl Account {
+    /// The account of nothing yet.
+    pub fn new() -> Account {
+        Account([0; ACCOUNT])
+    }
+
+    /// How many moments there were.
+    pub fn count(&self) -> u32 {
+        self.0[0]
+    }
+
+    /// The last state.
+    pub fn last(&self) -> u32 {
+        self.0[1]
+    }
+
+    /// What the first breach was: 0 none, 1 an unlawful state, 2 a first rule, 3 a step rule.
+    pub fn what(&self) -> u32 {
+        self.0[2]
+    }
+
+    /// The moment of the first breach.
+    pub fn moment(&self) -> u32 {
+        self.0[3]
+    }
+
+    /// The step rule that it broke, counted from 1, or 0.
+    pub fn rule(&self) -> u32 {
+        self.0[4]
+    }
+
+    /// How many moves kept each step rule.
+    pub fn kept(&self) -> &[u32] {
+        &self.0[5..5 + TALLIES]
+    }
+
+    /// How many moves broke each step rule.
+    pub fn broken(&self) -> &[u32] {
+        &self.0[5 + TALLIES..]
+    }
+}
+
+impl Default for Account {
+    fn default() -> Account {
+        Account::new()
+    }
 }
 
 /// The most reachable states that the judge takes in.
@@ -86,6 +144,13 @@ pub fn check_strikes(sheet: &[u8], states: &[u32], words: &[u32]) -> u32 {
     let (states, words) = (bytes(states), bytes(words));
     // SAFETY: the call reads as many bytes from each pointer as its length says, and changes nothing.
     unsafe { naxxurbi_check_strikes(sheet.as_ptr(), sheet.len(), states.as_ptr(), states.len(), words.as_ptr(), words.len()) }
+}
+
+/// Carries an account on by some states: 0, or 15 where it is past 1,000,000 moments then, or 1 to 10 for a bad sheet.
+pub fn audit(sheet: &[u8], account: &mut Account, states: &[u32]) -> u32 {
+    // SAFETY: the call reads `sheet_len` bytes and `states_len` numbers, and reads and writes the account's numbers; they do not overlap, for
+    // the account is borrowed alone.
+    unsafe { naxxurbi_audit(sheet.as_ptr(), sheet.len(), &mut account.0, states.as_ptr(), states.len()) }
 }
 
 /// Judges a sheet with all the room that there can be. A run that needs more room than was lent is asked for again.

@@ -30,7 +30,7 @@ pub fn reason(source: &Source, paper: &Paper) -> Option<Vec<String>> {
 }
 
 /// Why a number is not a lawful state, if it is not.
-fn unlawful(sheet: &Sheet, state: State) -> Option<String> {
+pub fn unlawful(sheet: &Sheet, state: State) -> Option<String> {
     let letters = sheet.names.len();
     if !sheet.has(state) {
         let most = (1u64 << letters) - 1;

@@ -6,6 +6,11 @@ pub mod strikes;
 
 /// A number with its noun, which gets an s for more than one.
 pub fn count(number: usize, noun: &str) -> String {
+    format!("{} {noun}{}", parted(number), if number == 1 { "" } else { "s" })
+}
+
+/// A number, its thousands parted by commas.
+pub fn parted(number: usize) -> String {
     let parted: String = number
         .to_string()
         .bytes()
@@ -13,6 +18,5 @@ pub fn count(number: usize, noun: &str) -> String {
         .enumerate()
         .flat_map(|(at, digit)| (at > 0 && at % 3 == 0).then_some(',').into_iter().chain([char::from(digit)]))
         .collect();
-    let parted: String = parted.chars().rev().collect();
-    format!("{parted} {noun}{}", if number == 1 { "" } else { "s" })
+    parted.chars().rev().collect()
 }

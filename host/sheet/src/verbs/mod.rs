@@ -1,5 +1,6 @@
 //! The verbs, a file each. A new verb is one more file and one more line in `ALL`.
 
+pub mod audit;
 pub mod check;
 pub mod draw;
 pub mod judge;
@@ -28,7 +29,7 @@ pub struct Verb {
 }
 
 /// Every verb.
-pub const ALL: [&Verb; 5] = [&write::VERB, &read::VERB, &judge::VERB, &check::VERB, &draw::VERB];
+pub const ALL: [&Verb; 6] = [&write::VERB, &read::VERB, &judge::VERB, &check::VERB, &audit::VERB, &draw::VERB];
 
 impl Verb {
     /// Its own options, then those of every verb.

@@ -1,0 +1,1 @@
+printf '3\n' | sheet audit --bytes examples/clock-year.txt -

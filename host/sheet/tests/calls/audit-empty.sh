@@ -1,0 +1,1 @@
+printf '' | sheet audit examples/clock-year.txt -

@@ -1,0 +1,1 @@
+printf '7\n7\n' | sheet audit examples/clock-year.txt -

@@ -1,0 +1,1 @@
+printf '3333' | sheet audit examples/clock-year.txt - --states

@@ -1,0 +1,1 @@
+sheet audit examples/clock-year.txt "$scratch/year-over.log"
