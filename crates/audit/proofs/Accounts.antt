@@ -1,7 +1,7 @@
 -- What an account tells. A log has one account (account-unique). Kept plus broken of a rule is the number of moves whose earlier state made its
 -- left side true (kept-and-broken), so no tally is above the count (tally-within). No breach is told exactly if every recorded state is
--- lawful, the first makes every first rule true and every move is a move of the sheet (clean-exactly), so none is told of a run that obeys
--- (run-clean). Assumes nothing.
+-- lawful, the first makes every first rule true and every move is a move of the sheet (clean-exactly), as the states of
+-- any run are (run-clean, accepted-clean). Assumes nothing.
 use mathlib.Core.Path.{_≡_, refl, sym, _∙_, ap, ap₂, subst}
 use mathlib.Core.Logic.{_⊎_, inl, inr, _↔_}
 use mathlib.Core.Bool.{Bool, true, false, cond, not, _&&_, _||_}
@@ -236,8 +236,7 @@ clean-exactly sheet log {account} a = by (a .breach-is)
     by (inl b) = (λ z. absurd (b .some-breach z), λ clean. absurd (b .some-breach (b .what-is ∙ nothing-wrong sheet log .1 clean _ (b .within))))
     by (inr n) = (λ z. nothing-wrong sheet log .0 (n .clean), λ clean. n .no-what)
 
--- A log whose states are those of a run, from its first moment on, is clean; so is the sample run that the judge writes, read on for as long as one
--- likes (its reading obeys).
+-- A log whose states are those of a run, from its first moment on, is clean.
 pub run-clean : (sheet : Sheet) (log : List ℕ) (f : ℕ → ℕ) → Run (systemOf sheet) f → ((i : ℕ) → i < length log → stateAt log i ≡ f i) → Clean sheet log
 unfolding systemOf
 run-clean sheet log f run same = record { all-lawful = law; starts = start; goes = go }

@@ -1,8 +1,8 @@
 -- The call's promise leaves one outcome for every input (audited-unique, audited-out-unique) and every input has one (audited-met,
 -- audited-out-met). Calls that are not refused, from the empty account on, end in the account of the joined log, however it is cut
--- (calls-account, cutting-does-not-show); an account so made gets 15 only where its moments and the piece together pass 1,000,000
--- (refused-by-length-only), so a cutting does not show by a refusal either. "The same sheet each time" is a premise here, not of the call.
--- Assumes nothing.
+-- (calls-account, cutting-does-not-show). Of an account of a log, no tally and no count by itself is past the bound: it is past it with a
+-- piece exactly if the two together pass 1,000,000 (refused-by-length-only; Reports.antt says it of whole rows of calls). "The same sheet
+-- each time" is a premise here, not of the call. Assumes nothing.
 use mathlib.Core.Path.{_≡_, refl, sym, _∙_, ap, ap₂, subst}
 use mathlib.Core.Logic.{_⊎_, inl, inr, _↔_}
 use mathlib.Core.Option.{Option, none, some}

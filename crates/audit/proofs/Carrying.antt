@@ -95,7 +95,7 @@ rule-new sheet log t (suc n) e =
 -- ---- tallies
 
 -- tests that are equal below n pass as often
-same-many : {f g : ℕ → Bool} (n : ℕ) → ((i : ℕ) → i < n → f i ≡ g i) → howMany f n ≡ howMany g n
+pub same-many : {f g : ℕ → Bool} (n : ℕ) → ((i : ℕ) → i < n → f i ≡ g i) → howMany f n ≡ howMany g n
 unfolding howMany
 same-many zero same = refl
 same-many (suc n) same =

@@ -6,3 +6,4 @@ pub mod Telling
 pub mod Following
 pub mod Compiled
 pub mod Written
+pub mod Reports

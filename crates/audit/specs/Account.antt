@@ -48,7 +48,7 @@ unfoldable pub firstBroken : (s t i : ℕ) → List StepRule → ℕ
 firstBroken s t i [] = 0
 firstBroken s t i (rule ∷ rules) = cond (stepHolds s t rule) (firstBroken s t (suc i) rules) i
 
--- what a first state of a log is: "unlawful, broke a first rule .. in that order"; a number of 2^n or more is unlawful
+-- what the state at moment 0 is: "unlawful, broke a first rule .. in that order"; a number of 2^n or more is unlawful
 unfoldable pub firstIs : Sheet → ℕ → ℕ
 firstIs sheet t = cond (lawful sheet t) (cond (firstState sheet t) nothing brokeFirst) unlawful
 

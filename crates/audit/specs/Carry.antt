@@ -1,6 +1,7 @@
 -- What the audit's call promises. A log is "handed over some at a time": the call carries an account on by one piece. Any numbers may be handed
 -- in as an account, also such as no audit made, and each has one outcome. proofs/ show that carrying on from the empty account, however the
--- log is cut, gives the account of the whole log (Account.antt). Assumes nothing.
+-- log is cut, gives the account of the whole log (Account.antt). Of an account that no audit made a cut can show, by a refusal: one whose tally
+-- stands at 1,000,000 while it counts fewer moments may be carried on by a piece whose halves would be refused. Assumes nothing.
 use mathlib.Core.Path.{_≡_}
 use mathlib.Core.Logic.{_⊎_}
 use mathlib.Core.Bool.{Bool, true, false, cond, not, _&&_}
