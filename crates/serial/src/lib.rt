@@ -1,0 +1,185 @@
+// Sheets over the serial lead (document 02, order 6): pieces of a sheet are taken one by one into a buffer that the caller lends, and closing
+// answers what the reader answers for the joined bytes, place included. What is known of a lead is a count and a mark, handed over by value;
+// any two numbers may be handed in. What follows for pieces taken one after another is in proofs/Joined.antt.
+use reader::Answer;
+ghost use mathlib.Core.Path.{_≡_};
+ghost use Prim.Native.Nat.{_≤_};
+ghost use lib.ListN.{length};
+ghost use lib.Seq.{sets};
+ghost use Rattle.meaning.specs.Promises.{ReadPlaced};
+ghost use Rattle.serial.specs.Serial.{Takes, Closes, Answers, TakesState, ClosesState, counted};
+
+// The buffer's bytes, as many as a sheet may have.
+pub const ROOM: usize = 4096;
+
+// The count that stands for more bytes than a sheet may have.
+const MORE: usize = 4097;
+
+// How many bytes have come, MORE standing for more than ROOM; and whether the lead is closed: 0 for an open one.
+pub struct Lead {
+    pub taken: u32,
+    pub closed: u32,
+}
+
+// What taking a piece answers, and the lead after it.
+pub struct Taken {
+    pub answer: u32,
+    pub lead: Lead,
+}
+
+// What closing answers, the place beside it, and the lead after it.
+pub struct Closed {
+    pub answer: u32,
+    pub place: u32,
+    pub lead: Lead,
+}
+
+// The reader's answer in numbers.
+pub struct Reading {
+    pub answer: u32,
+    pub place: u32,
+}
+
+// Writes a piece into a slice from a place on. What goes past the end is not stored.
+fn write(sheet: &mut [u8], at: usize, piece: &[u8])
+    ensures { λ _. ⌜ now (sheet .exit) ≡ sets (now (sheet .entry)) at (now (piece .entry)) ⌝ }
+{
+    let mut i = 0;
+    let mut to = at;
+    while i < piece.len() {
+        if sheet.len() <= to {
+            return;
+        }
+        sheet[to] = piece[i];
+        i += 1;
+        to += 1;
+    }
+}
+
+// The count after so many more bytes.
+fn count(taken: u32, more: usize) -> u32
+    ensures { λ r. ⌜ r ≡ counted taken more ⌝ }
+{
+    let before = taken as usize;
+    if MORE <= before {
+        return taken;
+    }
+    let room = MORE - before;
+    if room <= more {
+        return MORE as u32;
+    }
+    let after = before + more;
+    after as u32
+}
+
+// What the reader answers for these bytes, with the place.
+fn answer_for(sheet: &[u8]) -> Reading
+    ensures { λ r. ⌜ ReadPlaced (now (sheet .entry)) (r .answer) (r .place) ⌝ }
+{
+    match reader::read(sheet) {
+        Answer::Good => Reading {
+            answer: 0,
+            place: 0,
+        },
+        Answer::Bad(f) => {
+            let why = f.why;
+            let place = f.at as u32;
+            let answer = reader::number(why);
+            Reading { answer, place }
+        }
+    }
+}
+
+// What the reader answers for the first bytes of the buffer.
+fn front(sheet: &[u8], taken: usize) -> Reading
+    requires { ⌜ length (now sheet) ≡ 4096 ⌝ }
+    ensures { λ r. ⌜ Answers taken (now (sheet .entry)) (r .answer) (r .place) ⌝ }
+{
+    if ROOM < taken {
+        return Reading {
+            answer: 1,
+            place: 0,
+        };
+    }
+    let bytes = &sheet[..taken];
+    answer_for(bytes)
+}
+
+// Takes a piece: 0, and its bytes stand behind those that came; after closing 18, and nothing is changed.
+pub fn take(lead: Lead, sheet: &mut [u8; ROOM], piece: &[u8]) -> Taken
+    ensures { λ r. ⌜ Takes lead (now (sheet .entry)) (now (piece .entry)) (r .answer) (r .lead) (now (sheet .exit)) ⌝ }
+{
+    let closed = lead.closed;
+    if closed != 0 {
+        return Taken { answer: 18, lead };
+    }
+    let taken = lead.taken;
+    let at = taken as usize;
+    write(sheet, at, piece);
+    let after = count(taken, piece.len());
+    Taken {
+        answer: 0,
+        lead: Lead {
+            taken: after,
+            closed,
+        },
+    }
+}
+
+// Closes the lead: the reader's answer and place for what came; after closing 18, place 0, and nothing is changed.
+pub fn close(lead: Lead, sheet: &[u8; ROOM]) -> Closed
+    ensures { λ r. ⌜ Closes lead (now (sheet .entry)) (r .answer) (r .place) (r .lead) ⌝ }
+{
+    if lead.closed != 0 {
+        return Closed {
+            answer: 18,
+            place: 0,
+            lead,
+        };
+    }
+    let taken = lead.taken;
+    let told = front(sheet, taken as usize);
+    Closed {
+        answer: told.answer,
+        place: told.place,
+        lead: Lead { taken, closed: 1 },
+    }
+}
+
+// Taking a piece for callers in C: `state` is the count and the mark, 0 and 0 at first.
+#[no_mangle]
+pub extern "C" fn naxxurbi_serial_take(
+    state: &mut [u32; 2],
+    sheet: &mut [u8; ROOM],
+    piece: &[u8],
+) -> u32
+    ensures { λ r. ⌜ TakesState (now (state .entry)) (now (sheet .entry)) (now (piece .entry)) r (now (state .exit)) (now (sheet .exit)) ⌝ }
+{
+    let lead = Lead {
+        taken: state[0],
+        closed: state[1],
+    };
+    let r = take(lead, sheet, piece);
+    let after = r.lead;
+    *state = [after.taken, after.closed];
+    r.answer
+}
+
+// Closing for callers in C: answer and place go into `out`, in this order, on every answer.
+#[no_mangle]
+pub extern "C" fn naxxurbi_serial_close(
+    state: &mut [u32; 2],
+    sheet: &[u8; ROOM],
+    out: &mut [u32; 2],
+)
+    ensures { λ _. ⌜ ClosesState (now (state .entry)) (now (sheet .entry)) (now (out .exit)) (now (state .exit)) ⌝ }
+{
+    let lead = Lead {
+        taken: state[0],
+        closed: state[1],
+    };
+    let r = close(lead, sheet);
+    let after = r.lead;
+    *state = [after.taken, after.closed];
+    *out = [r.answer, r.place];
+}
