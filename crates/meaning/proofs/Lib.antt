@@ -1,5 +1,6 @@
 pub mod Search
 pub mod Lists
+pub mod Writing
 pub mod Pigeonhole
 pub mod Settle
 pub mod Places

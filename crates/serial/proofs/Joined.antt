@@ -15,9 +15,10 @@ use Rattle.meaning.specs.Sheet.{mostBytes, Fault, badSize, numberOf, firstFault
 use Rattle.meaning.specs.Promises.{readNumber, placeOf, ReadSays, ReadPlaced}
 use Rattle.meaning.proofs.Promised.{read-placed-unique}
 use Rattle.meaning.proofs.Placing.{fault-1-exactly}
+use Rattle.meaning.proofs.Writing.{sets-append, sets-past}
 use Rattle.serial.specs.declared.Lead.{Lead}
 use Rattle.serial.specs.Serial.{Open, fresh, counted, ended, Takes, added, late, Answers, read, over, Closes, ends, again, joined, Feeds, FedFresh}
-use Rattle.serial.proofs.Writing.{sets-append, sets-past, front-written}
+use Rattle.serial.proofs.Writing.{front-written}
 use Rattle.serial.proofs.Outcomes.{answers-met, takes-met}
 
 -- ---- what has come over a lead
