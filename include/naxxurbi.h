@@ -3,17 +3,18 @@
  *
  * A rule sheet is a string of bytes (docs/FORMAT.md). The calls take any bytes and any numbers: none has a precondition, each
  * returns, and each is proved to keep the promise that is stated for it in crates/meaning/specs/Promises.antt (the audit:
- * crates/audit/specs/Carry.antt). Of the pointers themselves C callers owe what is listed below.
+ * crates/audit/specs/Carry.antt; the serial lead: crates/serial/specs/Serial.antt). Of the pointers themselves C callers owe what is listed below.
  *
  * Numbers returned:
  *    0        good sheet / paper accepted / the sheet can be kept
- *    1 .. 10  the sheet's first fault, in reading order (the table below); nothing lent is changed. naxxurbi_read_place and naxxurbi_judge
- *             tell its place as well, the byte counted from 0; on every other answer the place is 0
+ *    1 .. 10  the sheet's first fault, in reading order (the table below); nothing lent is changed. naxxurbi_read_place, naxxurbi_judge
+ *             and naxxurbi_serial_close tell its place as well, the byte counted from 0; on every other answer the place is 0
  *   11        the judge only: more reachable states than there is room for
  *   12        the judge only: the sheet can be kept, but the run slice is too short for the sample run; b says how long it must be
  *   13        the judge only: the sheet cannot be kept
  *   14        the checkers only: the paper is not accepted
  *   15        the audit only: the account, or the account with this piece, is past 1,000,000 moments
+ *   18        the serial lead only: it is closed already; nothing is changed
  *
  *    1  below 8 or above 4,096 bytes        6  record missing or past the end
  *    2  version not 1                       7  bad shape of a record
@@ -33,10 +34,11 @@
  *    - the machine is x86-64 under Linux;
  *    - a pointer is valid for its length: so many bytes, or numbers of four bytes, can be read there, and in the judge's slices, in
  *      `out` and in `account` also written. A pointer may be null where its length is 0; `out` has room for its numbers, five for the judge
- *      and two for naxxurbi_read_place, `account` for 515, and none of these is ever null;
+ *      and two for naxxurbi_read_place, `account` for 515; a serial lead's `state` has room for two and its sheet for
+ *      4,096 bytes; none of these is ever null;
  *    - a pointer to uint32_t is aligned for it, to 4 bytes. Bytes may stand anywhere;
  *    - the judge's four slices and `out` lie apart: from one another, and from the sheet; so does naxxurbi_read_place's `out` from the sheet,
- *      and the account from the sheet and the states;
+ *      the account from the sheet and the states, and a serial lead's `state`, sheet, piece and `out` from one another;
  *    - no slice has 2 to the power 63 bytes or more; for one of numbers, that is below 2 to the power 61 of them;
  *    - while a call runs, nobody else writes what it was given, nor reads what it may write;
  *    - the stack has room, as follows.
@@ -50,8 +52,8 @@
  *
  * Link libnaxxurbi.a, which bin/install makes and which has every call; a program takes in only the objects that it calls. Or link the
  * archives it is made of: libfirmware.a (both checkers), libjudge.a (naxxurbi_judge), libreader.a (naxxurbi_read, naxxurbi_read_place),
- * libaudit.a (naxxurbi_audit); each stands alone. Their code takes at most 10 KB, 16 KB, 2 KB and 7 KB (of 1,024 bytes); they have no data of
- * their own. The only outside functions that they call are memset and, in the audit, memcpy.
+ * libaudit.a (naxxurbi_audit), libserial.a (the serial lead); each stands alone. Their code takes at most 10 KB, 16 KB, 2 KB, 7 KB and 3 KB
+ * (of 1,024 bytes); they have no data of their own. The only outside functions that they call are memset and, in the audit, memcpy.
  *
  * Time. The run checker looks at each state once for each rule and promise. The strike checker counts, for the first states and for each
  * entry that asks for something new, the states that may come next, and stops once there are more than the list could hold. It settles
@@ -76,6 +78,26 @@ uint32_t naxxurbi_read(const uint8_t *sheet, size_t sheet_len);
 
 /* The same with the place: out[0] is the number, out[1] the place. Both are written for every sheet. */
 void naxxurbi_read_place(const uint8_t *sheet, size_t sheet_len, uint32_t out[2]);
+
+/*
+ * A sheet that comes over a serial lead, a few bytes at a time. The caller keeps a state of two numbers, 0 and 0 at first, and lends a buffer
+ * of 4,096 bytes; what it holds beforehand does not matter.
+ *
+ * state[0] is how many bytes have come, where 4,097 stands for any number above 4,096; state[1] is 0 while the lead is open, else it is
+ * closed. Any two numbers may be handed in.
+ *
+ * Takes a piece, which may be empty: 0, and its bytes stand in the buffer behind those that came. What goes past the buffer's end is not
+ * stored. After closing 18, and nothing is changed.
+ */
+uint32_t naxxurbi_serial_take(uint32_t state[2], uint8_t sheet[4096], const uint8_t *piece, size_t piece_len);
+
+/*
+ * Closes the lead. out[0] is the reader's answer for all the bytes that came, joined: 0 if they are a good sheet (then they are the first
+ * state[0] bytes of the buffer, which the checkers and the judge take), else the number of its first fault, 1 for more than 4,096 bytes;
+ * out[1] is the place of that fault, the byte where it was met, counted from 0; 0 for a good sheet. How the bytes were cut into pieces plays
+ * no part. state[1] is then 1. After closing 18, place 0, and nothing else is changed.
+ */
+void naxxurbi_serial_close(uint32_t state[2], const uint8_t sheet[4096], uint32_t out[2]);
 
 /*
  * Checks a proposed run: states_len / 4 states, each four bytes with the highest first, read from the first to the last and then from

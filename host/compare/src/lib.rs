@@ -9,3 +9,4 @@ pub mod audit;
 pub mod checkers;
 pub mod judge;
 pub mod reader;
+pub mod serial;

@@ -11,6 +11,7 @@
 //! | [`judge`]    | the judge: "can be kept" with a run, "cannot" with a strike list |
 //! | [`check`]    | the checkers of runs and of strike lists                         |
 //! | [`audit`]    | the auditor of recorded logs                                     |
+//! | [`serial`]   | sheets that come in pieces over a serial lead                    |
 //! | [`brute`]    | everything a second time, naively, for at most five letters      |
 //! | [`make`]     | sheets for tests and benchmarks, good and damaged                |
 //! | [`edges`]    | each fault at its first and last possible place                  |
@@ -34,6 +35,7 @@ pub mod list;
 pub mod make;
 pub mod named;
 pub mod rules;
+pub mod serial;
 pub mod sheet;
 pub mod source;
 mod strike;

@@ -9,22 +9,26 @@ mod audit;
 mod checkers;
 mod judge;
 mod reader;
+mod serial;
 mod written;
 
 use plain::edges::PLACES;
 use plain::make::Rng;
 use std::collections::BTreeSet;
 
+/// The numbers of documents 01 and 02 are below this.
+const NUMBERS: usize = 28;
+
 /// How often each answer occurred.
 pub struct Tally {
     name: &'static str,
-    seen: [u64; 16],
+    seen: [u64; NUMBERS],
 }
 
 impl Tally {
     /// A tally that has seen nothing.
     pub fn new(name: &'static str) -> Tally {
-        Tally { name, seen: [0; 16] }
+        Tally { name, seen: [0; NUMBERS] }
     }
 
     /// Counts an answer.
@@ -109,7 +113,7 @@ pub fn boundary_sheets(rng: &mut Rng) -> Vec<Vec<u8>> {
 }
 
 /// Whether two outcomes differ; if so, both are printed with the sheet.
-pub fn differs<T: PartialEq + std::fmt::Debug>(what: &str, sheet: &[u8], ours: &T, plain: &T) -> bool {
+pub fn differs<T: PartialEq + std::fmt::Debug + ?Sized>(what: &str, sheet: &[u8], ours: &T, plain: &T) -> bool {
     if ours == plain {
         return false;
     }
@@ -123,6 +127,8 @@ type Suite = (&'static str, fn(&mut Rng, usize) -> bool);
 const SUITES: &[Suite] = &[
     // Sheets whole and damaged.
     ("reader", reader::suite),
+    // Sheets in pieces.
+    ("serial", serial::suite),
     // Papers right, damaged and made up.
     ("checkers", checkers::suite),
     // Long papers, many next states.
