@@ -3,7 +3,6 @@
 -- (`fed-is-joined`). So two cuttings of the same bytes cannot be told apart (`cuttings-alike`, `cuttings-same`). Every list of pieces can be
 -- taken (`feeds-met`). Assumes nothing.
 use mathlib.Core.Path.{_≡_, refl, sym, _∙_, ap, subst}
-use mathlib.Core.Option.{Option, some}
 use mathlib.Core.List.{List, [], _∷_, _++_, append-assoc, append-nil}
 use mathlib.Core.Logic.{_↔_}
 use native.Mathlib.Decide.{decLe}
@@ -11,13 +10,14 @@ use native.Mathlib.Omega.{arith}
 use Prim.Native.Nat.{ℕ, suc, _+_, _≤_, _<_, min}
 use lib.ListN.{length, take, replicate, length-append}
 use lib.Seq.{sets, length-sets, take-all}
-use Rattle.meaning.specs.Sheet.{mostBytes, Fault, badSize, numberOf, firstFault}
+use Rattle.meaning.specs.Sheet.{mostBytes}
 use Rattle.meaning.specs.Promises.{readNumber, placeOf, ReadSays, ReadPlaced}
 use Rattle.meaning.proofs.Promised.{read-placed-unique}
 use Rattle.meaning.proofs.Placing.{fault-1-exactly}
 use Rattle.meaning.proofs.Writing.{sets-append, sets-past}
 use Rattle.serial.specs.declared.Lead.{Lead}
-use Rattle.serial.specs.Serial.{Open, fresh, counted, ended, Takes, added, late, Answers, read, over, Closes, ends, again, joined, Feeds, FedFresh}
+use Rattle.serial.specs.Serial.{Open, fresh, counted, ended, Takes, added, late, Answers, read, over, Closes, ends, again}
+use Rattle.serial.specs.Serial.{joined, Feeds, FedFresh}
 use Rattle.serial.proofs.Writing.{front-written}
 use Rattle.serial.proofs.Outcomes.{answers-met, takes-met}
 

@@ -43,7 +43,9 @@ takes-unique (added o a b c) (late s a′ b′ c′) = absurd (s o)
 takes-unique (late s a b c) (added o a′ b′ c′) = absurd (s o)
 takes-unique (late s a b c) (late s′ a′ b′ c′) = (a ∙ sym a′, b ∙ sym b′, c ∙ sym c′)
 
-pub answers-unique : {taken : ℕ} {sheet : List ℕ} {m p n q : ℕ} → Answers taken sheet m p → Answers taken sheet n q → (m ≡ n) × (p ≡ q)
+-- The answer for what came is settled.
+pub answers-unique : {taken : ℕ} {sheet : List ℕ} {m p n q : ℕ}
+    → Answers taken sheet m p → Answers taken sheet n q → (m ≡ n) × (p ≡ q)
 answers-unique {taken} {sheet} (read h x) (read h′ y) = read-placed-unique (take taken sheet) x y
 answers-unique (read h x) (over h′ e f) = absurd (omega arith)
 answers-unique (over h e f) (read h′ y) = absurd (omega arith)
@@ -74,6 +76,7 @@ closes-state-unique x y =
 
 -- ---- every input has one
 
+-- Any piece can be taken, whatever the state; what is told of any buffer is settled; any lead can be closed.
 pub takes-met : (lead : Lead) (sheet piece : List ℕ) → (n : ℕ) × (after : Lead) × (left : List ℕ) × Takes lead sheet piece n after left
 takes-met lead sheet piece = by (ℕ-discrete (lead .closed) 0)
   where
@@ -95,6 +98,21 @@ closes-met lead sheet = by (ℕ-discrete (lead .closed) 0)
     by (yes o) = let told = answers-met (lead .taken) sheet in (told .0, told .1, ended lead, ends o (told .2) refl)
     by (no s) = (18, 0, lead, again s refl refl refl)
 
+-- So have the C forms.
+pub takes-state-met : (state sheet piece : List ℕ)
+    → (n : ℕ) × (after : List ℕ) × (left : List ℕ) × TakesState state sheet piece n after left
+takes-state-met state sheet piece =
+    let some = takes-met (leadIn state) sheet piece in
+    (some .0, stateOf (some .1), some .2, record { after = some .1; promise = some .3; written = refl })
+
+pub closes-state-met : (state sheet : List ℕ) → (out : List ℕ) × (after : List ℕ) × ClosesState state sheet out after
+closes-state-met state sheet =
+    let some = closes-met (leadIn state) sheet in (
+      some .0 ∷ some .1 ∷ [],
+      stateOf (some .2),
+      record { answer = some .0; place = some .1; after = some .2; promise = some .3; written = refl; told = refl },
+    )
+
 -- ---- after closing
 
 -- A closed lead takes nothing: 18, and nothing is changed.
@@ -111,6 +129,27 @@ shut-closes s c = closes-unique c (again s refl refl refl)
 pub closed-after : {lead : Lead} {sheet : List ℕ} {n place : ℕ} {after : Lead} → Closes lead sheet n place after → Shut after
 closed-after (ends o a b) e = omega (arith, ap (λ (l : Lead). l .closed) b)
 closed-after (again s a b c) e = s (sym (ap (λ (l : Lead). l .closed) c) ∙ e)
+
+-- The same in C, where a state is two numbers: they stay as they were.
+two-numbers : (state : List ℕ) → length state ≡ 2 → stateOf (leadIn state) ≡ state
+two-numbers [] e = absurd (omega (arith, e))
+two-numbers (a ∷ []) e = absurd (omega (arith, e))
+two-numbers (a ∷ b ∷ []) e = refl
+two-numbers (a ∷ b ∷ c ∷ l) e = absurd (omega (arith, e))
+
+pub shut-takes-state : {state sheet piece state′ left : List ℕ} {n : ℕ} → length state ≡ 2 → Shut (leadIn state)
+    → TakesState state sheet piece n state′ left → (n ≡ 18) × (state′ ≡ state) × (left ≡ sheet)
+shut-takes-state {state} long s t =
+    let same = shut-takes s (t .promise) in
+    (same .0, t .written ∙ ap stateOf (same .1) ∙ two-numbers state long, same .2)
+
+pub shut-closes-state : {state sheet out state′ : List ℕ} → length state ≡ 2 → Shut (leadIn state)
+    → ClosesState state sheet out state′ → (out ≡ 18 ∷ 0 ∷ []) × (state′ ≡ state)
+shut-closes-state {state} long s c =
+    let same = shut-closes s (c .promise) in (
+      c .told ∙ ap (λ (n : ℕ). n ∷ c .place ∷ []) (same .0) ∙ ap (λ (q : ℕ). 18 ∷ q ∷ []) (same .1),
+      c .written ∙ ap stateOf (same .2) ∙ two-numbers state long,
+    )
 
 -- ---- an empty piece
 

@@ -2,20 +2,18 @@
 // answers what the reader answers for the joined bytes, place included. What is known of a lead is a count and a mark, handed over by value;
 // any two numbers may be handed in. What follows for pieces taken one after another is in proofs/Joined.antt.
 use reader::Answer;
+use reader::header::MOST_BYTES;
 ghost use mathlib.Core.Path.{_≡_};
-ghost use Prim.Native.Nat.{_≤_};
 ghost use lib.ListN.{length};
 ghost use lib.Seq.{sets};
+ghost use Rattle.meaning.specs.Sheet.{mostBytes};
 ghost use Rattle.meaning.specs.Promises.{ReadPlaced};
 ghost use Rattle.serial.specs.Serial.{Takes, Closes, Answers, TakesState, ClosesState, counted};
 
-// The buffer's bytes, as many as a sheet may have.
-pub const ROOM: usize = 4096;
-
 // The count that stands for more bytes than a sheet may have.
-const MORE: usize = 4097;
+pub const MORE: usize = MOST_BYTES + 1;
 
-// How many bytes have come, MORE standing for more than ROOM; and whether the lead is closed: 0 for an open one.
+// How many bytes have come, MORE standing for more than MOST_BYTES; and whether the lead is closed: 0 for an open one.
 pub struct Lead {
     pub taken: u32,
     pub closed: u32,
@@ -35,7 +33,7 @@ pub struct Closed {
 }
 
 // The reader's answer in numbers.
-pub struct Reading {
+struct Reading {
     pub answer: u32,
     pub place: u32,
 }
@@ -92,10 +90,10 @@ fn answer_for(sheet: &[u8]) -> Reading
 
 // What the reader answers for the first bytes of the buffer.
 fn front(sheet: &[u8], taken: usize) -> Reading
-    requires { ⌜ length (now sheet) ≡ 4096 ⌝ }
+    requires { ⌜ length (now sheet) ≡ mostBytes ⌝ }
     ensures { λ r. ⌜ Answers taken (now (sheet .entry)) (r .answer) (r .place) ⌝ }
 {
-    if ROOM < taken {
+    if MOST_BYTES < taken {
         return Reading {
             answer: 1,
             place: 0,
@@ -106,7 +104,7 @@ fn front(sheet: &[u8], taken: usize) -> Reading
 }
 
 // Takes a piece: 0, and its bytes stand behind those that came; after closing 18, and nothing is changed.
-pub fn take(lead: Lead, sheet: &mut [u8; ROOM], piece: &[u8]) -> Taken
+pub fn take(lead: Lead, sheet: &mut [u8; MOST_BYTES], piece: &[u8]) -> Taken
     ensures { λ r. ⌜ Takes lead (now (sheet .entry)) (now (piece .entry)) (r .answer) (r .lead) (now (sheet .exit)) ⌝ }
 {
     let closed = lead.closed;
@@ -127,7 +125,7 @@ pub fn take(lead: Lead, sheet: &mut [u8; ROOM], piece: &[u8]) -> Taken
 }
 
 // Closes the lead: the reader's answer and place for what came; after closing 18, place 0, and nothing is changed.
-pub fn close(lead: Lead, sheet: &[u8; ROOM]) -> Closed
+pub fn close(lead: Lead, sheet: &[u8; MOST_BYTES]) -> Closed
     ensures { λ r. ⌜ Closes lead (now (sheet .entry)) (r .answer) (r .place) (r .lead) ⌝ }
 {
     if lead.closed != 0 {
@@ -150,7 +148,7 @@ pub fn close(lead: Lead, sheet: &[u8; ROOM]) -> Closed
 #[no_mangle]
 pub extern "C" fn naxxurbi_serial_take(
     state: &mut [u32; 2],
-    sheet: &mut [u8; ROOM],
+    sheet: &mut [u8; MOST_BYTES],
     piece: &[u8],
 ) -> u32
     ensures { λ r. ⌜ TakesState (now (state .entry)) (now (sheet .entry)) (now (piece .entry)) r (now (state .exit)) (now (sheet .exit)) ⌝ }
@@ -169,7 +167,7 @@ pub extern "C" fn naxxurbi_serial_take(
 #[no_mangle]
 pub extern "C" fn naxxurbi_serial_close(
     state: &mut [u32; 2],
-    sheet: &[u8; ROOM],
+    sheet: &[u8; MOST_BYTES],
     out: &mut [u32; 2],
 )
     ensures { λ _. ⌜ ClosesState (now (state .entry)) (now (sheet .entry)) (now (out .exit)) (now (state .exit)) ⌝ }
