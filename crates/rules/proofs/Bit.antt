@@ -150,6 +150,27 @@ ones-and-le s m =
         let c = ih (s / 2) in
         omega arith
 
+-- The bits of u that are set in s, and those that are not, make up u; the numbers have k digits.
+pub ones-parted : (k s u : ℕ) → s < 2 ^ k → u < 2 ^ k → ones (bitAnd u (2 ^ k - 1 - s)) + ones (bitAnd s u) ≡ ones u
+unfolding ones
+ones-parted zero s u hs hu =
+    let none : s ≡ 0 = omega arith in
+    let nothing : u ≡ 0 = omega arith in
+    ap₂ (λ (x y : ℕ). ones (bitAnd y (1 - 1 - x)) + ones (bitAnd x y)) none nothing ∙ ap ones (sym nothing)
+ones-parted (suc k) s u hs hu =
+    let twice = pow-suc 2 k in
+    let rest : ℕ = 2 ^ suc k - 1 - s in
+    let half : rest / 2 ≡ 2 ^ k - 1 - s / 2 = omega (arith, twice, hs) in
+    let odd : rest % 2 ≡ 1 - s % 2 = omega (arith, twice, hs) in
+    let a = ones-and-step u rest ∙ ap₂ (λ (x y : ℕ). min (u % 2) x + ones (bitAnd (u / 2) y)) odd half in
+    let b = ones-and-step s u in
+    let c = ones-step u in
+    let d = ones-parted k (s / 2) (u / 2) (omega (arith, twice, hs)) (omega (arith, twice, hu)) in
+    joined (s % 2) (u % 2) _ _ _ _ _ _ (omega arith) (omega arith) a b c d
+  where
+    joined : (x y p q r f g h : ℕ) → x < 2 → y < 2 → p ≡ min y (1 - x) + f → q ≡ min x y + g → r ≡ y + h → f + g ≡ h → p + q ≡ r
+    joined x y p q r f g h hx hy a b c d = omega arith
+
 -- Without its lowest set bit a number has one set bit less.
 pub ones-cleared : (x : ℕ) → 0 < x → ones (bitAnd x (x - 1)) + 1 ≡ ones x
 ones-cleared = bin-ind (λ (x : ℕ). 0 < x → ones (bitAnd x (x - 1)) + 1 ≡ ones x) (λ h. absurd (omega arith)) halves

@@ -3,29 +3,20 @@ ghost use mathlib.Core.Path.{_≡_};
 ghost use lib.Count.{ones};
 ghost use Rattle.rules.specs.Book.{countOf, someOf, allOf};
 
-// How many bits of x are set, counted one by one.
+// How many bits of x are set.
 pub fn ones_in(x: u32) -> u32
     ensures { λ r. ⌜ r ≡ ones x ⌝ }
 {
-    let mut left = x;
-    let mut n: u32 = 0;
-    while left > 0 {
-        let lower = left - 1;
-        left = left & lower;
-        n += 1;
-    }
-    n
+    u32::count_ones(x)
 }
 
-// How many literals are true in s.
+// How many literals are true in s: of the letters asked to hold those that do, and of those asked not to hold those that do not.
 pub fn count_true(s: u32, held: u32, unheld: u32) -> u32
     ensures { λ r. ⌜ r ≡ countOf s held unheld ⌝ }
 {
     let holding = ones_in(s & held);
-    let named = ones_in(unheld);
-    let broken = ones_in(s & unheld);
-    let rest = named - broken;
-    holding + rest
+    let resting = ones_in(unheld & !s);
+    holding + resting
 }
 
 // Whether some literal is true in s.

@@ -1,40 +1,32 @@
 -- The held letters that hold, and the others that do not. Assumes nothing.
+use mathlib.Core.Path.{_≡_, _∙_, ap₂}
+use Prim.Native.Nat.{ℕ, _+_, _-_}
 use native.Mathlib.Omega.{arith}
-use lib.Count.{ones-le}
-use Rattle.rules.specs.Book.{countOf}
-use Rattle.rules.proofs.Bit.{ones-and-le}
 use borrow.Author.Needs.{needs}
+use lib.Bits.{bitAnd}
+use lib.Count.{ones, ones-le}
+use Rattle.rules.specs.Book.{countOf}
+use Rattle.rules.proofs.Bit.{ones-and-le, ones-parted}
 use Rattle.rules.proofs.tally.count_true.Statement.{statement}
 use Rattle.rules.proofs.tally.count_true.Tie as tie
 
-ones-in-requires : tie.Need-ones-in-requires
-ones-in-requires c κs = search needs
-
-ones-in-requires-2 : tie.Need-ones-in-requires-2
-ones-in-requires-2 c κs = search needs
-
-ones-in-requires-3 : tie.Need-ones-in-requires-3
-ones-in-requires-3 c κs = search needs
-
-sub-rest : tie.Need-sub-rest
-sub-rest c =
-    let h = ones-and-le (c .before .before .before .args .s) (c .before .before .before .args .unheld) in
-    omega (arith, c .ones-in3 .ensures, c .before .ones-in2 .ensures)
-
 add-result : tie.Need-add-result
 add-result c =
-    let a = c .before .before .before .args in
-    let f = c .before .before .before .fits in
+    let a = c .before .before .args in
+    let f = c .before .before .fits in
+    let h = ones-le 32 (a .held) (f .held .fits) in
     let u = ones-le 32 (a .unheld) (f .unheld .fits) in
-    let v = ones-and-le (a .s) (a .held) in
-    let w = ones-le 32 (a .held) (f .held .fits) in
-    omega (arith, c .before .before .ones-in .ensures, c .before .ones-in2 .ensures)
+    let parted = ones-parted 32 (a .s) (a .unheld) (f .s .fits) (f .unheld .fits) in
+    omega (arith, c .before .ones-in .ensures, c .ones-in2 .ensures, ones-and-le (a .s) (a .held))
 
 returns : tie.Need-returns
 unfolding countOf
-returns c = omega (arith, c .before .before .ones-in .ensures, c .before .ones-in2 .ensures, c .ones-in3 .ensures)
+returns c =
+    let a = c .before .before .args in
+    let f = c .before .before .fits in
+    let parted = ones-parted 32 (a .s) (a .unheld) (f .s .fits) (f .unheld .fits) in
+    let resting : c .ones-in2 .result ≡ ones (a .unheld) - ones (bitAnd (a .s) (a .unheld)) = omega (arith, c .ones-in2 .ensures, parted) in
+    ap₂ (λ (x y : ℕ). x + y) (c .before .ones-in .ensures) resting
 
 pub count-true-spec : {M : Type 1} → statement M
-count-true-spec =
-    tie.close
-    (tie.spec ones-in-requires ones-in-requires-2 ones-in-requires-3 sub-rest add-result returns)
+count-true-spec = tie.close (tie.spec (λ c κs. search needs) (λ c κs. search needs) add-result returns)
