@@ -1,0 +1,69 @@
+-- `cut` meets its contract: the invariant is `CutUpTo`. Assumes nothing.
+use Prim.Native.Nat.{_-_}
+use native.Mathlib.Omega.{arith}
+use lib.ListN.{length}
+use Rattle.class.specs.Class.{passes}
+use Rattle.class.proofs.Ends.{CutUpTo, cut-none, cut-next, cut-falls, cut-refused, cut-says}
+use Rattle.class.proofs.cut.Statement.{statement}
+use Rattle.class.proofs.cut.Tie as tie
+
+abbrev Inv-loop : tie.InvT-loop
+Inv-loop size ends start₀ i₀ start i = CutUpTo size ends i start
+
+abbrev μ-loop : tie.MeasureT-loop
+μ-loop size ends start₀ i₀ start i = length ends - i
+
+loop-holds : tie.Need-loop-holds Inv-loop μ-loop
+loop-holds c = cut-none (c .args .size) (c .args .ends .now)
+
+mul-end : tie.Need-mul-end Inv-loop μ-loop
+mul-end c = omega arith
+
+shared-slice-read-end : tie.Need-shared-slice-read-end Inv-loop μ-loop
+shared-slice-read-end c = omega arith
+
+cast-end : tie.Need-cast-end Inv-loop μ-loop
+cast-end c = omega (arith, c .shared-slice-known .given (c .before .before .loop .i))
+
+returns : tie.Need-returns Inv-loop μ-loop
+returns c =
+    let l = c .before .before .before .loop in
+    cut-refused (cut-falls (l .inv) (omega arith) (omega arith))
+
+returns-2 : tie.Need-returns-2 Inv-loop μ-loop
+returns-2 c =
+    let l = c .before .before .before .before .loop in
+    cut-refused (λ room. passes (l .i) (omega arith) (omega arith))
+
+add-i : tie.Need-add-i Inv-loop μ-loop
+add-i c = omega arith
+
+loop-less : tie.Need-loop-less Inv-loop μ-loop
+loop-less c = omega arith
+
+loop-again : tie.Need-loop-again Inv-loop μ-loop
+loop-again c =
+    let l = c .before .before .before .before .loop in
+    cut-next (l .inv) (omega arith) (omega arith) (omega arith)
+
+returns-3 : tie.Need-returns-3 Inv-loop μ-loop
+returns-3 c =
+    let l = c .before .loop in
+    cut-says (l .inv) (omega arith)
+
+pub cut-spec : {M : Type 1} → statement M
+cut-spec =
+    tie.close
+    (tie.spec
+    Inv-loop
+    μ-loop
+    loop-holds
+    mul-end
+    shared-slice-read-end
+    cast-end
+    returns
+    returns-2
+    add-i
+    loop-less
+    loop-again
+    returns-3)

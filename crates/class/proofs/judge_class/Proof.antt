@@ -1,0 +1,35 @@
+-- `judge_class` meets its contract: what `fair` says decides, before any sheet is judged. Assumes nothing.
+use borrow.Author.Needs.{needs}
+use mathlib.Core.Path.{refl}
+use Rattle.class.specs.Class.{turned-away, in-turn}
+use Rattle.class.proofs.Ends.{fair-not-refused}
+use Rattle.class.proofs.judge_class.Statement.{statement}
+use Rattle.class.proofs.judge_class.Tie as tie
+
+judge-all-requires : tie.Need-judge-all-requires
+judge-all-requires c κs =
+    let taken = c .before .before .before .before .before in
+    taken .before .fair .ensures .yes (taken .if1 .taken)
+
+returns : tie.Need-returns
+returns c =
+    let judged = c .before .before .before .before .before .before .before .before .before .before in
+    let taken = judged .before .before .before .before .before .before in
+    in-turn (fair-not-refused (taken .before .fair .ensures .yes (taken .if1 .taken))) refl (judged .judge-all .ensures)
+
+returns-2 : tie.Need-returns-2
+returns-2 c = turned-away (c .before .fair .ensures .never (c .if1 .left)) refl refl
+
+pub judge-class-spec : {M : Type 1} → statement M
+judge-class-spec =
+    tie.close
+    (tie.spec
+    (λ c κs. search needs)
+    judge-all-requires
+    (λ c. search needs)
+    (λ c. search needs)
+    (λ c. search needs)
+    (λ c. search needs)
+    (λ c. search needs)
+    returns
+    returns-2)

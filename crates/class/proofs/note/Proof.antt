@@ -1,0 +1,39 @@
+-- `note` meets its contract: four stores. Assumes nothing.
+use borrow.Author.Needs.{needs}
+use mathlib.Core.Path.{refl}
+use native.Mathlib.Omega.{arith}
+use lib.ListN.{length-set}
+use Rattle.class.specs.Class.{stored}
+use Rattle.class.proofs.note.Statement.{statement}
+use Rattle.class.proofs.note.Tie as tie
+
+slice-write-numbers-2 : tie.Need-slice-write-numbers-2
+slice-write-numbers-2 c = simp length-set (omega arith)
+
+slice-write-numbers-3 : tie.Need-slice-write-numbers-3
+slice-write-numbers-3 c = simp length-set (omega arith)
+
+slice-write-numbers-4 : tie.Need-slice-write-numbers-4
+slice-write-numbers-4 c = simp length-set (omega arith)
+
+returns : tie.Need-returns
+unfolding stored
+returns c = refl
+
+pub note-spec : {M : Type 1} → statement M
+note-spec =
+    tie.close
+    (tie.spec
+    (λ c. search needs)
+    (λ c. search needs)
+    (λ c. search needs)
+    (λ c. search needs)
+    slice-write-numbers-2
+    (λ c. search needs)
+    (λ c. search needs)
+    slice-write-numbers-3
+    (λ c. search needs)
+    (λ c. search needs)
+    slice-write-numbers-4
+    (λ c. search needs)
+    returns)
