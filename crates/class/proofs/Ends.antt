@@ -122,7 +122,8 @@ cut-or-refused size ends room (suc i) h = by (cut-or-refused size ends room i (o
 
 -- Every class is fair or refused.
 pub fair-or-refused : (size : ℕ) (ends : List ℕ) (room : ℕ) → Fair size ends room ⊎ Refused size ends room
-fair-or-refused size ends room = by (decLt mostSheets (length ends)) (decLt room (length ends * numbersEach)) (cut-or-refused size ends room (length ends) (omega arith))
+fair-or-refused size ends room =
+    by (decLt mostSheets (length ends)) (decLt room (length ends * numbersEach)) (cut-or-refused size ends room (length ends) (omega arith))
   where
     last : CutUpTo size ends (length ends) (startOf ends (length ends)) → length ends ≤ mostSheets → length ends * numbersEach ≤ room
         → Dec (startOf ends (length ends) ≡ size) → Fair size ends room ⊎ Refused size ends room
