@@ -14,6 +14,7 @@
  *   13        the judge only: the sheet cannot be kept
  *   14        the checkers only: the paper is not accepted
  *   15        the audit only: the account, or the account with this piece, is past 1,000,000 moments
+ *   16        naxxurbi_judge_class only: the class is refused, nothing is changed
  *   18        the serial lead only: it is closed already; nothing is changed
  *
  *    1  below 8 or above 4,096 bytes        6  record missing or past the end
@@ -33,12 +34,12 @@
  *
  *    - the machine is x86-64 under Linux;
  *    - a pointer is valid for its length: so many bytes, or numbers of four bytes, can be read there, and in the judge's slices, in
- *      `out` and in `account` also written. A pointer may be null where its length is 0; `out` has room for its numbers, five for the judge
+ *      `out`, in `numbers` and in `account` also written. A pointer may be null where its length is 0; `out` has room for its numbers, five for the judge
  *      and two for naxxurbi_read_place, `account` for 515; a serial lead's `state` has room for two and its sheet for
  *      4,096 bytes; none of these is ever null;
  *    - a pointer to uint32_t is aligned for it, to 4 bytes. Bytes may stand anywhere;
  *    - the judge's four slices and `out` lie apart: from one another, and from the sheet; so does naxxurbi_read_place's `out` from the sheet,
- *      the account from the sheet and the states, and a serial lead's `state`, sheet, piece and `out` from one another;
+ *      the ends and the numbers of a class from all else, the account from the sheet and the states, and a serial lead's `state`, sheet, piece and `out` from one another;
  *    - no slice has 2 to the power 63 bytes or more; for one of numbers, that is below 2 to the power 61 of them;
  *    - while a call runs, nobody else writes what it was given, nor reads what it may write;
  *    - the stack has room, as follows.
@@ -52,8 +53,8 @@
  *
  * Link libnaxxurbi.a, which bin/install makes and which has every call; a program takes in only the objects that it calls. Or link the
  * archives it is made of: libfirmware.a (both checkers), libjudge.a (naxxurbi_judge), libreader.a (naxxurbi_read, naxxurbi_read_place),
- * libaudit.a (naxxurbi_audit), libserial.a (the serial lead); each stands alone. Their code takes at most 10 KB, 16 KB, 2 KB, 7 KB and 3 KB
- * (of 1,024 bytes); they have no data of their own. The only outside functions that they call are memset and, in the audit, memcpy.
+ * libaudit.a (naxxurbi_audit), libserial.a (the serial lead), libclass.a (naxxurbi_judge_class); each stands alone. Their code takes at most 10 KB, 16 KB, 2 KB,
+ * 7 KB, 3 KB and 18 KB (of 1,024 bytes); they have no data of their own. The only outside functions that they call are memset and, in the audit, memcpy.
  *
  * Time. The run checker looks at each state once for each rule and promise. The strike checker counts, for the first states and for each
  * entry that asks for something new, the states that may come next, and stops once there are more than the list could hold. It settles
@@ -155,6 +156,25 @@ void naxxurbi_judge(const uint8_t *sheet, size_t sheet_len, uint32_t *table, siz
  * unchanged. Any 515 numbers may be handed in; an empty piece then changes none of them.
  */
 uint32_t naxxurbi_audit(const uint8_t *sheet, size_t sheet_len, uint32_t account[515], const uint32_t *states, size_t states_len);
+
+/* The most sheets in one call of naxxurbi_judge_class, and how many numbers each gets. */
+#define NAXXURBI_CLASS_SHEETS 32
+#define NAXXURBI_CLASS_NUMBERS 4
+
+/*
+ * Judges a whole class: ends_len sheets, joined in `sheets`. Sheet i, counted from 0, is the bytes from the end before it (0 for the first)
+ * up to ends[i]. Two equal ends make an empty sheet, which gets 1.
+ *
+ * 16, and nothing is changed, where an end is below the one before it or above sheets_len, where the last end is not sheets_len, where there
+ * are no ends for some input, where ends_len is above 32, or where numbers_len is below 4 * ends_len. No sheet is judged then.
+ *
+ * Otherwise 0. numbers[4 * i] to numbers[4 * i + 3] are answer, count, a and b of sheet i; the places after the last sheet's are unchanged.
+ * These and the four slices are as if naxxurbi_judge had been called for each sheet in turn with the same slices: what a sheet gets does not
+ * depend on its neighbours, and the slices hold what the last good sheet left. No ends and no input: 0, and nothing is changed.
+ */
+uint32_t naxxurbi_judge_class(const uint8_t *sheets, size_t sheets_len, const uint32_t *ends, size_t ends_len, uint32_t *table,
+                              size_t table_len, uint32_t *words, size_t words_len, uint32_t *scratch, size_t scratch_len, uint32_t *run,
+                              size_t run_len, uint32_t *numbers, size_t numbers_len);
 
 #ifdef __cplusplus
 }

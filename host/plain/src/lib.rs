@@ -9,6 +9,7 @@
 //! | [`rules`]    | what a sheet says of states and moves, compiled to bit masks     |
 //! | [`list`]     | lists lawful, first and next states in ascending order           |
 //! | [`judge`]    | the judge: "can be kept" with a run, "cannot" with a strike list |
+//! | [`class`]    | up to 32 joined sheets judged in turn                            |
 //! | [`check`]    | the checkers of runs and of strike lists                         |
 //! | [`audit`]    | the auditor of recorded logs                                     |
 //! | [`serial`]   | sheets that come in pieces over a serial lead                    |
@@ -26,6 +27,7 @@
 pub mod audit;
 pub mod brute;
 pub mod check;
+pub mod class;
 pub mod edges;
 pub mod families;
 mod graph;

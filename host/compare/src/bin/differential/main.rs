@@ -7,6 +7,7 @@
 
 mod audit;
 mod checkers;
+mod class;
 mod judge;
 mod reader;
 mod serial;
@@ -143,6 +144,8 @@ const SUITES: &[Suite] = &[
     ("sheets as written", written::suite),
     // The benchmark's families.
     ("sheets in four orders", written::orders),
+    // Random classes, whole and with disturbed ends.
+    ("class", class::suite),
 ];
 
 fn main() {
