@@ -151,3 +151,29 @@ fn as_text(name: &str, content: Vec<u8>, most: usize, colour: Colour) -> Result<
 pub fn paper_text(file: &str, colour: Colour) -> Result<String, Trouble> {
     as_text(&shown(file), load(file, MOST_PAPER)?, MOST_PAPER, colour)
 }
+
+/// The bytes of the sheet in a file, in either form; of a sheet of bytes also if it is bad.
+pub fn sheet_bytes(file: &str, call: &Call, colour: Colour) -> Result<Vec<u8>, Trouble> {
+    let content = load(file, MOST_TEXT)?;
+    if call.has("--bytes") || (!call.has("--text") && looks_like_bytes(&content)) {
+        return Ok(content);
+    }
+    let name = shown(file);
+    let text = as_text(&name, content, MOST_TEXT, colour)?;
+    let sheet = parse::parse(&text).map_err(|faults| Trouble { message: show_all(&faults, &name, colour), status: BAD, answer: None })?;
+    Ok(bytes::write(&sheet))
+}
+
+/// The files of a folder that are sheets by their names, in the order of these.
+pub fn sheets_in(folder: &str) -> Result<Vec<String>, Trouble> {
+    let listed = std::fs::read_dir(folder).and_then(Iterator::collect::<Result<Vec<_>, _>>);
+    let listed = listed.map_err(|error| Trouble::new(format!("{folder}: cannot be read: {error}")))?;
+    let paths = listed.iter().map(std::fs::DirEntry::path);
+    let is_sheet = |path: &std::path::PathBuf| path.extension().is_some_and(|end| end == "sheet" || end == "txt") && !path.is_dir();
+    let mut files: Vec<String> = paths.filter(is_sheet).map(|path| path.to_string_lossy().into_owned()).collect();
+    files.sort();
+    if files.is_empty() {
+        return Err(Trouble::new(format!("{folder}: no file in this folder ends in .sheet or .txt")));
+    }
+    Ok(files)
+}

@@ -27,6 +27,22 @@ extern "C" {
         run_len: usize,
         out: *mut [u32; 5],
     );
+    fn naxxurbi_judge_class(
+        sheets: *const u8,
+        sheets_len: usize,
+        ends: *const u32,
+        ends_len: usize,
+        table: *mut u32,
+        table_len: usize,
+        words: *mut u32,
+        words_len: usize,
+        scratch: *mut u32,
+        scratch_len: usize,
+        run: *mut u32,
+        run_len: usize,
+        numbers: *mut u32,
+        numbers_len: usize,
+    ) -> u32;
     fn naxxurbi_audit(sheet: *const u8, sheet_len: usize, account: *mut [u32; ACCOUNT], states: *const u32, states_len: usize) -> u32;
 }
 
@@ -191,6 +207,56 @@ fn judge_in(sheet: &[u8], table: &mut [u32], words: &mut [u32], scratch: &mut [u
     }
     let [answer, count, a, b, place] = out;
     Numbers { answer, count, a, b, place }
+}
+
+/// The most moments of a sample run: 16,384 states for each of 16 promises.
+const MOST_MOMENTS: usize = 16 * MOST_STATES;
+/// The most sheets in one call of the class judge, and how many numbers each gets.
+const CLASS_SHEETS: usize = 32;
+const CLASS_NUMBERS: usize = 4;
+
+/// Judges many sheets, in calls of up to 32, with all the room that there can be: answer, count, a and b of each.
+pub fn judge_class(sheets: &[&[u8]]) -> Vec<[u32; CLASS_NUMBERS]> {
+    let (mut table, mut words, mut scratch) = (vec![0; MOST_STATES], vec![0; MOST_STATES], vec![0; 2 * MOST_STATES]);
+    let mut run = vec![0; MOST_MOMENTS];
+    let mut judged = Vec::new();
+    for class in sheets.chunks(CLASS_SHEETS) {
+        let mut numbers = [u32::MAX; CLASS_NUMBERS * CLASS_SHEETS];
+        let answer = judge_class_in(class, &mut table, &mut words, &mut scratch, &mut run, &mut numbers);
+        assert_eq!(answer, 0, "the ends fit the sheets, which are at most 32");
+        judged.extend(numbers.chunks_exact(CLASS_NUMBERS).take(class.len()).map(|four| [four[0], four[1], four[2], four[3]]));
+    }
+    judged
+}
+
+/// Judges up to 32 sheets in the slices lent.
+fn judge_class_in(class: &[&[u8]], table: &mut [u32], words: &mut [u32], scratch: &mut [u32], run: &mut [u32], numbers: &mut [u32]) -> u32 {
+    let sheets = class.concat();
+    let ends = class.iter().scan(0, |end, sheet| {
+        *end += sheet.len() as u32;
+        Some(*end)
+    });
+    let ends: Vec<u32> = ends.collect();
+    // SAFETY: the call reads `sheets_len` bytes and `ends_len` numbers, and reads and writes as many numbers of each other slice as its
+    // length says; the slices do not overlap, for each that is written is borrowed alone.
+    unsafe {
+        naxxurbi_judge_class(
+            sheets.as_ptr(),
+            sheets.len(),
+            ends.as_ptr(),
+            ends.len(),
+            table.as_mut_ptr(),
+            table.len(),
+            words.as_mut_ptr(),
+            words.len(),
+            scratch.as_mut_ptr(),
+            scratch.len(),
+            run.as_mut_ptr(),
+            run.len(),
+            numbers.as_mut_ptr(),
+            numbers.len(),
+        )
+    }
 }
 
 /// Numbers as bytes, four to each, the highest first.

@@ -1,0 +1,1 @@
+mkdir "$scratch/nobody" && cd "$scratch" && sheet class nobody

@@ -1,0 +1,1 @@
+sheet class - examples/w02.sheet <examples/w04.sheet

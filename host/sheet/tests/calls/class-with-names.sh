@@ -1,0 +1,1 @@
+sheet class --names a examples/w01.sheet
