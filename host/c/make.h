@@ -63,6 +63,15 @@ static inline void make_exactly(uint32_t letters, uint32_t bound, uint32_t promi
     end(promises);
 }
 
+/* Exactly `bound` of all letters and exactly one fewer: no state. No look at one limit by itself sees that, so a walk goes down to the last. */
+static inline void make_at_odds(uint32_t letters, uint32_t bound)
+{
+    begin(letters, 2, 0, 0, 0);
+    exactly(bound, 1, letters);
+    exactly(bound - 1, 1, letters);
+    end(0);
+}
+
 /* No rules at all. */
 static inline void make_free(uint32_t letters, uint32_t promises)
 {

@@ -135,6 +135,8 @@ int main(void)
     all_calls("24 letters, 512 states on wheels to an end", 13);
     make_exactly(ALL_LETTERS, 25, 0);
     all_calls("24 letters, no state", 13);
+    make_at_odds(ALL_LETTERS, 4);
+    all_calls("24 letters, limits at odds to the last letter", 13);
     make_free(14, MOST_PROMISES);
     all_calls("14 letters, 16,384 states, 16 promises", 0);
     make_free(ALL_LETTERS, 0);
