@@ -12,7 +12,7 @@
 #include "test.h"
 
 /* What the header states, in pages of 4,096 bytes; and how wide the fences are: a call may take all its stack at once. */
-enum { READ_PAGES = 1, RUN_PAGES = 2, STRIKES_PAGES = 4, AUDIT_PAGES = 4, JUDGE_PAGES = 205, FENCE = 4 << 20 };
+enum { READ_PAGES = 1, RUN_PAGES = 2, STRIKES_PAGES = 4, AUDIT_PAGES = 4, JUDGE_PAGES = 208, FENCE = 4 << 20 };
 
 enum { STATES = 16384, MOMENTS = 262144 };
 
