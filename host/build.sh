@@ -64,6 +64,65 @@ proof_sources() {
   (cd "$top" && find crates -mindepth 2 -maxdepth 2 \( -name src -o -name specs -o -name proofs -o -name stdin -o -name stdout \))
 }
 
+# ---- another processor
+# What `rt` compiles is code for x86-64. Where the machine has another processor the toolchain brings an emulator, with which a program runs
+# (`run`); an archive can be linked by nobody there. So there the very module that the toolchain compiled into the archive is compiled once
+# more by the same compiler, for this processor, and takes the archive's place (`archive`).
+
+kit_home=${RATTLE_HOME:-$(dirname "$(dirname "$(readlink -f "$(command -v rt 2>/dev/null)" 2>/dev/null)")")}
+tools=$kit_home/on/$HOSTTYPE/toolchain
+emulator=
+[ "$HOSTTYPE" = x86_64 ] || [ ! -x "$tools/bin/qemu-x86_64" ] || emulator=$tools/bin/qemu-x86_64
+
+# run PROGRAM WORDS..: becomes the program, under the emulator where it is for x86-64 and the machine is not
+run() {
+  local front=
+  [ -z "$emulator" ] || IFS= read -r -n 4 front <"$1"
+  case $front in
+  ?ELF) exec "$emulator" "$tools/lib/ld-linux-x86-64.so.2" --library-path "$tools/lib" "$@" ;;
+  *) exec "$@" ;;
+  esac
+}
+
+# own_kit: a folder like the toolchain's, in which the compiler also keeps the module that it is handed, as $kept/module.bc
+own_kit() {
+  local from to=$kept/kit entry
+  rm -rf "$to"
+  mkdir -p "$to/on/$HOSTTYPE/toolchain/bin"
+  for from in "" "on/$HOSTTYPE/" "on/$HOSTTYPE/toolchain/" "on/$HOSTTYPE/toolchain/bin/"; do
+    for entry in "$kit_home/$from"*; do
+      [ -e "$to/$from${entry##*/}" ] || ln -s "$entry" "$to/$from${entry##*/}"
+    done
+  done
+  rm "$to/on/$HOSTTYPE/toolchain/bin/clang"
+  cat >"$to/on/$HOSTTYPE/toolchain/bin/clang" <<END
+#!/bin/sh
+for word in "\$@"; do
+  case \$word in *.bc) cp "\$word" "$kept/module.bc" ;; esac
+done
+exec "$tools/bin/clang" "\$@"
+END
+  chmod +x "$to/on/$HOSTTYPE/toolchain/bin/clang"
+}
+
+# compiled_here NAME: the archive of the module kept last, as code for this processor
+compiled_here() {
+  local module=$kept/module clang=$tools/bin/clang to=$top/target/staticlib/lib$1.a
+  "$clang" --target=x86_64-unknown-linux-gnu -S -emit-llvm -O3 -Xclang -disable-llvm-passes -x ir "$module.bc" -o "$module.ll" &&
+    sed -i 's/"target-cpu"="x86-64"//' "$module.ll" &&
+    "$clang" "--target=$HOSTTYPE-unknown-linux-gnu" -Wno-override-module -ffunction-sections -fdata-sections -O3 -fPIC -c -x ir "$module.ll" \
+      -o "$module.o" && rm -f "$to" && "$tools/bin/llvm-ar" rc "$to" "$module.o" && rm "$module".*
+}
+
+# archive NAME: writes the archive of a crate, as code that can be linked here
+archive() {
+  if [ -z "$emulator" ]; then
+    rt staticlib "$1"
+  else
+    own_kit && RATTLE_HOME=$kept/kit rt staticlib "$1" && compiled_here "$1"
+  fi
+}
+
 # hold: waits until no other command builds here, keeps others waiting until `release` or the end, and begins the log anew
 hold() {
   mkdir -p "$kept" 2>/dev/null && [ -w "$kept" ] || fail "cannot write to $kept, where what is built is kept"
@@ -217,7 +276,7 @@ archives() {
   before=$(sum_of $(proof_sources))
   prove $(direct "${names[@]}") || not_built "a crate was not proved"
   for i in "${!names[@]}"; do
-    step "proving and compiling archive $((i + 1)) of ${#names[@]}: ${names[i]}" rt staticlib "${names[i]}" ||
+    step "proving and compiling archive $((i + 1)) of ${#names[@]}: ${names[i]}" archive "${names[i]}" ||
       not_built "the archive of ${names[i]} was not built"
   done
   [ "$before" = "$(sum_of $(proof_sources))" ] || fail "the sources changed while they were proved; run this again"
