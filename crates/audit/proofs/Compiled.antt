@@ -17,17 +17,18 @@ use Rattle.audit.specs.Carry.{isNext, breaksNext, isBreach, oneMore, kee
 use Rattle.audit.specs.Book.{
   keptBy,
   brokenBy,
-  bump,
   bumped,
   firstOf,
   bookIs,
   bookBroke,
+  bookBreaks,
   bookTallies,
   isFirst,
   ruleTold,
   bookNoted,
   bookCarried,
 }
+use Rattle.audit.proofs.Tallies.{bumped-nothing, bumped-front}
 
 -- ---- the first rule broken
 
@@ -98,24 +99,14 @@ first-by-number s t i (rule ∷ rules) f same =
 
 -- ---- tallies
 
-bumped-nothing : (f : ℕ → Bool) (n : ℕ) → bumped f n [] ≡ []
-unfolding bumped bump
-bumped-nothing f zero = refl
-bumped-nothing f (suc n) = ap (λ (l : List ℕ). bump l n (f n)) (bumped-nothing f n)
-
-bumped-front : (f : ℕ → Bool) (n x : ℕ) (l : List ℕ) → bumped f (suc n) (x ∷ l) ≡ (x + cond (f 0) 1 0) ∷ bumped (λ i. f (suc i)) n l
-unfolding bumped bump
-bumped-front f zero x l = refl
-bumped-front f (suc n) x l = ap (λ (m : List ℕ). bump m (suc n) (f (suc n))) (bumped-front f n x l)
-
 -- One more for each number whose rule passes is one more for each rule that passes.
 more-by-number : (rules : List StepRule) (f : ℕ → Bool) (test : StepRule → Bool)
-    → ((k : ℕ) → k < length rules → f k ≡ test (getD rules k (stepOf []))) → (l : List ℕ) → bumped f (length rules) l ≡ oneMore test rules l
+    → ((k : ℕ) → k < length rules → f k ≡ test (getD rules k (stepOf []))) → (l : List ℕ) → bumped 1 f (length rules) l ≡ oneMore test rules l
 unfolding bumped oneMore
 more-by-number [] f test same l = refl
-more-by-number (rule ∷ rules) f test same [] = bumped-nothing f (suc (length rules))
+more-by-number (rule ∷ rules) f test same [] = bumped-nothing 1 f (suc (length rules))
 more-by-number (rule ∷ rules) f test same (x ∷ l) =
-    bumped-front f (length rules) x l
+    bumped-front 1 f (length rules) x l
     ∙ ap₂ (λ (b : Bool) (m : List ℕ). (x + cond b 1 0) ∷ m) (same 0 (omega arith))
     (more-by-number rules (λ k. f (suc k)) test (λ k h. same (suc k) (omega arith)) l)
 
@@ -145,7 +136,8 @@ module _ {sheet : Sheet} {book : List ℕ} (of : BookOf sheet book) where
       by true b = refl
       by false b = refl
 
-  first-broken-is : (s t : ℕ) → firstOf (brokenBy book s t) (stepsOf book) ≡ firstBroken s t 1 (sheet .steps)
+  first-broken-is : (s t : ℕ) → bookBroke book s t ≡ firstBroken s t 1 (sheet .steps)
+  unfolding bookBroke
   first-broken-is s t =
       ap (firstOf (brokenBy book s t)) (of .steps-is)
       ∙ sym (first-by-number s t 0 (sheet .steps) (brokenBy book s t) (broken-fails s t) ∙ zero-shift (firstOf (brokenBy book s t) (length (sheet .steps))))
@@ -158,42 +150,43 @@ module _ {sheet : Sheet} {book : List ℕ} (of : BookOf sheet book) where
           by (no n) = shift-some 0 r n ∙ (let z : 0 + r ≡ r = omega arith in z)
 
   -- what the next state is, and the rule that it breaks
-  is-next-is : (account : Account) (t : ℕ) → bookIs book (account .count) (bookBroke book account t) t ≡ isNext sheet account t
-  unfolding bookIs bookBroke isNext firstIs nextIs
+  is-next-is : (account : Account) (t : ℕ) → bookIs book (account .count) (bookBreaks book account t) t ≡ isNext sheet account t
+  unfolding bookIs bookBreaks isNext firstIs nextIs
   is-next-is account t =
-      ap₂ (λ (l f : Bool). cond l (cond none (cond f nothing brokeFirst) (cond (eqb broke 0) nothing brokeStep)) unlawful) (of .lawful-is t) (of .first-is t)
-      ∙ ap (λ (b : ℕ). cond (lawful sheet t) (cond none (cond (firstState sheet t) nothing brokeFirst) (cond (eqb (cond none 0 b) 0) nothing brokeStep)) unlawful)
-      (first-broken-is (account .last) t)
-      ∙ by none (lawful sheet t)
+      ap₂ (λ (l f : Bool). is l f (bookBroke book (account .last) t)) (of .lawful-is t) (of .first-is t)
+      ∙ ap (is (lawful sheet t) (firstState sheet t)) (first-broken-is (account .last) t)
+      ∙ by (eqb (account .count) 0) (lawful sheet t)
     where
-      none : Bool
-      none = eqb (account .count) 0
-
-      broke : ℕ
-      broke = cond none 0 (firstOf (brokenBy book (account .last) t) (stepsOf book))
+      is : (l f : Bool) → ℕ → ℕ
+      is l f b =
+          cond l (cond (eqb (account .count) 0) (cond f nothing brokeFirst) (cond (not (eqb (account .count) 0) && not (eqb b 0)) brokeStep nothing))
+          unlawful
 
       b′ : ℕ
       b′ = firstBroken (account .last) t 1 (sheet .steps)
 
+      flip : (z : Bool) → cond (not z) brokeStep nothing ≡ cond z nothing brokeStep
+      flip true = refl
+      flip false = refl
+
       by : (n l : Bool)
-          → cond l (cond n (cond (firstState sheet t) nothing brokeFirst) (cond (eqb (cond n 0 b′) 0) nothing brokeStep)) unlawful
+          → cond l (cond n (cond (firstState sheet t) nothing brokeFirst) (cond (not n && not (eqb b′ 0)) brokeStep nothing)) unlawful
           ≡ cond n (cond l (cond (firstState sheet t) nothing brokeFirst) unlawful) (cond l (cond (eqb b′ 0) nothing brokeStep) unlawful)
       by true true = refl
       by true false = refl
-      by false true = refl
+      by false true = flip (eqb b′ 0)
       by false false = refl
 
   rule-told-is : (account : Account) (t : ℕ)
-      → ruleTold (bookIs book (account .count) (bookBroke book account t) t) (bookBroke book account t) ≡ breaksNext sheet account t
-  unfolding ruleTold bookBroke breaksNext ruleIs isNext firstIs
+      → ruleTold (bookIs book (account .count) (bookBreaks book account t) t) (bookBroke book (account .last) t) ≡ breaksNext sheet account t
+  unfolding ruleTold breaksNext ruleIs isNext firstIs
   rule-told-is account t =
-      ap (λ (x : ℕ). cond (eqb x brokeStep) (bookBroke book account t) 0) (is-next-is account t)
-      ∙ ap (λ (b : ℕ). cond (eqb (isNext sheet account t) brokeStep) (cond (eqb (account .count) 0) 0 b) 0) (first-broken-is (account .last) t)
+      ap₂ (λ (x b : ℕ). cond (eqb x brokeStep) b 0) (is-next-is account t) (first-broken-is (account .last) t)
       ∙ by (eqb (account .count) 0) (lawful sheet t) (firstState sheet t)
     where
       by : (n l f : Bool)
           → cond (eqb (cond n (cond l (cond f nothing brokeFirst) unlawful) (nextIs sheet (account .last) t)) brokeStep)
-          (cond n 0 (firstBroken (account .last) t 1 (sheet .steps))) 0
+          (firstBroken (account .last) t 1 (sheet .steps)) 0
           ≡ cond n 0 (cond (eqb (nextIs sheet (account .last) t) brokeStep) (firstBroken (account .last) t 1 (sheet .steps)) 0)
       by true true true = refl
       by true true false = refl
@@ -203,7 +196,7 @@ module _ {sheet : Sheet} {book : List ℕ} (of : BookOf sheet book) where
   -- the tallies
   tallies-are : (account : Account) (t : ℕ) (g : StepRule → ℕ → ℕ → Bool) (f : ℕ → ℕ → ℕ → Bool)
       → ((s u k : ℕ) → k < length (sheet .steps) → f s u k ≡ g (ruleOf sheet k) s u) → (l : List ℕ)
-      → bookTallies f book account t l ≡ oneMore (λ rule. not (eqb (account .count) 0) && g rule (account .last) t) (sheet .steps) l
+      → bookTallies f book account t 1 l ≡ oneMore (λ rule. not (eqb (account .count) 0) && g rule (account .last) t) (sheet .steps) l
   unfolding bookTallies oneMore
   tallies-are account t g f same l = by (eqb (account .count) 0)
     where
@@ -212,18 +205,18 @@ module _ {sheet : Sheet} {book : List ℕ} (of : BookOf sheet book) where
       nobody (rule ∷ rules) [] = refl
       nobody (rule ∷ rules) (x ∷ l) = ap₂ _∷_ (let e : x + 0 ≡ x = omega arith in e) (nobody rules l)
 
-      by : (n : Bool) → cond n l (bumped (f (account .last) t) (stepsOf book) l) ≡ oneMore (λ rule. not n && g rule (account .last) t) (sheet .steps) l
+      by : (n : Bool) → cond n l (bumped 1 (f (account .last) t) (stepsOf book) l) ≡ oneMore (λ rule. not n && g rule (account .last) t) (sheet .steps) l
       by true = sym (nobody (sheet .steps) l)
       by false =
-          ap (λ (m : ℕ). bumped (f (account .last) t) m l) (of .steps-is)
+          ap (λ (m : ℕ). bumped 1 (f (account .last) t) m l) (of .steps-is)
           ∙ more-by-number (sheet .steps) (f (account .last) t) (λ rule. g rule (account .last) t) (same (account .last) t) l
 
   -- One state more.
-  pub book-noted : (account : Account) (t : ℕ) → bookNoted book account t ≡ noted sheet account t
+  pub book-noted : (account : Account) (t : ℕ) → bookNoted book account t 1 ≡ noted sheet account t
   unfolding bookNoted noted isFirst isBreach keepsNext breaksRule
   book-noted account t =
-      let told : (is rule : ℕ) (kept broken : List ℕ) → Account = λ is rule kept broken. record {
-        count = suc (account .count);
+      let told : (count is rule : ℕ) (kept broken : List ℕ) → Account = λ count is rule kept broken. record {
+        count = count;
         last = t;
         what = cond (eqb (account .what) nothing && not (eqb is nothing)) is (account .what);
         moment = cond (eqb (account .what) nothing && not (eqb is nothing)) (account .count) (account .moment);
@@ -231,9 +224,14 @@ module _ {sheet : Sheet} {book : List ℕ} (of : BookOf sheet book) where
         kept = kept;
         broken = broken;
       } in
-      ap₂ (λ (is rule : ℕ). told is rule (bookTallies (keptBy book) book account t (account .kept)) (bookTallies (brokenBy book) book account t (account .broken)))
+      let one : account .count + 1 ≡ suc (account .count) = omega arith in
+      ap (λ (n : ℕ). told n (bookIs book (account .count) (bookBreaks book account t) t)
+      (ruleTold (bookIs book (account .count) (bookBreaks book account t) t) (bookBroke book (account .last) t))
+      (bookTallies (keptBy book) book account t 1 (account .kept)) (bookTallies (brokenBy book) book account t 1 (account .broken))) one
+      ∙ ap₂ (λ (is rule : ℕ). told (suc (account .count)) is rule
+      (bookTallies (keptBy book) book account t 1 (account .kept)) (bookTallies (brokenBy book) book account t 1 (account .broken)))
       (is-next-is account t) (rule-told-is account t)
-      ∙ ap₂ (told (isNext sheet account t) (breaksNext sheet account t))
+      ∙ ap₂ (told (suc (account .count)) (isNext sheet account t) (breaksNext sheet account t))
       (tallies-are account t (λ rule s u. allTrue s (rule .left) && someTrue u (rule .right)) (keptBy book) kept-is-rule (account .kept))
       (tallies-are account t (λ rule s u. allTrue s (rule .left) && not (someTrue u (rule .right))) (brokenBy book) broken-is-rule (account .broken))
 
@@ -243,4 +241,4 @@ pub book-carried : {sheet : Sheet} {book : List ℕ} → BookOf sheet book → (
 unfolding bookCarried carried
 book-carried of account [] = refl
 book-carried {sheet} {book} of account (t ∷ piece) =
-    book-carried of (bookNoted book account t) piece ∙ ap (λ (a : Account). carried sheet a piece) (book-noted of account t)
+    book-carried of (bookNoted book account t 1) piece ∙ ap (λ (a : Account). carried sheet a piece) (book-noted of account t)

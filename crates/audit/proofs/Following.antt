@@ -1,27 +1,27 @@
--- The loop over a piece: what is left to carry on equals the whole (Following), at the start (following-none), with one state more
--- (following-next) and at the end (following-all). Assumes nothing.
+-- The loop over a piece: what is left to carry on equals the whole (Following), at the start (following-none), with the states more that come by
+-- one and the same move (following-next) and at the end (following-all). Assumes nothing.
 use mathlib.Core.Path.{_≡_, refl, sym, _∙_, ap, ap₂, subst}
-use mathlib.Core.List.{List, [], _∷_}
-use Prim.Native.Nat.{ℕ, zero, suc, _+_, _≤_, _<_}
+use mathlib.Core.Bool.{Bool}
+use mathlib.Core.List.{List}
+use Prim.Native.Nat.{ℕ, _+_, _≤_, _<_}
 use native.Mathlib.Omega.{arith}
 use lib.ListN.{length, getD, drop, drop-of-length-le}
-use lib.Seq.{drop-cons}
 use Rattle.audit.specs.Account.{Account}
 use Rattle.audit.specs.Carry.{mostMoments}
 use Rattle.audit.specs.Book.{
   bookNoted,
   bookCarried,
-  bookBroke,
-  bookIs,
-  bookTallies,
+  bookBreaks,
   headNoted,
   withTallies,
   Within,
   Carriable,
   Moved,
+  SameMoves,
 }
 use Rattle.audit.specs.declared.carry.Head as Head
 use Rattle.audit.proofs.Tallies.{moved-within}
+use Rattle.audit.proofs.Standstill.{carried-same}
 
 -- after i states: bounds, and what is left
 pub record Following (book states : List ℕ) (account now : Account) (i : ℕ) : Type 0 where
@@ -42,43 +42,43 @@ following-none book states account c = record {
   left = refl;
 }
 
--- The tallies have room for one more.
-pub following-fits : {book states : List ℕ} {account now : Account} {i : ℕ} → Following book states account now i → i < length states
-    → Within (mostMoments + mostMoments) (now .kept) × Within (mostMoments + mostMoments) (now .broken) × (now .count < mostMoments)
-following-fits {book} {states} {account} {now} {i} f h = (
+-- The count and the tallies have room for the states that come by the next move.
+pub following-fits : {book states : List ℕ} {account now : Account} {i : ℕ} (times : ℕ) → Following book states account now i → i + times ≤ length states
+    → Within (mostMoments + mostMoments) (now .kept) × Within (mostMoments + mostMoments) (now .broken) × (now .count + times ≤ mostMoments)
+following-fits {book} {states} {account} {now} {i} times f h = (
   record { within = λ j k. omega (arith, f .kept .within j k, f .fits) },
   record { within = λ j k. omega (arith, f .broken .within j k, f .fits) },
   omega (arith, f .count-is, f .fits),
 )
 
--- The five numbers and the tallies after one state are the account with that state noted.
-noted-is : (book : List ℕ) (head : Head.Head) (kept broken : List ℕ) (t : ℕ) (kept′ broken′ : List ℕ) (broke : ℕ) (next : Head.Head)
-    → Moved book (withTallies head kept broken) t kept′ broken′ broke → next ≡ headNoted book head broke t
-    → withTallies next kept′ broken′ ≡ bookNoted book (withTallies head kept broken) t
+-- The five numbers and the tallies after such states are the account with these noted.
+noted-is : (book : List ℕ) (head : Head.Head) (kept broken : List ℕ) (t times : ℕ) (kept′ broken′ : List ℕ) (broke : Bool) (next : Head.Head)
+    → Moved book (withTallies head kept broken) t times kept′ broken′ broke → next ≡ headNoted book head broke t times
+    → withTallies next kept′ broken′ ≡ bookNoted book (withTallies head kept broken) t times
 unfolding bookNoted headNoted
-noted-is book head kept broken t kept′ broken′ broke next m e =
-    ap (λ (h : Head.Head). withTallies h kept′ broken′) (e ∙ ap (λ (b : ℕ). headNoted book head b t) (m .says))
-    ∙ ap₂ (λ (k x : List ℕ). withTallies (headNoted book head (bookBroke book (withTallies head kept broken) t) t) k x) (m .keeps) (m .breaks)
+noted-is book head kept broken t times kept′ broken′ broke next m e =
+    ap (λ (h : Head.Head). withTallies h kept′ broken′) (e ∙ ap (λ (b : Bool). headNoted book head b t times) (m .says))
+    ∙ ap₂ (λ (k x : List ℕ). withTallies (headNoted book head (bookBreaks book (withTallies head kept broken) t) t times) k x) (m .keeps) (m .breaks)
 
-pub following-next : (book states : List ℕ) (account : Account) (head : Head.Head) (kept broken : List ℕ) (i : ℕ) (kept′ broken′ : List ℕ) (broke : ℕ)
-    (next : Head.Head) → Following book states account (withTallies head kept broken) i → i < length states
-    → Moved book (withTallies head kept broken) (getD states i 0) kept′ broken′ broke → next ≡ headNoted book head broke (getD states i 0)
-    → Following book states account (withTallies next kept′ broken′) (i + 1)
-unfolding bookCarried headNoted
-following-next book states account head kept broken i kept′ broken′ broke next f h m e =
-    let grown = moved-within book (withTallies head kept broken) (getD states i 0) (mostMoments + i) kept′ broken′ broke m (f .kept) (f .broken) in
-    let noted = noted-is book head kept broken (getD states i 0) kept′ broken′ broke next m e in
-    let one : i + 1 ≡ suc i = omega arith in
+pub following-next : (book states : List ℕ) (account : Account) (head : Head.Head) (kept broken : List ℕ) (i times : ℕ) (kept′ broken′ : List ℕ)
+    (broke : Bool) (next : Head.Head) → Following book states account (withTallies head kept broken) i
+    → SameMoves states i (head .count) (head .last) times → Moved book (withTallies head kept broken) (getD states i 0) times kept′ broken′ broke
+    → next ≡ headNoted book head broke (getD states i 0) times → Following book states account (withTallies next kept′ broken′) (i + times)
+unfolding headNoted
+following-next book states account head kept broken i times kept′ broken′ broke next f same m e =
+    let grown = moved-within book (withTallies head kept broken) (getD states i 0) times (mostMoments + i) kept′ broken′ broke m (f .kept) (f .broken) in
+    let noted = noted-is book head kept broken (getD states i 0) times kept′ broken′ broke next m e in
     record {
-      few = omega arith;
-      count-is = ap (λ (x : Head.Head). x .count) e ∙ ap suc (f .count-is) ∙ (let s : suc (account .count + i) ≡ account .count + (i + 1) = omega arith in s);
+      few = same .within;
+      count-is =
+          ap (λ (x : Head.Head). x .count) e ∙ ap (λ (n : ℕ). n + times) (f .count-is)
+          ∙ (let s : account .count + i + times ≡ account .count + (i + times) = omega arith in s);
       fits = f .fits;
       kept = record { within = λ j k. omega (arith, grown .0 .within j k) };
       broken = record { within = λ j k. omega (arith, grown .1 .within j k) };
       left =
-          ap (λ (k : ℕ). bookCarried book (withTallies next kept′ broken′) (drop k states)) one
-          ∙ ap (λ (a : Account). bookCarried book a (drop (suc i) states)) noted
-          ∙ sym (ap (bookCarried book (withTallies head kept broken)) (drop-cons states i 0 h))
+          ap (λ (a : Account). bookCarried book a (drop (i + times) states)) noted
+          ∙ carried-same book states (withTallies head kept broken) i times same
           ∙ f .left;
     }
 

@@ -3,6 +3,7 @@ pub mod Accounts
 pub mod Audits
 pub mod Tallies
 pub mod Telling
+pub mod Standstill
 pub mod Following
 pub mod Compiled
 pub mod Written

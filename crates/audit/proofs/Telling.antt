@@ -1,11 +1,10 @@
--- What one state is and what is told of it: the ladders of tests (tests), the first rule broken so far
--- (earliest-here, earliest-none), what a state is (is-unlawful ..), the five numbers with it (noted-breach-numbers, noted-plain-numbers).
--- Assumes nothing.
+-- What one state is and what is told of it: the ladders of tests (tests), what a state is (is-unlawful ..), the five numbers with it
+-- (noted-breach-numbers, noted-plain-numbers), the rule told (told-step, told-other). Assumes nothing.
 use mathlib.Core.Path.{_≡_, refl, sym, _∙_, ap, ap₂, subst}
 use mathlib.Core.Logic.{_⊎_, inl, inr, _↔_}
 use mathlib.Core.Bool.{Bool, true, false, cond, not, _&&_}
 use mathlib.Core.List.{List}
-use Prim.Native.Nat.{ℕ, suc, _+_, _-_, _≤_, _<_}
+use Prim.Native.Nat.{ℕ, _+_, _-_, _≤_, _<_}
 use native.Mathlib.Decide.{decLt}
 use native.Mathlib.Omega.{arith}
 use borrow.Author.Tests.{eq-eqb, ne-eqb, lt-ltb, le-ltb, le-leb, lt-leb}
@@ -14,79 +13,83 @@ use lib.ListN.{getD}
 use Rattle.rules.specs.Book.{bookLawful, bookFirst}
 use Rattle.audit.specs.Account.{Account, mostTallies, nothing, unlawful, brokeFirst, brokeStep}
 use Rattle.audit.specs.Carry.{mostMoments, PastCount, PastBy, SomePast}
-use Rattle.audit.specs.Book.{bookIs, isFirst, ruleTold, headNoted, Carriable}
+use Rattle.audit.specs.Book.{bookIs, bookBroke, isFirst, ruleTold, headNoted, Carriable}
 use Rattle.audit.specs.declared.carry.Head as Head
 
 pub ruleset tests = (lt-ltb, le-ltb, le-leb, lt-leb, eq-eqb, ne-eqb)
 
-pub earliest-here : (first : ℕ) (broke : Bool) (i : ℕ) → first ≡ 0 → broke ≡ true → i + 1 ≡ cond (eqb first 0) (cond broke (suc i) 0) first
-earliest-here first broke i none here =
-    let e : i + 1 ≡ suc i = omega arith in
-    e ∙ sym (ap₂ (λ (a b : Bool). cond a (cond b (suc i) 0) first) (eq-eqb first 0 none) here)
-
-pub earliest-none : (first : ℕ) (broke : Bool) (i : ℕ) → first ≡ 0 → broke ≡ false → 0 ≡ cond (eqb first 0) (cond broke (suc i) 0) first
-earliest-none first broke i none not-here = sym (ap₂ (λ (a b : Bool). cond a (cond b (suc i) 0) first) (eq-eqb first 0 none) not-here)
-
 -- ---- what a state is
 
 -- By the tests, whichever way they come out.
-is-by : (book : List ℕ) (count broke t : ℕ) {a b f z : Bool} → bookLawful book t ≡ a → eqb count 0 ≡ b → bookFirst book t ≡ f → eqb broke 0 ≡ z
-    → bookIs book count broke t ≡ cond a (cond b (cond f nothing brokeFirst) (cond z nothing brokeStep)) unlawful
+is-by : (book : List ℕ) (count : ℕ) (broke : Bool) (t : ℕ) {a b f z : Bool} → bookLawful book t ≡ a → eqb count 0 ≡ b → bookFirst book t ≡ f → broke ≡ z
+    → bookIs book count broke t ≡ cond a (cond b (cond f nothing brokeFirst) (cond z brokeStep nothing)) unlawful
 unfolding bookIs
 is-by book count broke t p q r s =
-    λ i. cond (p i) (cond (q i) (cond (r i) nothing brokeFirst) (cond (s i) nothing brokeStep)) unlawful
+    λ i. cond (p i) (cond (q i) (cond (r i) nothing brokeFirst) (cond (s i) brokeStep nothing)) unlawful
 
-pub is-unlawful : (book : List ℕ) (count broke t : ℕ) → bookLawful book t ≡ false → unlawful ≡ bookIs book count broke t
+pub is-unlawful : (book : List ℕ) (count : ℕ) (broke : Bool) (t : ℕ) → bookLawful book t ≡ false → unlawful ≡ bookIs book count broke t
 is-unlawful book count broke t law = sym (is-by book count broke t law refl refl refl)
 
-pub is-first-state : (book : List ℕ) (count broke t : ℕ) → bookLawful book t ≡ true → count ≡ 0 → bookFirst book t ≡ true
+pub is-first-state : (book : List ℕ) (count : ℕ) (broke : Bool) (t : ℕ) → bookLawful book t ≡ true → count ≡ 0 → bookFirst book t ≡ true
     → nothing ≡ bookIs book count broke t
 is-first-state book count broke t law none first = sym (is-by book count broke t law (eq-eqb count 0 none) first refl)
 
-pub is-broke-first : (book : List ℕ) (count broke t : ℕ) → bookLawful book t ≡ true → count ≡ 0 → bookFirst book t ≡ false
+pub is-broke-first : (book : List ℕ) (count : ℕ) (broke : Bool) (t : ℕ) → bookLawful book t ≡ true → count ≡ 0 → bookFirst book t ≡ false
     → brokeFirst ≡ bookIs book count broke t
 is-broke-first book count broke t law none first = sym (is-by book count broke t law (eq-eqb count 0 none) first refl)
 
-pub is-fine : (book : List ℕ) (count broke t : ℕ) → bookLawful book t ≡ true → (count ≡ 0 → ⊥) → broke ≡ 0 → nothing ≡ bookIs book count broke t
-is-fine book count broke t law some fine = sym (is-by book count broke t law (ne-eqb count 0 some) refl (eq-eqb broke 0 fine))
-
-pub is-broke-step : (book : List ℕ) (count broke t : ℕ) → bookLawful book t ≡ true → (count ≡ 0 → ⊥) → (broke ≡ 0 → ⊥)
+pub is-broke-step : (book : List ℕ) (count : ℕ) (broke : Bool) (t : ℕ) → bookLawful book t ≡ true → (count ≡ 0 → ⊥) → broke ≡ true
     → brokeStep ≡ bookIs book count broke t
-is-broke-step book count broke t law some bad = sym (is-by book count broke t law (ne-eqb count 0 some) refl (ne-eqb broke 0 bad))
+is-broke-step book count broke t law some bad = sym (is-by book count broke t law (ne-eqb count 0 some) refl bad)
+
+pub is-fine : (book : List ℕ) (count : ℕ) (broke : Bool) (t : ℕ) → bookLawful book t ≡ true → (count ≡ 0 → ⊥) → broke ≡ false
+    → nothing ≡ bookIs book count broke t
+is-fine book count broke t law some fine = sym (is-by book count broke t law (ne-eqb count 0 some) refl fine)
 
 -- ---- the five numbers
 
-noted-by : (book : List ℕ) (head : Head.Head) (broke t is : ℕ) (first : Bool) → is ≡ bookIs book (head .count) broke t → isFirst (head .what) is ≡ first
-    → headNoted book head broke t ≡ record {
-      count = suc (head .count);
+noted-by : (book : List ℕ) (head : Head.Head) (broke : Bool) (t times is : ℕ) (first : Bool) → is ≡ bookIs book (head .count) broke t
+    → isFirst (head .what) is ≡ first
+    → headNoted book head broke t times ≡ record {
+      count = head .count + times;
       last = t;
       what = cond first is (head .what);
       moment = cond first (head .count) (head .moment);
-      rule = cond first (ruleTold is broke) (head .rule);
+      rule = cond first (ruleTold is (bookBroke book (head .last) t)) (head .rule);
     }
 unfolding headNoted
-noted-by book head broke t is first e f =
+noted-by book head broke t times is first e f =
     let numbers : ℕ → Bool → Head.Head = λ x b. record {
-      count = suc (head .count);
+      count = head .count + times;
       last = t;
       what = cond b x (head .what);
       moment = cond b (head .count) (head .moment);
-      rule = cond b (ruleTold x broke) (head .rule);
+      rule = cond b (ruleTold x (bookBroke book (head .last) t)) (head .rule);
     } in
     sym (ap (λ (x : ℕ). numbers x (isFirst (head .what) x)) e) ∙ ap (numbers is) f
 
-pub noted-breach-numbers : (book : List ℕ) (head : Head.Head) (broke t is rule count : ℕ) → is ≡ bookIs book (head .count) broke t
-    → isFirst (head .what) is ≡ true → rule ≡ ruleTold is broke → count ≡ suc (head .count)
-    → _≡_ {A = Head.Head} (record { count = count; last = t; what = is; moment = head .count; rule = rule }) (headNoted book head broke t)
-noted-breach-numbers book head broke t is rule count e f r c =
-    ap₂ (λ (n k : ℕ). record { count = n; last = t; what = is; moment = head .count; rule = k }) c r ∙ sym (noted-by book head broke t is true e f)
+pub noted-breach-numbers : (book : List ℕ) (head : Head.Head) (broke : Bool) (t times is rule : ℕ) → is ≡ bookIs book (head .count) broke t
+    → isFirst (head .what) is ≡ true → rule ≡ ruleTold is (bookBroke book (head .last) t)
+    → _≡_ {A = Head.Head} (record { count = head .count + times; last = t; what = is; moment = head .count; rule = rule })
+    (headNoted book head broke t times)
+noted-breach-numbers book head broke t times is rule e f r =
+    ap (λ (k : ℕ). record { count = head .count + times; last = t; what = is; moment = head .count; rule = k }) r
+    ∙ sym (noted-by book head broke t times is true e f)
 
-pub noted-plain-numbers : (book : List ℕ) (head : Head.Head) (broke t is count : ℕ) → is ≡ bookIs book (head .count) broke t
-    → isFirst (head .what) is ≡ false → count ≡ suc (head .count)
-    → _≡_ {A = Head.Head} (record { count = count; last = t; what = head .what; moment = head .moment; rule = head .rule }) (headNoted book head broke t)
-noted-plain-numbers book head broke t is count e f c =
-    ap (λ (n : ℕ). record { count = n; last = t; what = head .what; moment = head .moment; rule = head .rule }) c
-    ∙ sym (noted-by book head broke t is false e f)
+pub noted-plain-numbers : (book : List ℕ) (head : Head.Head) (broke : Bool) (t times is : ℕ) → is ≡ bookIs book (head .count) broke t
+    → isFirst (head .what) is ≡ false
+    → _≡_ {A = Head.Head} (record { count = head .count + times; last = t; what = head .what; moment = head .moment; rule = head .rule })
+    (headNoted book head broke t times)
+noted-plain-numbers book head broke t times is e f = sym (noted-by book head broke t times is false e f)
+
+-- The rule that a breach is told with.
+pub told-step : (is rule broke : ℕ) → is ≡ brokeStep → rule ≡ broke → rule ≡ ruleTold is broke
+unfolding ruleTold
+told-step is rule broke e r = r ∙ sym (ap (λ (b : Bool). cond b broke 0) (eq-eqb is brokeStep e))
+
+pub told-other : (is broke : ℕ) → (is ≡ brokeStep → ⊥) → 0 ≡ ruleTold is broke
+unfolding ruleTold
+told-other is broke e = sym (ap (λ (b : Bool). cond b broke 0) (ne-eqb is brokeStep e))
 
 -- ---- what is past the bound
 

@@ -1,13 +1,16 @@
-// An account carried on by a piece of a log, state by state.
+// An account carried on by a piece of a log, move by move.
 use super::Account;
 use super::TALLIES;
+use super::still::same_moves;
+use super::tally::first_broken;
 use super::tally::tally;
 ghost use mathlib.Core.Path.{_≡_};
 ghost use Prim.Native.Nat.{_+_, _<_, _≤_};
 ghost use lib.ListN.{length};
 ghost use Rattle.rules.specs.Book.{Shaped};
 ghost use Rattle.audit.specs.Carry.{mostMoments};
-ghost use Rattle.audit.specs.Book.{bookIs, isFirst, ruleTold, headNoted, withTallies, accountOf, bookCarried, Moved, Within, Carriable};
+ghost use Rattle.audit.specs.Book.{bookIs, bookBroke, isFirst, ruleTold, headNoted, withTallies, accountOf};
+ghost use Rattle.audit.specs.Book.{bookCarried, Moved, Within, Carriable};
 
 // An account's five numbers without its tallies.
 pub struct Head {
@@ -18,9 +21,9 @@ pub struct Head {
     pub rule: u32,
 }
 
-// What the state t is after `count` others, the move into it having broken step rule `broke` first: 0 no breach, 1 unlawful, 2 it breaks a
-// first rule, 3 a step rule.
-fn what_is(book: &[u32], count: u32, broke: u32, t: u32) -> u32
+// What the state t is after `count` others, where the move into it broke a step rule or did not: 0 no breach, 1 unlawful, 2 it breaks a first
+// rule, 3 a step rule.
+fn what_is(book: &[u32], count: u32, broke: bool, t: u32) -> u32
     requires { ⌜ Shaped (now book) ⌝ }
     ensures { λ r. ⌜ r ≡ bookIs (now (book .entry)) count broke t ⌝ }
 {
@@ -33,10 +36,10 @@ fn what_is(book: &[u32], count: u32, broke: u32, t: u32) -> u32
         }
         return 2;
     }
-    if broke == 0 {
-        return 0;
+    if broke {
+        return 3;
     }
-    3
+    0
 }
 
 // Whether a state that is `is` is the first breach, where `what` was told before.
@@ -46,25 +49,26 @@ fn is_first(what: u32, is: u32) -> bool
     what == 0 && is != 0
 }
 
-// The step rule that a breach of this kind is told with.
-fn rule_told(is: u32, broke: u32) -> u32
-    ensures { λ r. ⌜ r ≡ ruleTold is broke ⌝ }
+// The step rule that a breach of this kind is told with, the move being from s to t.
+fn rule_told(book: &[u32], is: u32, s: u32, t: u32) -> u32
+    requires { ⌜ Shaped (now book) ⌝ }
+    ensures { λ r. ⌜ r ≡ ruleTold is (bookBroke (now (book .entry)) s t) ⌝ }
 {
     if is == 3 {
-        return broke;
+        return first_broken(book, s, t);
     }
     0
 }
 
-// The five numbers with one more state t.
-fn note(book: &[u32], head: Head, broke: u32, t: u32) -> Head
-    requires { ⌜ Shaped (now book) × (head .count < mostMoments) ⌝ }
-    ensures { λ r. ⌜ r ≡ headNoted (now (book .entry)) head broke t ⌝ }
+// The five numbers with `times` more states t, all by the same move, which broke a step rule or did not.
+fn note(book: &[u32], head: Head, broke: bool, t: u32, times: u32) -> Head
+    requires { ⌜ Shaped (now book) × (head .count + times ≤ mostMoments) ⌝ }
+    ensures { λ r. ⌜ r ≡ headNoted (now (book .entry)) head broke t times ⌝ }
 {
-    let count = head.count + 1;
+    let count = head.count + times;
     let is = what_is(book, head.count, broke, t);
     if is_first(head.what, is) {
-        let rule = rule_told(is, broke);
+        let rule = rule_told(book, is, head.last, t);
         return Head {
             count,
             last: t,
@@ -82,24 +86,27 @@ fn note(book: &[u32], head: Head, broke: u32, t: u32) -> Head
     }
 }
 
-// Counts the move into t, unless t is the log's first state; the first step rule that it broke, or 0.
+// Counts the move into t, made `times` times, unless t is the log's first state; whether it broke a step rule.
 fn move_into(
     book: &[u32],
     head: Head,
     t: u32,
+    times: u32,
     kept: &mut [u32; TALLIES],
     broken: &mut [u32; TALLIES],
-) -> u32
-    requires { ⌜ Shaped (now book) × Within (mostMoments + mostMoments) (now kept) × Within (mostMoments + mostMoments) (now broken) ⌝ }
-    ensures { λ r. ⌜ Moved (now (book .entry)) (withTallies head (now (kept .entry)) (now (broken .entry))) t (now (kept .exit)) (now (broken .exit)) r ⌝ }
+) -> bool
+    requires { ⌜ Shaped (now book) × (times ≤ mostMoments)
+        × Within (mostMoments + mostMoments) (now kept) × Within (mostMoments + mostMoments) (now broken) ⌝ }
+    ensures { λ r. ⌜ Moved (now (book .entry)) (withTallies head (now (kept .entry)) (now (broken .entry))) t times
+        (now (kept .exit)) (now (broken .exit)) r ⌝ }
 {
     if head.count == 0 {
-        return 0;
+        return false;
     }
-    tally(book, head.last, t, kept, broken)
+    tally(book, head.last, t, times, kept, broken)
 }
 
-// Follows the states, noting each and counting the move into it; the five numbers at the end.
+// Follows the states, noting each and counting the move into it, those that come by the same move together; the five numbers at the end.
 fn follow(
     book: &[u32],
     states: &[u32],
@@ -115,9 +122,11 @@ fn follow(
     let mut i: usize = 0;
     while i < states.len() {
         let t = states[i];
-        let broke = move_into(book, last, t, kept, broken);
-        last = note(book, last, broke, t);
-        i += 1;
+        let same = same_moves(states, i, last.count, last.last);
+        let times = same as u32;
+        let broke = move_into(book, last, t, times, kept, broken);
+        last = note(book, last, broke, t, times);
+        i += same;
     }
     last
 }

@@ -12,6 +12,7 @@ ghost use Rattle.audit.specs.Book.{accountOf};
 
 mod carry;
 mod numbers;
+mod still;
 mod tally;
 
 // How many tallies an account has: one for each step rule that a sheet can have.

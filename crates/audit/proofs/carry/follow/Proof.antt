@@ -14,40 +14,40 @@ Inv-loop book states kept₀ broken₀ last₀ i₀ kept broken last i =
 abbrev μ-loop : tie.MeasureT-loop
 μ-loop book states kept₀ broken₀ last₀ i₀ kept broken last i = length states - i
 
-loop-holds : tie.Need-loop-holds Inv-loop μ-loop
-loop-holds c = following-none _ _ _ (c .before .before .pre .1)
-
-mul-t : tie.Need-mul-t Inv-loop μ-loop
-mul-t c = omega arith
-
-shared-slice-read-t : tie.Need-shared-slice-read-t Inv-loop μ-loop
-shared-slice-read-t c = omega arith
+cast-times : tie.Need-cast-times Inv-loop μ-loop
+cast-times c =
+    let head = c .before .before .before in
+    omega (arith, c .same-moves .ensures .within, head .loop .inv .fits)
 
 move-into-requires : tie.Need-move-into-requires Inv-loop μ-loop
 move-into-requires c κs =
-    let head = c .before .before .before .before in
-    let fits = following-fits (head .loop .inv) (c .before .before .before .loop-test .taken) in
-    (head .before .before .before .pre .0, fits .0, fits .1)
+    let moves = c .before .before in
+    let head = moves .before .before .before in
+    let fits = following-fits _ (head .loop .inv) (moves .same-moves .ensures .within) in
+    (head .before .before .before .pre .0, omega (arith, moves .same-moves .ensures .within, head .loop .inv .fits), fits .0, fits .1)
 
 note-requires : tie.Need-note-requires Inv-loop μ-loop
 note-requires c κs =
-    let head = c .before .before .before .before .before in
-    let fits = following-fits (head .loop .inv) (c .before .before .before .before .loop-test .taken) in
+    let moves = c .before .before .before in
+    let head = moves .before .before .before in
+    let fits = following-fits _ (head .loop .inv) (moves .same-moves .ensures .within) in
     (head .before .before .before .pre .0, fits .2)
 
 add-i : tie.Need-add-i Inv-loop μ-loop
-add-i c = omega arith
+add-i c =
+    let moves = c .before .before .before .before in
+    omega (arith, moves .same-moves .ensures .within, moves .before .before .before .loop .inv .fits)
 
 loop-less : tie.Need-loop-less Inv-loop μ-loop
-loop-less c = omega arith
+loop-less c =
+    let moves = c .before .before .before .before in
+    omega (arith, moves .same-moves .ensures .some, moves .same-moves .ensures .within)
 
 loop-again : tie.Need-loop-again Inv-loop μ-loop
 loop-again c =
-    let turn = c .before .before .before .before .before in
-    following-next _ _ _ _ _ _ _ _ _ _ _ (turn .before .loop .inv) (turn .loop-test .taken) (c .before .move-into .ensures) (c .note .ensures)
-
-returns : tie.Need-returns Inv-loop μ-loop
-returns c = following-all (c .before .loop .inv) (c .loop-test .left)
+    let moves = c .before .before .before .before in
+    following-next _ _ _ _ _ _ _ _ _ _ _ _ (moves .before .before .before .loop .inv) (moves .same-moves .ensures) (c .before .move-into .ensures)
+    (c .note .ensures)
 
 pub follow-spec : {M : Type 1} → statement M
 follow-spec =
@@ -55,12 +55,14 @@ follow-spec =
     (tie.spec
     Inv-loop
     μ-loop
-    loop-holds
-    mul-t
-    shared-slice-read-t
+    (λ c. following-none _ _ _ (c .before .before .pre .1))
+    (λ c. omega arith)
+    (λ c. omega arith)
+    (λ c κs. omega arith)
+    cast-times
     move-into-requires
     note-requires
     add-i
     loop-less
     loop-again
-    returns)
+    (λ c. following-all (c .before .loop .inv) (c .loop-test .left)))

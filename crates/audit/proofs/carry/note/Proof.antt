@@ -26,11 +26,11 @@ rule-told-requires c κs = search needs
 returns : tie.Need-returns
 returns c =
     noted-breach-numbers _ _ _ _ _ _ _ (c .before .before .before .what-is .ensures) (sym (c .before .before .is-first .ensures) ∙ c .before .if1 .taken)
-    (c .rule-told .ensures) (omega arith)
+    (c .rule-told .ensures)
 
 returns-2 : tie.Need-returns-2
 returns-2 c =
-    noted-plain-numbers _ _ _ _ _ _ (c .before .before .what-is .ensures) (sym (c .before .is-first .ensures) ∙ c .if1 .left) (omega arith)
+    noted-plain-numbers _ _ _ _ _ _ (c .before .before .what-is .ensures) (sym (c .before .is-first .ensures) ∙ c .if1 .left)
 
 pub note-spec : {M : Type 1} → statement M
 note-spec =

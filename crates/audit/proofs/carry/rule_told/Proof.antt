@@ -1,18 +1,12 @@
--- Assumes nothing.
-use Rattle.audit.specs.Book.{ruleTold}
-use Rattle.audit.proofs.Telling.{tests}
+-- The first rule broken, for a breach of a step rule alone. Assumes nothing.
+use Rattle.audit.proofs.Telling.{told-step, told-other}
 use Rattle.audit.proofs.carry.rule_told.Statement.{statement}
 use Rattle.audit.proofs.carry.rule_told.Tie as tie
-use Rattle.audit.proofs.carry.rule_told.Reads as reads
-use Rattle.audit.proofs.carry.rule_told.Lts as lts
-
-returns : tie.Need-returns
-unfolding ruleTold
-returns c = search tests
-
-returns-2 : tie.Need-returns-2
-unfolding ruleTold
-returns-2 c = search tests
 
 pub rule-told-spec : {M : Type 1} → statement M
-rule-told-spec = tie.close (tie.spec returns returns-2)
+rule-told-spec =
+    tie.close
+    (tie.spec
+    (λ c κs. c .before .before .pre)
+    (λ c. told-step _ _ _ (c .before .if1 .taken) (c .first-broken .ensures))
+    (λ c. told-other _ _ (c .if1 .left)))

@@ -31,11 +31,11 @@ returns-3 c =
 
 returns-4 : tie.Need-returns-4
 returns-4 c =
-    is-fine _ _ _ _ (sym (c .before .before .before .lawful .ensures) ∙ not-false _ (c .before .before .if1 .left)) (c .before .if2 .left) (c .if4 .taken)
+    is-broke-step _ _ _ _ (sym (c .before .before .before .lawful .ensures) ∙ not-false _ (c .before .before .if1 .left)) (c .before .if2 .left) (c .if4 .taken)
 
 returns-5 : tie.Need-returns-5
 returns-5 c =
-    is-broke-step _ _ _ _ (sym (c .before .before .before .lawful .ensures) ∙ not-false _ (c .before .before .if1 .left)) (c .before .if2 .left) (c .if4 .left)
+    is-fine _ _ _ _ (sym (c .before .before .before .lawful .ensures) ∙ not-false _ (c .before .before .if1 .left)) (c .before .if2 .left) (c .if4 .left)
 
 pub what-is-spec : {M : Type 1} → statement M
 what-is-spec =

@@ -1,81 +1,58 @@
--- Both tallies are written: one more where the rule is kept, or broken. Assumes nothing.
+-- Both tallies are written: more where the rule is kept, or broken. Assumes nothing.
 use mathlib.Core.Bool.{not, _&&_}
 use native.Mathlib.Omega.{arith}
-use Rattle.audit.proofs.Tallies.{byte-within, rule-tallied}
+use Rattle.audit.proofs.Tallies.{counted-within, rule-tallied}
 use borrow.Author.Needs.{needs}
 use Rattle.audit.proofs.tally.tally_rule.Statement.{statement}
 use Rattle.audit.proofs.tally.tally_rule.Tie as tie
 use Rattle.audit.proofs.tally.tally_rule.Reads as reads
 use Rattle.audit.proofs.tally.tally_rule.Lts as lts
+use Rattle.audit.proofs.tally.counted.Reads as counted-reads
 use Rattle.rules.proofs.step_allows.Reads as step-allows-reads
 use Rattle.rules.proofs.step_asks.Reads as step-asks-reads
 
-step-asks-requires : tie.Need-step-asks-requires
-step-asks-requires c κs = search needs
-
-step-allows-requires : tie.Need-step-allows-requires
-step-allows-requires c κs = search needs
-
-mul-so-far : tie.Need-mul-so-far
-mul-so-far c = search needs
-
-element-copy-out-so-far : tie.Need-element-copy-out-so-far
-element-copy-out-so-far c = search needs
-
-cast-kept : tie.Need-cast-kept
-cast-kept c = search needs
-
 add-kept : tie.Need-add-kept
-add-kept c = omega (arith, byte-within (c .before .before .step-asks .result && c .before .step-allows .result), c .before .before .before .before .pre .2)
-
-mul-kept : tie.Need-mul-kept
-mul-kept c = search needs
-
-element-write-kept : tie.Need-element-write-kept
-element-write-kept c = search needs
-
-mul-until-now : tie.Need-mul-until-now
-mul-until-now c = search needs
-
-element-copy-out-until-now : tie.Need-element-copy-out-until-now
-element-copy-out-until-now c = search needs
-
-cast-broken : tie.Need-cast-broken
-cast-broken c = search needs
+add-kept c =
+    let tested = c .before .before in
+    omega (
+      arith,
+      c .before .counted .ensures,
+      counted-within (tested .before .step-asks .result && tested .step-allows .result) (tested .before .before .before .args .times),
+      tested .before .before .before .pre .2,
+    )
 
 add-broken : tie.Need-add-broken
 add-broken c =
+    let tested = c .before .before .before .before in
     omega (
       arith,
-      byte-within (c .before .before .before .step-asks .result && not (c .before .before .step-allows .result)),
-      c .before .before .before .before .before .pre .3,
+      c .before .counted2 .ensures,
+      counted-within (tested .before .step-asks .result && not (tested .step-allows .result)) (tested .before .before .before .args .times),
+      tested .before .before .before .pre .3,
     )
 
-mul-broken : tie.Need-mul-broken
-mul-broken c = search needs
-
-element-write-broken : tie.Need-element-write-broken
-element-write-broken c = search needs
-
 returns : tie.Need-returns
-returns c = rule-tallied _ _ _ _ _ _ _ _ (c .before .before .before .step-asks .ensures) (c .before .before .step-allows .ensures)
+returns c =
+    let tested = c .before .before .before .before in
+    rule-tallied _ _ _ _ _ _ _ _ _ _ _ (tested .before .step-asks .ensures) (tested .step-allows .ensures) (c .before .before .before .counted .ensures)
+    (c .before .counted2 .ensures)
 
 pub tally-rule-spec : {M : Type 1} → statement M
 tally-rule-spec =
     tie.close
     (tie.spec
-    step-asks-requires
-    step-allows-requires
-    mul-so-far
-    element-copy-out-so-far
-    cast-kept
+    (λ c κs. search needs)
+    (λ c κs. search needs)
+    (λ c κs. search needs)
+    (λ c. search needs)
+    (λ c. search needs)
     add-kept
-    mul-kept
-    element-write-kept
-    mul-until-now
-    element-copy-out-until-now
-    cast-broken
+    (λ c. search needs)
+    (λ c. search needs)
+    (λ c κs. search needs)
+    (λ c. search needs)
+    (λ c. search needs)
     add-broken
-    mul-broken
-    element-write-broken
+    (λ c. search needs)
+    (λ c. search needs)
     returns)

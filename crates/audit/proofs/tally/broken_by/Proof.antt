@@ -1,0 +1,18 @@
+-- Assumes nothing.
+use mathlib.Core.Path.{ap₂}
+use mathlib.Core.Bool.{Bool, not, _&&_}
+use Rattle.audit.specs.Book.{brokenBy}
+use borrow.Author.Needs.{needs}
+use Rattle.audit.proofs.tally.broken_by.Statement.{statement}
+use Rattle.audit.proofs.tally.broken_by.Tie as tie
+use Rattle.audit.proofs.tally.broken_by.Reads as reads
+use Rattle.audit.proofs.tally.broken_by.Lts as lts
+use Rattle.rules.proofs.step_allows.Reads as step-allows-reads
+use Rattle.rules.proofs.step_asks.Reads as step-asks-reads
+
+returns : tie.Need-returns
+unfolding brokenBy
+returns c = ap₂ (λ (x y : Bool). x && not y) (c .before .step-asks .ensures) (c .step-allows .ensures)
+
+pub broken-by-spec : {M : Type 1} → statement M
+broken-by-spec = tie.close (tie.spec (λ c κs. search needs) (λ c κs. search needs) returns)
