@@ -47,7 +47,7 @@
  *
  * Stack, in pages of 4,096 bytes: 208 for the judge and for a class, 4 for the strike checker, 4 for the audit, 2 for the run checker, 1 for the
  * reader; what the caller and signal handlers take comes on top. host/c/stack.c runs each call on a fenced stack of just this size, on sheets of 24 letters
- * that are judged to the end and on a bad one, and prints what they take: at most 842,072, 15,064, 12,200, 7,160 and 280 bytes. Of the
+ * that are judged to the end and on a bad one, and prints what they take: at most 842,072, 15,064, 12,232, 7,160 and 280 bytes. Of the
  * audit's, 3,088 are the loader's, the first time that memcpy is called.
  *
  * The judge takes nearly as much for the smallest sheet (one letter, no rules: 831,032 bytes), since its rooms have a fixed size.
@@ -55,7 +55,7 @@
  * Link libnaxxurbi.a, which bin/install makes and which has every call; a program takes in only the objects that it calls. Or link the
  * archives it is made of: libfirmware.a (both checkers), libjudge.a (naxxurbi_judge), libreader.a (naxxurbi_read, naxxurbi_read_place),
  * libaudit.a (naxxurbi_audit), libserial.a (the serial lead), libclass.a (naxxurbi_judge_class); each stands alone.
- * Their code takes at most 11 KB, 19 KB, 2 KB, 6 KB, 3 KB and 19 KB (of 1,024 bytes); they have no data of their own. The only outside
+ * Their code takes at most 11 KB, 19 KB, 2 KB, 8 KB, 3 KB and 19 KB (of 1,024 bytes); they have no data of their own. The only outside
  * functions that they call are memset and memcpy.
  *
  * Time. The run checker looks at each state once for each rule and promise. The strike checker counts, for the first states and for each

@@ -109,6 +109,10 @@ static void worked_logs(void)
     log_is("a number above the letters", STATES(1, 6, 1), FIVE(3, 1, UNLAWFUL, 1, 0), THREE(1, 1, 0), THREE(0, 0, 0));
     log_is("bits above the letters alone", STATES(1, 0xFFFFFFFC, 1), FIVE(3, 1, UNLAWFUL, 1, 0), THREE(0, 0, 1), THREE(1, 0, 0));
     log_is("unlawful is told before the rule", STATES(1, 2, 4), FIVE(3, 4, UNLAWFUL, 2, 0), THREE(1, 0, 0), THREE(0, 1, 0));
+    log_is("a breach where the log stands still", STATES(1, 2, 2, 2, 2, 1), FIVE(6, 1, BROKE_STEP, 2, 2), THREE(1, 1, 0), THREE(0, 3, 0));
+    log_is("standing still from the first state on", STATES(1, 1, 1), FIVE(3, 1, BROKE_STEP, 1, 1), THREE(0, 0, 0), THREE(2, 0, 0));
+    log_is("standing still twice", STATES(1, 1, 0, 0, 0, 2), FIVE(6, 2, BROKE_STEP, 1, 1), THREE(0, 0, 0), THREE(2, 0, 3));
+    log_is("standing still at an unlawful state", STATES(1, 6, 6, 6), FIVE(4, 6, UNLAWFUL, 1, 0), THREE(1, 0, 0), THREE(0, 2, 0));
     log_is("the first breach stays", STATES(2, 2, 3, 1, 1), FIVE(5, 1, BROKE_FIRST, 0, 0), THREE(0, 2, 0), THREE(2, 1, 0));
 }
 

@@ -1,6 +1,6 @@
 /*
- * The C boundary: slices that are null, sheets that are cut off or damaged, sheets and slices that fill their pages to the last byte, and
- * papers made to cost much. Every call is made on fenced copies too (fence.h), and answers the same.
+ * The C boundary, of every call: slices that are null, sheets that are cut off or damaged, sheets and slices that fill their pages to the last
+ * byte, and papers made to cost much. Every call is made on fenced copies too (fence.h), and answers the same.
  */
 #define _DEFAULT_SOURCE
 #include <string.h>
@@ -12,7 +12,7 @@
 
 enum { TABLE, WORDS, SCRATCH, RUN, SLICES };
 enum { ANSWER, COUNT, A, B, PLACE, NUMBERS };
-enum { ROOM = 16384, NO_ROOM = 11, SHORT_RUN = 12, CANNOT = 13, LONG_PAPER = 50000 };
+enum { ROOM = 16384, NO_ROOM = 11, SHORT_RUN = 12, CANNOT = 13, LONG_PAPER = 50000, ACCOUNT = 515 };
 
 static const uint32_t OLD = 0xDEADBEEF;
 
@@ -42,26 +42,93 @@ static uint32_t *numbers(struct fenced copy)
     return (uint32_t *)(void *)copy.at;
 }
 
-/* Judges once more with everything fenced: whether the five numbers and all slices are the same, and nothing around them was touched. */
+/* Lends so many old numbers between fences. */
+static struct fenced lend(size_t len, enum place place)
+{
+    static uint32_t old[sizeof lent[0] / sizeof lent[0][0]];
+    fill(old, len);
+    return fence(old, len * sizeof old[0], place);
+}
+
+/* Takes the fences of lent numbers down: whether they are these, and nothing around them was touched. */
+static int are(struct fenced copy, const uint32_t *wanted)
+{
+    int same = copy.len == 0 || memcmp(copy.at, wanted, copy.len) == 0;
+    return unfence(copy) && same;
+}
+
+/*
+ * Judges once more with everything fenced, by itself and as a class of one: whether the numbers and all slices are the same, and nothing
+ * around them was touched.
+ */
 static int judged_the_same(const uint8_t *sheet, size_t len, const size_t sizes[SLICES], enum place place)
 {
-    struct fenced copy = fence_to_read(sheet, len, place), slices[SLICES], five;
-    static uint32_t old[sizeof lent[0] / sizeof lent[0][0]];
-    int same;
-    fill(old, sizeof old / sizeof old[0]);
-    five = fence(old, sizeof out, place);
-    for (size_t i = 0; i < SLICES; i++) {
-        slices[i] = fence(old, sizes[i] * sizeof old[0], place);
+    const uint32_t one_end[] = {(uint32_t)len};
+    struct fenced copy = fence_to_read(sheet, len, place), ends = fence_to_read(one_end, sizeof one_end, place);
+    int same = 1;
+    for (int in_class = 0; in_class < 2; in_class++) {
+        struct fenced slices[SLICES], told = lend(in_class ? NAXXURBI_CLASS_NUMBERS : NUMBERS, place);
+        for (size_t i = 0; i < SLICES; i++) {
+            slices[i] = lend(sizes[i], place);
+        }
+        uint32_t *table = numbers(slices[TABLE]), *marks = numbers(slices[WORDS]);
+        uint32_t *scratch = numbers(slices[SCRATCH]), *run = numbers(slices[RUN]);
+        if (in_class) {
+            same = naxxurbi_judge_class(copy.at, len, numbers(ends), 1, table, sizes[TABLE], marks, sizes[WORDS], scratch, sizes[SCRATCH], run,
+                                        sizes[RUN], numbers(told), NAXXURBI_CLASS_NUMBERS) == 0 && same;
+        } else {
+            naxxurbi_judge(copy.at, len, table, sizes[TABLE], marks, sizes[WORDS], scratch, sizes[SCRATCH], run, sizes[RUN], numbers(told));
+        }
+        for (size_t i = 0; i < SLICES; i++) {
+            same = are(slices[i], lent[i]) && same;
+        }
+        same = are(told, out) && same;
     }
-    naxxurbi_judge(copy.at, len, numbers(slices[TABLE]), sizes[TABLE], numbers(slices[WORDS]), sizes[WORDS], numbers(slices[SCRATCH]),
-                   sizes[SCRATCH], numbers(slices[RUN]), sizes[RUN], numbers(five));
-    same = memcmp(five.at, out, sizeof out) == 0;
-    for (size_t i = 0; i < SLICES; i++) {
-        same = same && (sizes[i] == 0 || memcmp(slices[i].at, lent[i], slices[i].len) == 0);
-        same = unfence(slices[i]) && same;
-    }
-    same = unfence(five) && same;
     unfence(copy);
+    unfence(ends);
+    return same;
+}
+
+/*
+ * Audits a log that stands still and moves on, an unlawful state in it, with everything fenced: whether it answers this fault, and the account is
+ * the same as without fences.
+ */
+static int audited_the_same(const uint8_t *sheet, size_t len, uint32_t fault, enum place place)
+{
+    static const uint32_t log[] = {0, 1, 1, 1, 2, 0xFFFFFFFF, 0xFFFFFFFF, 0};
+    uint32_t account[ACCOUNT] = {0};
+    struct fenced copy = fence_to_read(sheet, len, place), states_copy = fence_to_read(log, sizeof log, place);
+    struct fenced carried = fence(account, sizeof account, place);
+    size_t count = sizeof log / sizeof log[0];
+    int same = naxxurbi_audit(sheet, len, account, log, count) == fault;
+    same = naxxurbi_audit(copy.at, copy.len, numbers(carried), numbers(states_copy), count) == fault && same;
+    same = are(carried, account) && same;
+    unfence(copy);
+    unfence(states_copy);
+    return same;
+}
+
+/*
+ * Takes the sheet over the serial lead in two pieces, with everything fenced: whether it answers this fault and its place at closing, and the
+ * buffer begins with the sheet.
+ */
+static int taken_the_same(const uint8_t *sheet, size_t len, const uint32_t fault[2], enum place place)
+{
+    static const uint8_t nothing[MOST_BYTES];
+    static const uint32_t open[2];
+    size_t half = len / 2, stored = len < MOST_BYTES ? len : MOST_BYTES;
+    const uint32_t closed[] = {(uint32_t)len, 1};
+    struct fenced front = fence_to_read(sheet, half, place), back = fence_to_read(sheet + half, len - half, place);
+    struct fenced state = fence(open, sizeof open, place), buffer = fence(nothing, sizeof nothing, place), told = lend(2, place);
+    int same = naxxurbi_serial_take(numbers(state), buffer.at, front.at, front.len) == 0;
+    same = naxxurbi_serial_take(numbers(state), buffer.at, back.at, back.len) == 0 && same;
+    naxxurbi_serial_close(numbers(state), buffer.at, numbers(told));
+    same = memcmp(buffer.at, sheet, stored) == 0 && same;
+    same = unfence(buffer) && same;
+    same = are(state, closed) && same;
+    same = are(told, fault) && same;
+    unfence(front);
+    unfence(back);
     return same;
 }
 
@@ -94,6 +161,7 @@ static struct answers read_and_check(const uint8_t *sheet, size_t len, size_t st
 static void judged(const char *name, const size_t sizes[SLICES], const uint32_t wanted[NUMBERS])
 {
     uint32_t fault = wanted[ANSWER] <= 10 ? wanted[ANSWER] : 0;
+    const uint32_t fault_at[] = {fault, wanted[PLACE]};
     judge(made, made_len, sizes);
     for (size_t field = 0; field < NUMBERS; field++) {
         expect(name, "judged", out[field], wanted[field]);
@@ -103,6 +171,8 @@ static void judged(const char *name, const size_t sizes[SLICES], const uint32_t 
     size_t words_len = write_numbers(words, lent[WORDS], cannot ? out[COUNT] : 0);
     for (int place = 0; place < PLACES; place++) {
         expect(name, "judged the same between fences", (uint32_t)judged_the_same(made, made_len, sizes, place), 1);
+        expect(name, "audited the same between fences", (uint32_t)audited_the_same(made, made_len, fault, place), 1);
+        expect(name, "taken over the lead between fences", (uint32_t)taken_the_same(made, made_len, fault_at, place), 1);
         struct answers found = read_and_check(made, made_len, states_len, words_len, out[A], place);
         expect(name, "read between fences", found.read, fault);
         expect(name, "read between fences, with the place", found.read_place[0], fault);
@@ -176,6 +246,22 @@ static void null_slices(void)
     expect("no sheet", "place read", found[1], 0);
 }
 
+/* The same of the audit, of the serial lead and of a class. */
+static void null_pieces(void)
+{
+    static const uint32_t zeros[ACCOUNT], open[2];
+    static uint8_t buffer[MOST_BYTES];
+    uint32_t account[ACCOUNT] = {0}, state[2] = {0}, end = 0, told[NAXXURBI_CLASS_NUMBERS] = {OLD, OLD, OLD, OLD};
+    expect(w2.name, "no states audited", naxxurbi_audit(w2.bytes, w2.len, account, NULL, 0), 0);
+    expect("no sheet", "audited", naxxurbi_audit(NULL, 0, account, zeros, 1), 1);
+    expect("no sheet", "the account is as it was", memcmp(account, zeros, sizeof account) == 0, 1);
+    expect("no piece", "taken", naxxurbi_serial_take(state, buffer, NULL, 0), 0);
+    expect("no piece", "the lead is as it was", memcmp(state, open, sizeof state) == 0, 1);
+    expect("no class", "judged", naxxurbi_judge_class(NULL, 0, NULL, 0, NULL, 0, NULL, 0, NULL, 0, NULL, 0, NULL, 0), 0);
+    expect("a class of no bytes", "judged", naxxurbi_judge_class(NULL, 0, &end, 1, NULL, 0, NULL, 0, NULL, 0, NULL, 0, told, 4), 0);
+    expect("a class of no bytes", "its sheet", told[0] == 1 && told[1] == 0 && told[2] == 0 && told[3] == 0, 1);
+}
+
 /* Whether an answer goes with this fault of the sheet; 0: it has none. */
 static int goes_with(uint32_t answer, uint32_t fault)
 {
@@ -190,7 +276,8 @@ static int all_say(const uint8_t *sheet, size_t len, const uint32_t fault[2], en
     struct answers found = read_and_check(sheet, len, 8, 8, 0, place);
     int read = found.clean && found.read == fault[0] && memcmp(found.read_place, fault, sizeof found.read_place) == 0;
     int checked = goes_with(found.run, fault[0]) && goes_with(found.strikes, fault[0]);
-    return judged_the_same(sheet, len, sizes, place) && goes_with(out[ANSWER], fault[0]) && out[PLACE] == fault[1] && read && checked;
+    int others = audited_the_same(sheet, len, fault[0], place) && taken_the_same(sheet, len, fault, place);
+    return judged_the_same(sheet, len, sizes, place) && goes_with(out[ANSWER], fault[0]) && out[PLACE] == fault[1] && read && checked && others;
 }
 
 /* The length byte of W15's record that is not whole in the first `len` bytes, or `len` where that byte is missing. */
@@ -267,6 +354,7 @@ static void hostile_papers(void)
 int main(void)
 {
     null_slices();
+    null_pieces();
     filled();
     cut_off();
     one_byte_changed(&w4);

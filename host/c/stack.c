@@ -11,7 +11,7 @@
 #include "make.h"
 #include "test.h"
 
-/* What the header states, in pages of 4,096 bytes; and how wide the fences are: a call may take all its stack at once. */
+/* What the header states, in pages of 4,096 bytes (a class: the judge's); and how wide the fences are: a call may take all its stack at once. */
 enum { READ_PAGES = 1, RUN_PAGES = 2, STRIKES_PAGES = 4, AUDIT_PAGES = 4, JUDGE_PAGES = 208, FENCE = 4 << 20 };
 
 enum { STATES = 16384, MOMENTS = 262144 };
@@ -19,7 +19,7 @@ enum { STATES = 16384, MOMENTS = 262144 };
 static uint32_t table[STATES], words[STATES], scratch[2 * STATES], run[MOMENTS], out[5], answer;
 static uint8_t states_paper[4 * MOMENTS], words_paper[4 * STATES];
 static size_t states_len, words_len;
-static uint32_t account[515];
+static uint32_t account[515], of_class[NAXXURBI_CLASS_NUMBERS];
 static const uint32_t log_states[] = {1, 2, 4, 8, 3, 0, 0xFFFFFFFF};
 
 static void call_read(void)
@@ -39,6 +39,13 @@ static void call_judge(void)
 {
     naxxurbi_judge(made, made_len, table, STATES, words, STATES, scratch, (size_t)2 * STATES, run, MOMENTS, out);
     answer = out[0];
+}
+
+static void call_judge_class(void)
+{
+    const uint32_t ends[] = {(uint32_t)made_len};
+    answer = naxxurbi_judge_class(made, made_len, ends, 1, table, STATES, words, STATES, scratch, (size_t)2 * STATES, run, MOMENTS, of_class,
+                                  NAXXURBI_CLASS_NUMBERS);
 }
 
 static void call_check_run(void)
@@ -98,6 +105,8 @@ static void all_calls(const char *name, uint32_t judged)
     on_its_stack(name, "audit", call_audit, AUDIT_PAGES, 0);
     on_its_stack(name, "judge", call_judge, JUDGE_PAGES, judged);
     expect(name, "judged, no place", out[4], 0);
+    on_its_stack(name, "class", call_judge_class, JUDGE_PAGES, 0);
+    expect(name, "judged the same in a class", memcmp(of_class, out, sizeof of_class) == 0, 1);
     states_len = write_numbers(states_paper, judged == 0 ? run : table, judged == 0 ? out[3] : out[1]);
     words_len = write_numbers(words_paper, words, judged == 0 ? 0 : out[1]);
     on_its_stack(name, "run checker", call_check_run, RUN_PAGES, judged == 0 ? ACCEPTED : NOT_ACCEPTED);
@@ -117,6 +126,8 @@ static void bad_sheet(void)
     expect(name, "place read", found[1], MOST_BYTES - 1);
     on_its_stack(name, "judge", call_judge, JUDGE_PAGES, BAD);
     expect(name, "place judged", out[4], MOST_BYTES - 1);
+    on_its_stack(name, "class", call_judge_class, JUDGE_PAGES, 0);
+    expect(name, "judged bad in a class", of_class[0], BAD);
     on_its_stack(name, "run checker", call_check_run, RUN_PAGES, BAD);
     on_its_stack(name, "strike checker", call_check_strikes, STRIKES_PAGES, BAD);
 }

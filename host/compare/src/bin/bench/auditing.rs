@@ -30,11 +30,14 @@ pub fn table(only: &Only) -> Table {
     let rng = &mut Rng::new(2);
     let random: Vec<u32> = (0..MOMENTS).map(|_| rng.number() as u32 & 0xFF_FFFF).collect();
     let still = vec![0x5A_5A5A; MOMENTS as usize];
+    // No state comes twice in a row, and every branch can be foreseen.
+    let in_turn: Vec<u32> = (0..MOMENTS).map(|i| if i % 2 == 0 { 0x5A_5A5A } else { 0x3C_3C3C }).collect();
     let logs = [
         ("255 rules asked at every move, states at random", 0, &random),
         ("255 rules of one letter, states at random", 1, &random),
         ("255 rules of three letters, states at random", 3, &random),
         ("255 rules of one letter, one state over and over", 1, &still),
+        ("255 rules of one letter, two states in turn", 1, &in_turn),
     ];
     let rows = logs
         .into_iter()

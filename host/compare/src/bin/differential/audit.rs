@@ -5,7 +5,7 @@ use plain::audit::{Account, MOMENTS, NUMBERS, PAST, TALLIES};
 use plain::make::{damage, random_sheet, Rng, DAMAGES};
 use plain::rules::Rules;
 
-/// A log that mostly obeys: each state is a lawful next one where one is found soon, else anything.
+/// A log that mostly obeys: each state is a lawful next one where one is found soon, else anything; now and then it stands still.
 fn log(rng: &mut Rng, sheet: &[u8], length: usize) -> Vec<u32> {
     let rules = plain::sheet::read(sheet).ok().map(|sheet| Rules::new(&sheet));
     let letters = rules.as_ref().map_or(8, Rules::letters);
@@ -25,6 +25,10 @@ fn log(rng: &mut Rng, sheet: &[u8], length: usize) -> Vec<u32> {
             2 => states.last().copied().unwrap_or(state),
             _ => state,
         });
+        if rng.once_in(8) {
+            let still = rng.within(1, 12);
+            states.extend(states.last().copied().into_iter().cycle().take(still));
+        }
     }
     states
 }
