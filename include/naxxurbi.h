@@ -46,9 +46,9 @@
  *    - the stack has room, as follows.
  *
  * Stack, in pages of 4,096 bytes: 208 for the judge and for a class, 4 for the strike checker, 4 for the audit, 2 for the run checker, 1 for the
- * reader; what the caller and signal handlers take comes on top. host/c/stack.c runs each call on a fenced stack of just this size, on sheets of 24 letters
- * that are judged to the end and on a bad one, and prints what they take: at most 842,072, 15,064, 12,232, 7,160 and 280 bytes. Of the
- * audit's, 3,088 are the loader's, the first time that memcpy is called.
+ * reader; what the caller and signal handlers take comes on top. host/c/stack.c runs each of these calls on a fenced stack of just this size, on
+ * sheets of 24 letters that are judged to the end and on a bad one, and prints what they take: at most 842,072 (842,248 for a class), 15,064,
+ * 12,232, 7,160 and 280 bytes. Of the audit's, 3,088 are the loader's, the first time that memcpy is called.
  *
  * The judge takes nearly as much for the smallest sheet (one letter, no rules: 831,032 bytes), since its rooms have a fixed size.
  *

@@ -43,7 +43,8 @@ static void call_judge(void)
 
 static void call_judge_class(void)
 {
-    const uint32_t ends[] = {(uint32_t)made_len};
+    static uint32_t ends[1];
+    ends[0] = (uint32_t)made_len;
     answer = naxxurbi_judge_class(made, made_len, ends, 1, table, STATES, words, STATES, scratch, (size_t)2 * STATES, run, MOMENTS, of_class,
                                   NAXXURBI_CLASS_NUMBERS);
 }
