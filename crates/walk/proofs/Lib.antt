@@ -1,5 +1,6 @@
 pub mod Found
 pub mod Settling
 pub mod Reasons
+pub mod Narrowing
 pub mod Counting
 pub mod Free
