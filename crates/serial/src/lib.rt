@@ -5,7 +5,6 @@ use reader::Answer;
 use reader::header::MOST_BYTES;
 ghost use mathlib.Core.Path.{_≡_};
 ghost use lib.ListN.{length};
-ghost use lib.Seq.{sets};
 ghost use Rattle.meaning.specs.Sheet.{mostBytes};
 ghost use Rattle.meaning.specs.Promises.{ReadPlaced};
 ghost use Rattle.serial.specs.Serial.{Takes, Closes, Answers, TakesState, ClosesState, counted};
@@ -36,22 +35,6 @@ pub struct Closed {
 struct Reading {
     pub answer: u32,
     pub place: u32,
-}
-
-// Writes a piece into a slice from a place on. What goes past the end is not stored.
-fn write(sheet: &mut [u8], at: usize, piece: &[u8])
-    ensures { λ _. ⌜ now (sheet .exit) ≡ sets (now (sheet .entry)) at (now (piece .entry)) ⌝ }
-{
-    let mut i = 0;
-    let mut to = at;
-    while i < piece.len() {
-        if sheet.len() <= to {
-            return;
-        }
-        sheet[to] = piece[i];
-        i += 1;
-        to += 1;
-    }
 }
 
 // The count after so many more bytes.
@@ -113,7 +96,7 @@ pub fn take(lead: Lead, sheet: &mut [u8; MOST_BYTES], piece: &[u8]) -> Taken
     }
     let taken = lead.taken;
     let at = taken as usize;
-    write(sheet, at, piece);
+    pieces::write(sheet, at, piece);
     let after = count(taken, piece.len());
     Taken {
         answer: 0,

@@ -1,6 +1,6 @@
--- Writing a piece into a buffer from a place on, byte by byte, and what the buffer's front then holds. Assumes nothing.
+-- Writing a piece into a slice from a place on, byte by byte, and what the slice then begins with. Assumes nothing.
 use mathlib.Core.Path.{_≡_, refl, sym, ap, _∙_}
-use mathlib.Core.List.{List, [], _∷_, _++_}
+use mathlib.Core.List.{List, [], _∷_}
 use Prim.Native.Nat.{ℕ, suc, _+_, _≤_, _<_}
 use native.Mathlib.Decide.{decLe}
 use native.Mathlib.Omega.{arith}
@@ -11,19 +11,19 @@ use Rattle.meaning.proofs.Writing.{sets-append, sets-past}
 -- ---- the loop that writes a piece
 
 -- The first i bytes of the piece stand in the slice from `at` on, and the next goes to the place `to`.
-pub record Wrote (old new : List ℕ) (at : ℕ) (piece : List ℕ) (i to : ℕ) : Type 0 where
+pub record Copied (old new : List ℕ) (at : ℕ) (piece : List ℕ) (i to : ℕ) : Type 0 where
   pub within : i ≤ length piece
   pub next : to ≡ at + i
   pub long : length new ≡ length old
   pub written : new ≡ sets old at (take i piece)
 
-pub wrote-none : (old : List ℕ) (at : ℕ) (piece : List ℕ) → Wrote old old at piece 0 at
-wrote-none old at piece = record { within = omega arith; next = omega arith; long = refl; written = refl }
+pub copied-none : (old : List ℕ) (at : ℕ) (piece : List ℕ) → Copied old old at piece 0 at
+copied-none old at piece = record { within = omega arith; next = omega arith; long = refl; written = refl }
 
-module _ {old new : List ℕ} {at : ℕ} {piece : List ℕ} {i to : ℕ} (w : Wrote old new at piece i to) where
+module _ {old new : List ℕ} {at : ℕ} {piece : List ℕ} {i to : ℕ} (w : Copied old new at piece i to) where
   -- one more byte
-  pub wrote-more : i < length piece → Wrote old (set new to (getD piece i 0)) at piece (i + 1) (to + 1)
-  wrote-more h =
+  pub copied-more : i < length piece → Copied old (set new to (getD piece i 0)) at piece (i + 1) (to + 1)
+  copied-more h =
       let x = getD piece i 0 in
       let front = take i piece in
       let more : suc i ≡ i + 1 = omega arith in
@@ -41,8 +41,8 @@ module _ {old new : List ℕ} {at : ℕ} {piece : List ℕ} {i to : ℕ} (w : Wr
       }
 
   -- the slice is full: the rest of the piece changes nothing
-  pub wrote-full : length new ≤ to → new ≡ sets old at piece
-  wrote-full full =
+  pub copied-full : length new ≤ to → new ≡ sets old at piece
+  copied-full full =
       let front = take i piece in
       let rest = drop i piece in
       let here : length (sets old at front) ≤ at + length front =
@@ -51,13 +51,13 @@ module _ {old new : List ℕ} {at : ℕ} {piece : List ℕ} {i to : ℕ} (w : Wr
       ∙ ap (sets old at) (take-append-drop i piece)
 
   -- the whole piece
-  pub wrote-all : length piece ≤ i → new ≡ sets old at piece
-  wrote-all h = w .written ∙ ap (sets old at) (take-all i piece h)
+  pub copied-all : length piece ≤ i → new ≡ sets old at piece
+  copied-all h = w .written ∙ ap (sets old at) (take-all i piece h)
 
 -- ---- from the front on
 
 -- bytes that fit, written from the front on, stand there
-fits-written : (old bytes : List ℕ) → length bytes ≤ length old → take (length bytes) (sets old 0 bytes) ≡ bytes
+pub fits-written : (old bytes : List ℕ) → length bytes ≤ length old → take (length bytes) (sets old 0 bytes) ≡ bytes
 fits-written old bytes h =
     ap (take (length bytes)) (sets-eq bytes old 0 (omega arith)) ∙ take-append-seam bytes (drop (0 + length bytes) old)
 
