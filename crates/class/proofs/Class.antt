@@ -14,7 +14,7 @@ use Rattle.class.specs.Class.{numbersEach, refusal, sheetAt, Refused, no
 use Rattle.class.specs.Steps.{Fair}
 use Rattle.class.proofs.Ends.{fair-not-refused, fair-or-refused}
 use Rattle.class.proofs.Turns.{as-long-then, in-turn-unique, in-turn-met, in-turn-got, in-turn-past, Stand, Got}
-use Rattle.class.proofs.Neighbours.{SameNumbers, judged-same-numbers}
+use Rattle.judge.proofs.Neighbours.{SameNumbers, judged-same-numbers}
 
 -- The promise leaves one outcome: the number, the four slices and the numbers.
 pub class-unique : {sheets ends : List ℕ} {before : Desk} {m n : ℕ} {x y : Desk}

@@ -6,3 +6,4 @@ pub mod Steps
 pub mod Sheets
 pub mod Corollaries
 pub mod Accepted
+pub mod Neighbours

@@ -37,7 +37,7 @@ fn refusal(answer: u32, b: u32, place: u32) -> Judgement
 const BOOK: usize = 1698;
 
 // Zeros from a place on.
-fn wipe(s: &mut [u32], from: usize)
+pub fn wipe(s: &mut [u32], from: usize)
     requires { ⌜ from ≤ length (now s) ⌝ }
     ensures { λ _. ⌜ now (s .exit) ≡ over (take from (now (s .entry))) (zeros (now (s .entry))) ⌝ }
 {
