@@ -1,0 +1,78 @@
+-- `mark` meets its contract: the marks are those of the numbers from place i on. Assumes nothing.
+use mathlib.Core.Path.{_≡_, ap, _∙_}
+use mathlib.Core.List.{List}
+use Prim.Native.Nat.{ℕ, _-_, _≤_}
+use native.Mathlib.Omega.{arith}
+use lib.ListN.{length, getD, drop, set}
+use Rattle.clash.specs.Clash.{marksOf}
+use Rattle.clash.proofs.Marks.{marks-none, marks-more}
+use Rattle.clash.proofs.mark.Statement.{statement}
+use Rattle.clash.proofs.mark.Tie as tie
+
+abbrev Inv-loop : tie.InvT-loop
+Inv-loop rules marks₀ i₀ marks i = (i ≤ length rules) × (marks ≡ marksOf (drop i rules))
+
+abbrev μ-loop : tie.MeasureT-loop
+μ-loop rules marks₀ i₀ marks i = i
+
+loop-holds : tie.Need-loop-holds Inv-loop μ-loop
+loop-holds c = (omega arith, marks-none (c .args .rules .now))
+
+sub-i : tie.Need-sub-i Inv-loop μ-loop
+sub-i c = omega arith
+
+mul-number : tie.Need-mul-number Inv-loop μ-loop
+mul-number c = omega arith
+
+shared-slice-read-number : tie.Need-shared-slice-read-number Inv-loop μ-loop
+shared-slice-read-number c = omega arith
+
+cast-number : tie.Need-cast-number Inv-loop μ-loop
+cast-number c =
+    let l = c .before .before .loop in
+    let start = c .before .before .before in
+    omega (arith, start .pre .most (l .i - 1) (omega arith))
+
+sub-marks : tie.Need-sub-marks Inv-loop μ-loop
+sub-marks c =
+    let l = c .before .before .loop in
+    let start = c .before .before .before in
+    start .pre .least (l .i - 1) (omega arith)
+
+array-write-marks : tie.Need-array-write-marks Inv-loop μ-loop
+array-write-marks c =
+    let l = c .before .before .loop in
+    let start = c .before .before .before in
+    omega (arith, start .pre .most (l .i - 1) (omega arith), start .pre .least (l .i - 1) (omega arith))
+
+loop-less : tie.Need-loop-less Inv-loop μ-loop
+loop-less c = omega arith
+
+loop-again : tie.Need-loop-again Inv-loop μ-loop
+loop-again c =
+    let l = c .before .before .loop in
+    let numbers = c .before .before .before .args .rules .now in
+    (omega arith, ap (λ (m : List ℕ). set m (getD numbers (l .i - 1) 0 - 1) 1) (l .inv .1) ∙ marks-more numbers (l .i) (omega arith) (l .inv .0))
+
+returns : tie.Need-returns Inv-loop μ-loop
+returns c =
+    let l = c .before .loop in
+    let e : l .i ≡ 0 = omega arith in
+    l .inv .1 ∙ ap (λ (k : ℕ). marksOf (drop k (c .before .before .args .rules .now))) e
+
+pub mark-spec : {M : Type 1} → statement M
+mark-spec =
+    tie.close
+    (tie.spec
+    Inv-loop
+    μ-loop
+    loop-holds
+    sub-i
+    mul-number
+    shared-slice-read-number
+    cast-number
+    sub-marks
+    array-write-marks
+    loop-less
+    loop-again
+    returns)
