@@ -1,20 +1,23 @@
 /*
- * Naxxurbi: a judge for rule sheets, two checkers for its papers, and an auditor of recorded logs.
+ * Naxxurbi: a judge for rule sheets, two checkers for its papers, an auditor of recorded logs, and a finder of rules that fight.
  *
  * A rule sheet is a string of bytes (docs/FORMAT.md). The calls take any bytes and any numbers: none has a precondition, each
  * returns, and each is proved to keep the promise that is stated for it in crates/meaning/specs/Promises.antt (the audit:
- * crates/audit/specs/Carry.antt; the serial lead: crates/serial/specs/Serial.antt). Of the pointers themselves C callers owe what is listed below.
+ * crates/audit/specs/Carry.antt; the serial lead: crates/serial/specs/Serial.antt; which rules fight: crates/clash/specs/Clash.antt). Of the
+ * pointers themselves C callers owe what is listed below.
  *
  * Numbers returned:
- *    0        good sheet / paper accepted / the sheet can be kept
+ *    0        good sheet / paper or proposal accepted / the sheet can be kept / rules that fight are marked
  *    1 .. 10  the sheet's first fault, in reading order (the table below); nothing lent is changed. naxxurbi_read_place, naxxurbi_judge
  *             and naxxurbi_serial_close tell its place as well, the byte counted from 0; on every other answer the place is 0
  *   11        the judge only: more reachable states than there is room for
- *   12        the judge only: the sheet can be kept, but the run slice is too short for the sample run; b says how long it must be
+ *   12        the judge: the sheet can be kept, but the run slice is too short for the sample run; b says how long it must be.
+ *             naxxurbi_clash: the sheet can be kept
  *   13        the judge only: the sheet cannot be kept
- *   14        the checkers only: the paper is not accepted
+ *   14        the checkers and naxxurbi_check_clash only: the paper, or the proposal, is not accepted
  *   15        the audit only: the account, or the account with this piece, is past 1,000,000 moments
  *   16        naxxurbi_judge_class only: the class is refused, nothing is changed
+ *   17        naxxurbi_check_clash and naxxurbi_clash only: a sheet that was tried has more reachable states than there is room for
  *   18        the serial lead only: it is closed already; nothing is changed
  *
  *    1  below 8 or above 4,096 bytes        6  record missing or past the end
@@ -34,28 +37,30 @@
  *
  *    - the machine is x86-64 under Linux;
  *    - a pointer is valid for its length: so many bytes, or numbers of four bytes, can be read there, and in the judge's slices, in
- *      `out`, in `numbers` and in `account` also written. A pointer may be null where its length is 0; `out` has room for its numbers, five for the judge
- *      and two for naxxurbi_read_place, `account` for 515; a serial lead's `state` has room for two and its sheet for
- *      4,096 bytes; none of these is ever null;
+ *      `out`, in `numbers`, in `account` and in `marks` also written. A pointer may be null where its length is 0; `out` has room for its
+ *      numbers, five for the judge and two for naxxurbi_read_place, `account` for 515, `marks` for 255 bytes; a serial lead's `state` has
+ *      room for two and its sheet for 4,096 bytes; none of these is ever null;
  *    - a pointer to uint32_t is aligned for it, to 4 bytes. Bytes may stand anywhere;
  *    - the judge's four slices and `out` lie apart: from one another, and from the sheet; so does naxxurbi_read_place's `out` from the sheet,
- *      the ends and the numbers of a class from all else, the account from the sheet and the states, and a serial lead's `state`, sheet,
- *      piece and `out` from one another;
+ *      the ends and the numbers of a class from all else, proposed rules and marks from all else, the account from the sheet and the states,
+ *      and a serial lead's `state`, sheet, piece and `out` from one another;
  *    - no slice has 2 to the power 63 bytes or more; for one of numbers, that is below 2 to the power 61 of them;
  *    - while a call runs, nobody else writes what it was given, nor reads what it may write;
  *    - the stack has room, as follows.
  *
- * Stack, in pages of 4,096 bytes: 208 for the judge and for a class, 4 for the strike checker, 4 for the audit, 2 for the run checker, 1 for the
- * reader; what the caller and signal handlers take comes on top. host/c/stack.c runs each of these calls on a fenced stack of just this size, on
- * sheets of 24 letters that are judged to the end and on a bad one, and prints what they take: at most 842,072 (842,248 for a class), 15,064,
- * 12,232, 7,160 and 280 bytes. Of the audit's, 3,088 are the loader's, the first time that memcpy is called.
+ * Stack, in pages of 4,096 bytes: 208 for the judge, for a class and for the two calls about rules that fight, 4 for the strike checker, 4 for
+ * the audit, 2 for the run checker, 1 for the reader; what the caller and signal handlers take comes on top. host/c/stack.c runs each call on
+ * a fenced stack of just this size, on sheets of 24 letters that are judged to the end and on a bad one, and prints what they take: the judge,
+ * a class, the strike checker, the audit, the run checker and the reader at most 842,072, 842,248, 15,064, 12,232, 7,160 and 280 bytes,
+ * naxxurbi_clash and naxxurbi_check_clash 846,856 and 846,584. Of the audit's, 3,088 are the loader's, the first time that memcpy is called.
  *
  * The judge takes nearly as much for the smallest sheet (one letter, no rules: 831,032 bytes), since its rooms have a fixed size.
  *
  * Link libnaxxurbi.a, which bin/install makes and which has every call; a program takes in only the objects that it calls. Or link the
  * archives it is made of: libfirmware.a (both checkers), libjudge.a (naxxurbi_judge), libreader.a (naxxurbi_read, naxxurbi_read_place),
- * libaudit.a (naxxurbi_audit), libserial.a (the serial lead), libclass.a (naxxurbi_judge_class); each stands alone.
- * Their code takes at most 11 KB, 19 KB, 2 KB, 8 KB, 3 KB and 19 KB (of 1,024 bytes); they have no data of their own. The only outside
+ * libaudit.a (naxxurbi_audit), libserial.a (the serial lead), libclass.a (naxxurbi_judge_class), libclash.a (naxxurbi_check_clash,
+ * naxxurbi_clash); each stands alone.
+ * Their code takes at most 11 KB, 19 KB, 2 KB, 8 KB, 3 KB, 19 KB and 22 KB (of 1,024 bytes); they have no data of their own. The only outside
  * functions that they call are memset and memcpy.
  *
  * Time. The run checker looks at each state once for each rule and promise. The strike checker counts, for the first states and for each
@@ -178,6 +183,44 @@ uint32_t naxxurbi_audit(const uint8_t *sheet, size_t sheet_len, uint32_t account
 uint32_t naxxurbi_judge_class(const uint8_t *sheets, size_t sheets_len, const uint32_t *ends, size_t ends_len, uint32_t *table,
                               size_t table_len, uint32_t *words, size_t words_len, uint32_t *scratch, size_t scratch_len, uint32_t *run,
                               size_t run_len, uint32_t *numbers, size_t numbers_len);
+
+/* The most step rules of a sheet, and how many marks naxxurbi_clash writes. */
+#define NAXXURBI_RULES 255
+
+/*
+ * Which rules fight: step rules of a sheet, counted from 1, such that with only these, and with all limits, first rules and promises, no
+ * endless run obeys, and with any single one of them left out one does. Table, words and scratch are lent as to the judge, and C is the same.
+ *
+ * Checks proposed rules: rules_len numbers, which may be none. Tried are the sheet with these step rules alone and, for each of them, that
+ * sheet without it; each is judged with the lent slices and no room for a run.
+ *
+ *    0        these rules fight: the judge's answer is 13, and with each single one left out 12
+ *    1 .. 10  the sheet's first fault; the slices are unchanged
+ *   14        numbers that do not rise strictly, or are not from 1 to the number of the sheet's step rules: the slices are unchanged, and this
+ *             comes before 17. Or these rules do not fight: they can be kept, or one of them can be spared
+ *   17        for one of these sheets the judge's answer is 11, whatever it is for the others: more than C states are reachable. Leaving a
+ *             rule out can make more states reachable. With C at least 2 to the power n there is always room
+ *
+ * After 0, 17 and the second kind of 14 the slices hold zeros. It judges one sheet more than there are rules.
+ */
+uint32_t naxxurbi_check_clash(const uint8_t *sheet, size_t sheet_len, const uint32_t *rules, size_t rules_len, uint32_t *table,
+                              size_t table_len, uint32_t *words, size_t words_len, uint32_t *scratch, size_t scratch_len);
+
+/*
+ * Proposes rules that fight. From the last step rule to the first, each is dropped where the sheet still cannot be kept without it; then the
+ * choice that is left is tried with each rule left out.
+ *
+ *    0        the whole sheet cannot be kept, and the rules with mark 1 fight: naxxurbi_check_clash accepts them with slices of the same
+ *             lengths. Where limits, first rules and promises clash by themselves, no rule is marked
+ *    1 .. 10  the sheet's first fault; the slices are unchanged
+ *   12        the whole sheet can be kept
+ *   17        of a sheet that was tried, the whole one included, more than C states are reachable
+ *
+ * marks[i] is for rule i + 1: 1 if it is chosen, else 0. All 255 are written on every answer, and are 0 on every answer but 0. After 0, 12 and
+ * 17 the slices hold zeros. Of m step rules it judges at most 1 + 2 * m sheets, each in the judge's time for that sheet.
+ */
+uint32_t naxxurbi_clash(const uint8_t *sheet, size_t sheet_len, uint32_t *table, size_t table_len, uint32_t *words, size_t words_len,
+                        uint32_t *scratch, size_t scratch_len, uint8_t marks[255]);
 
 #ifdef __cplusplus
 }

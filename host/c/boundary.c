@@ -12,7 +12,7 @@
 
 enum { TABLE, WORDS, SCRATCH, RUN, SLICES };
 enum { ANSWER, COUNT, A, B, PLACE, NUMBERS };
-enum { ROOM = 16384, NO_ROOM = 11, SHORT_RUN = 12, CANNOT = 13, LONG_PAPER = 50000, ACCOUNT = 515 };
+enum { ROOM = 16384, NO_ROOM = 11, SHORT_RUN = 12, CANNOT = 13, CROWDED = 17, LONG_PAPER = 50000, ACCOUNT = 515 };
 
 static const uint32_t OLD = 0xDEADBEEF;
 
@@ -132,6 +132,66 @@ static int taken_the_same(const uint8_t *sheet, size_t len, const uint32_t fault
     return same;
 }
 
+/* What the finder of fighting rules says: the planner's answer, its marks as proposed rules, and what the check says of these. */
+struct fought {
+    uint32_t planned, checked, rules[NAXXURBI_RULES];
+    size_t count;
+    uint8_t marks[NAXXURBI_RULES];
+};
+
+static void propose(struct fought *found)
+{
+    found->count = 0;
+    for (uint32_t i = 0; i < NAXXURBI_RULES; i++) {
+        if (found->marks[i] != 0) {
+            found->rules[found->count++] = i + 1;
+        }
+    }
+}
+
+/* Plans and checks the plan, without fences; the slices are those of `lent`. */
+static struct fought fight(const uint8_t *sheet, size_t len, const size_t sizes[SLICES])
+{
+    struct fought found = {0};
+    for (size_t i = 0; i < RUN; i++) {
+        fill(lent[i], sizes[i]);
+    }
+    memset(found.marks, PAINT, sizeof found.marks);
+    found.planned = naxxurbi_clash(sheet, len, lent[TABLE], sizes[TABLE], lent[WORDS], sizes[WORDS], lent[SCRATCH], sizes[SCRATCH], found.marks);
+    propose(&found);
+    found.checked = naxxurbi_check_clash(sheet, len, found.rules, found.count, lent[TABLE], sizes[TABLE], lent[WORDS], sizes[WORDS],
+                                         lent[SCRATCH], sizes[SCRATCH]);
+    return found;
+}
+
+/* The same once more with everything fenced: whether answers, marks and slices are the same, and nothing around them was touched. */
+static int fought_the_same(const uint8_t *sheet, size_t len, const size_t sizes[SLICES], const struct fought *wanted, enum place place)
+{
+    struct fenced copy = fence_to_read(sheet, len, place), slices[RUN], marks;
+    struct fenced rules = fence_to_read(wanted->rules, wanted->count * sizeof wanted->rules[0], place);
+    static uint32_t old[sizeof lent[0] / sizeof lent[0][0]];
+    uint32_t planned, checked;
+    int same;
+    fill(old, sizeof old / sizeof old[0]);
+    marks = fence(old, sizeof wanted->marks, place);
+    for (size_t i = 0; i < RUN; i++) {
+        slices[i] = fence(old, sizes[i] * sizeof old[0], place);
+    }
+    planned = naxxurbi_clash(copy.at, len, numbers(slices[TABLE]), sizes[TABLE], numbers(slices[WORDS]), sizes[WORDS], numbers(slices[SCRATCH]),
+                             sizes[SCRATCH], marks.at);
+    checked = naxxurbi_check_clash(copy.at, len, numbers(rules), wanted->count, numbers(slices[TABLE]), sizes[TABLE], numbers(slices[WORDS]),
+                                   sizes[WORDS], numbers(slices[SCRATCH]), sizes[SCRATCH]);
+    same = planned == wanted->planned && checked == wanted->checked && memcmp(marks.at, wanted->marks, sizeof wanted->marks) == 0;
+    for (size_t i = 0; i < RUN; i++) {
+        same = same && (sizes[i] == 0 || memcmp(slices[i].at, lent[i], slices[i].len) == 0);
+        same = unfence(slices[i]) && same;
+    }
+    same = unfence(marks) && same;
+    unfence(rules);
+    unfence(copy);
+    return same;
+}
+
 /* What the reader and both checkers answer; and whether nothing around the two numbers of naxxurbi_read_place was touched. */
 struct answers {
     uint32_t read, read_place[2], run, strikes;
@@ -180,6 +240,12 @@ static void judged(const char *name, const size_t sizes[SLICES], const uint32_t 
         expect(name, "only the two numbers written", (uint32_t)found.clean, 1);
         expect(name, "run checked between fences", found.run, fault > 0 ? fault : kept ? ACCEPTED : NOT_ACCEPTED);
         expect(name, "strike list checked between fences", found.strikes, fault > 0 ? fault : cannot ? ACCEPTED : NOT_ACCEPTED);
+    }
+    struct fought fought = fight(made, made_len, sizes);
+    expect(name, "planned", fought.planned, fault > 0 ? fault : cannot ? 0 : wanted[ANSWER] == NO_ROOM ? CROWDED : SHORT_RUN);
+    expect(name, "the plan checked", fought.checked, fault > 0 ? fault : cannot ? ACCEPTED : wanted[ANSWER] == NO_ROOM ? CROWDED : NOT_ACCEPTED);
+    for (int place = 0; place < PLACES; place++) {
+        expect(name, "planned the same between fences", (uint32_t)fought_the_same(made, made_len, sizes, &fought, place), 1);
     }
 }
 
@@ -240,6 +306,15 @@ static void null_slices(void)
     naxxurbi_judge(NULL, 0, table, 2, marks, 2, scratch, 4, run, 2, out);
     expect("no sheet", "all lent", out[ANSWER], 1);
     expect("no sheet", "place", out[PLACE], 0);
+    uint8_t fighting[NAXXURBI_RULES] = {7};
+    expect(w4.name, "no rules", naxxurbi_check_clash(w4.bytes, w4.len, NULL, 0, table, 2, marks, 2, scratch, 4), NOT_ACCEPTED);
+    expect(w4.name, "no rules, nothing lent", naxxurbi_check_clash(w4.bytes, w4.len, NULL, 0, NULL, 0, NULL, 0, NULL, 0), CROWDED);
+    expect(w6.name, "no rules, nothing lent", naxxurbi_check_clash(w6.bytes, w6.len, NULL, 0, NULL, 0, NULL, 0, NULL, 0), ACCEPTED);
+    expect(w6.name, "planned, nothing lent", naxxurbi_clash(w6.bytes, w6.len, NULL, 0, NULL, 0, NULL, 0, fighting), ACCEPTED);
+    expect(w6.name, "planned, no mark", fighting[0], 0);
+    expect(w4.name, "planned, nothing lent", naxxurbi_clash(w4.bytes, w4.len, NULL, 0, NULL, 0, NULL, 0, fighting), CROWDED);
+    expect("no sheet", "planned, nothing lent", naxxurbi_clash(NULL, 0, NULL, 0, NULL, 0, NULL, 0, fighting), 1);
+    expect("no sheet", "a proposal, nothing lent", naxxurbi_check_clash(NULL, 0, NULL, 0, NULL, 0, NULL, 0, NULL, 0), 1);
     uint32_t found[2] = {OLD, OLD};
     naxxurbi_read_place(NULL, 0, found);
     expect("no sheet", "read with the place", found[0], 1);
@@ -276,8 +351,11 @@ static int all_say(const uint8_t *sheet, size_t len, const uint32_t fault[2], en
     struct answers found = read_and_check(sheet, len, 8, 8, 0, place);
     int read = found.clean && found.read == fault[0] && memcmp(found.read_place, fault, sizeof found.read_place) == 0;
     int checked = goes_with(found.run, fault[0]) && goes_with(found.strikes, fault[0]);
+    int judged = judged_the_same(sheet, len, sizes, place) && goes_with(out[ANSWER], fault[0]) && out[PLACE] == fault[1];
     int others = audited_the_same(sheet, len, fault[0], place) && taken_the_same(sheet, len, fault, place);
-    return judged_the_same(sheet, len, sizes, place) && goes_with(out[ANSWER], fault[0]) && out[PLACE] == fault[1] && read && checked && others;
+    struct fought fought = fight(sheet, len, sizes);
+    int planned = goes_with(fought.planned, fault[0]) && goes_with(fought.checked, fault[0]);
+    return judged && read && checked && others && planned && fought_the_same(sheet, len, sizes, &fought, place);
 }
 
 /* The length byte of W15's record that is not whole in the first `len` bytes, or `len` where that byte is missing. */

@@ -12,9 +12,9 @@
 #include "test.h"
 
 /* What the header states, in pages of 4,096 bytes (a class: the judge's); and how wide the fences are: a call may take all its stack at once. */
-enum { READ_PAGES = 1, RUN_PAGES = 2, STRIKES_PAGES = 4, AUDIT_PAGES = 4, JUDGE_PAGES = 208, FENCE = 4 << 20 };
+enum { READ_PAGES = 1, RUN_PAGES = 2, STRIKES_PAGES = 4, AUDIT_PAGES = 4, JUDGE_PAGES = 208, CLASH_PAGES = 208, FENCE = 4 << 20 };
 
-enum { STATES = 16384, MOMENTS = 262144 };
+enum { STATES = 16384, MOMENTS = 262144, KEPT = 12, CROWDED = 17 };
 
 static uint32_t table[STATES], words[STATES], scratch[2 * STATES], run[MOMENTS], out[5], answer;
 static uint8_t states_paper[4 * MOMENTS], words_paper[4 * STATES];
@@ -62,6 +62,31 @@ static void call_check_strikes(void)
 static void call_audit(void)
 {
     answer = naxxurbi_audit(made, made_len, account, log_states, sizeof log_states / sizeof log_states[0]);
+}
+
+static uint8_t marks[NAXXURBI_RULES];
+static uint32_t rules[NAXXURBI_RULES];
+static size_t rules_len;
+
+static void call_clash(void)
+{
+    answer = naxxurbi_clash(made, made_len, table, STATES, words, STATES, scratch, (size_t)2 * STATES, marks);
+}
+
+static void call_check_clash(void)
+{
+    answer = naxxurbi_check_clash(made, made_len, rules, rules_len, table, STATES, words, STATES, scratch, (size_t)2 * STATES);
+}
+
+/* The marked rules become the proposed ones. */
+static void propose(void)
+{
+    rules_len = 0;
+    for (uint32_t i = 0; i < NAXXURBI_RULES; i++) {
+        if (marks[i] != 0) {
+            rules[rules_len++] = i + 1;
+        }
+    }
 }
 
 /* Runs a call on a fenced stack of so many pages, painted beforehand, and gives back how many bytes are no longer paint. */
@@ -112,6 +137,9 @@ static void all_calls(const char *name, uint32_t judged)
     words_len = write_numbers(words_paper, words, judged == 0 ? 0 : out[1]);
     on_its_stack(name, "run checker", call_check_run, RUN_PAGES, judged == 0 ? ACCEPTED : NOT_ACCEPTED);
     on_its_stack(name, "strike checker", call_check_strikes, STRIKES_PAGES, judged == 13 ? ACCEPTED : NOT_ACCEPTED);
+    on_its_stack(name, "planner", call_clash, CLASH_PAGES, judged == 13 ? 0 : judged == 11 ? CROWDED : KEPT);
+    propose();
+    on_its_stack(name, "check of rules", call_check_clash, CLASH_PAGES, judged == 13 ? ACCEPTED : judged == 11 ? CROWDED : NOT_ACCEPTED);
 }
 
 /* The last literal of the longest sheet is no higher than the one before it: every call says 9, and those that tell a place byte 4,095. */
@@ -131,6 +159,8 @@ static void bad_sheet(void)
     expect(name, "judged bad in a class", of_class[0], BAD);
     on_its_stack(name, "run checker", call_check_run, RUN_PAGES, BAD);
     on_its_stack(name, "strike checker", call_check_strikes, STRIKES_PAGES, BAD);
+    on_its_stack(name, "planner", call_clash, CLASH_PAGES, BAD);
+    on_its_stack(name, "check of rules", call_check_clash, CLASH_PAGES, BAD);
 }
 
 int main(void)

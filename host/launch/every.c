@@ -1,7 +1,7 @@
 /*
  * Calls every exported function of the installed library once: reads W4, judges it, has the strike list checked, has W1's run checked, asks for
- * the place of a bad sheet's fault, audits a log of one state, takes W4 over a serial lead and judges it as a class of one.
- * host/launch/run compiles it with the flags of the installed naxxurbi.pc. Prints the answers.
+ * the place of a bad sheet's fault, audits a log of one state, takes W4 over a serial lead, judges it as a class of one, asks which of its rules
+ * fight and has that checked. host/launch/run compiles it with the flags of the installed naxxurbi.pc. Prints the answers.
  */
 #include <stdio.h>
 
@@ -19,15 +19,19 @@ int main(void) {
     naxxurbi_judge(w4, sizeof w4, table, 2, marks, 2, scratch, 4, sample, 4, out);
     naxxurbi_read_place(bad, sizeof bad, fault);
     uint32_t account[515] = {0}, log[] = {0}, state[2] = {0, 0}, closed[2], ends[] = {sizeof w4}, numbers[4];
-    uint8_t sheet[4096];
+    const uint32_t rules[] = {1, 2};
+    uint8_t sheet[4096], fighting[NAXXURBI_RULES];
     unsigned audited = (unsigned)naxxurbi_audit(w1, sizeof w1, account, log, 1);
     unsigned taken = (unsigned)naxxurbi_serial_take(state, sheet, w4, sizeof w4);
     naxxurbi_serial_close(state, sheet, closed);
     unsigned judged = (unsigned)naxxurbi_judge_class(w4, sizeof w4, ends, 1, table, 2, marks, 2, scratch, 4, sample, 4, numbers, 4);
+    unsigned planned = (unsigned)naxxurbi_clash(w4, sizeof w4, table, 2, marks, 2, scratch, 4, fighting);
+    unsigned checked = (unsigned)naxxurbi_check_clash(w4, sizeof w4, rules, 2, table, 2, marks, 2, scratch, 4);
     printf("read %u, judge %u %u, strikes %u, run %u, fault %u at %u, ", (unsigned)naxxurbi_read(w4, sizeof w4), (unsigned)out[0],
            (unsigned)out[1], (unsigned)naxxurbi_check_strikes(w4, sizeof w4, states, sizeof states, words, sizeof words),
            (unsigned)naxxurbi_check_run(w1, sizeof w1, run, sizeof run, 0), (unsigned)fault[0], (unsigned)fault[1]);
-    printf("audit %u %u, serial %u %u at %u, class %u %u %u\n", audited, (unsigned)account[0], taken, (unsigned)closed[0], (unsigned)closed[1], judged,
-           (unsigned)numbers[0], (unsigned)numbers[1]);
+    printf("audit %u %u, serial %u %u at %u, class %u %u %u, ", audited, (unsigned)account[0], taken, (unsigned)closed[0],
+           (unsigned)closed[1], judged, (unsigned)numbers[0], (unsigned)numbers[1]);
+    printf("clash %u %u %u %u, checked %u\n", planned, (unsigned)fighting[0], (unsigned)fighting[1], (unsigned)fighting[2], checked);
     return 0;
 }

@@ -7,6 +7,7 @@
 
 pub mod audit;
 pub mod checkers;
+pub mod clash;
 pub mod class;
 pub mod judge;
 pub mod reader;

@@ -6,7 +6,7 @@
 //! walks in vain unless it sees what is forced. The numbers of the letters say
 //! nothing, so each sheet comes in four orders and should cost the same in all.
 
-use crate::make::{add_one, counter, late_clash, literal, random_draft, Draft, Family, Rng};
+use crate::make::{add_one, counter, late_clash, list, literal, random_draft, Draft, Family, Rng};
 use crate::sheet::{self, Limit};
 use crate::source::{always, football, Team};
 
@@ -426,4 +426,44 @@ pub fn odd_clashes() -> Vec<Family> {
         Family { name, sheet: odd_clash(letters, limits, rules).bytes() }
     };
     vec![family(16, 2, 0), family(20, 2, 0), family(24, 2, 0), family(24, 32, 255)]
+}
+
+// ---------------------------------------------------------------------------
+// Rules of which two fight
+
+/// 24 letters and 255 step rules, of which the two with these numbers fight.
+///
+/// One of letters 1 to 8 holds, the mode. Letters 9 to 16 are free, and 17 to 24
+/// are their opposites: 2,048 lawful states, all of them first states. Letter 9
+/// is promised; of the two rules that fight, one says that it ends, the other
+/// that it does not come back.
+///
+/// Each other rule, drawn at random, asks for one of so many literals in some
+/// mode, mostly where some other letter holds or does not. One of them is true in
+/// two states that differ in letter 9 and its opposite alone. These can always
+/// follow, so the other rules can be kept with either of the two that fight.
+pub fn two_fight(fighting: [usize; 2], asked: usize) -> Draft {
+    const MODES: usize = 8;
+    let mut draft = Draft::new(24);
+    draft.exactly(1, (1..=MODES as i8).collect::<Vec<_>>()).promise(9);
+    for letter in 9..=16 {
+        draft.exactly(1, [letter, letter + 8]);
+    }
+    let rng = &mut Rng::new(5);
+    for number in 1..=255 {
+        if number == fighting[0] {
+            draft.step([9], [-9]);
+        } else if number == fighting[1] {
+            draft.step([-9], [-9]);
+        } else {
+            let (mode, other) = (rng.within(1, MODES) as i8, literal(rng, 24));
+            let left = if rng.once_in(4) { vec![mode] } else { vec![mode, other] };
+            // In the two states the mode is 1, and none of letters 10 to 16 holds.
+            let letter = *rng.pick(&[-1, 10, 11, 12, 13, 14, 15, 16]);
+            let mut right = list(rng, 24, asked - 1);
+            right.push(-letter);
+            draft.step(left, right);
+        }
+    }
+    draft
 }

@@ -3,7 +3,7 @@
 use crate::graph::{explore, Graph, Spot, MOST_STATES};
 use crate::list::Lister;
 use crate::rules::Rules;
-use crate::sheet;
+use crate::sheet::{self, Sheet};
 use crate::strike::{strike, Strikes};
 use crate::walk::walk;
 
@@ -38,13 +38,24 @@ pub fn judge(
     scratch: &mut [u32],
     run: &mut [u32],
 ) -> Answer {
-    let rules = match sheet::read(sheet) {
-        Ok(sheet) => Rules::new(&sheet),
+    match sheet::read(sheet) {
+        Ok(sheet) => judge_good(&sheet, table, words, scratch, run),
         Err(fault) => {
             let place = fault.place as u32;
-            return Answer { answer: fault.number, place, ..Answer::default() };
+            Answer { answer: fault.number, place, ..Answer::default() }
         }
-    };
+    }
+}
+
+/// Judges a sheet that has been read.
+pub(crate) fn judge_good(
+    sheet: &Sheet,
+    table: &mut [u32],
+    words: &mut [u32],
+    scratch: &mut [u32],
+    run: &mut [u32],
+) -> Answer {
+    let rules = Rules::new(sheet);
     table.fill(0);
     words.fill(0);
     scratch.fill(0);

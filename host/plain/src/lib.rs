@@ -10,6 +10,7 @@
 //! | [`list`]     | lists lawful, first and next states in ascending order           |
 //! | [`judge`]    | the judge: "can be kept" with a run, "cannot" with a strike list |
 //! | [`class`]    | up to 32 joined sheets judged in turn                            |
+//! | [`clash`]    | which step rules fight: the check of a choice, and a planner     |
 //! | [`check`]    | the checkers of runs and of strike lists                         |
 //! | [`audit`]    | the auditor of recorded logs                                     |
 //! | [`serial`]   | sheets that come in pieces over a serial lead                    |
@@ -27,6 +28,7 @@
 pub mod audit;
 pub mod brute;
 pub mod check;
+pub mod clash;
 pub mod class;
 pub mod edges;
 pub mod families;

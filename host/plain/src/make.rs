@@ -157,7 +157,7 @@ pub(crate) fn literal(rng: &mut Rng, letters: u8) -> i8 {
 }
 
 /// About `size` literals; the same letter may come both ways.
-fn list(rng: &mut Rng, letters: u8, size: usize) -> Vec<i8> {
+pub(crate) fn list(rng: &mut Rng, letters: u8, size: usize) -> Vec<i8> {
     (0..size).map(|_| literal(rng, letters)).collect()
 }
 

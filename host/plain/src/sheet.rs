@@ -100,6 +100,12 @@ impl Sheet {
             .map(|&(left, right)| Step { left: self.list(left), right: self.list(right) })
     }
 
+    /// The same sheet with only the step rules of these numbers, counted from 1.
+    pub fn with_steps(&self, numbers: &[usize]) -> Sheet {
+        let steps = numbers.iter().map(|&number| self.steps[number - 1]).collect();
+        Sheet { steps, ..self.clone() }
+    }
+
     /// The promises in the sheet's order; promise i stands at i - 1.
     pub fn promises(&self) -> &[i8] {
         &self.promises

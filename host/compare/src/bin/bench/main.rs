@@ -13,6 +13,7 @@ mod auditing;
 mod checking;
 mod clock;
 mod counting;
+mod fighting;
 mod judging;
 mod orders;
 mod plot;
@@ -165,6 +166,7 @@ fn main() -> std::io::Result<()> {
     tables.extend(orders::tables(&only));
     tables.push(auditing::table(&only));
     tables.push(counting::table(&only));
+    tables.push(fighting::table(&only));
     tables.retain(|table| !table.rows.is_empty());
     let on = std::env::var("MEASURED_ON").map_or(String::new(), |words| words + "\n\n");
     let text = on + &tables.iter().map(markdown).collect::<Vec<_>>().join("\n");

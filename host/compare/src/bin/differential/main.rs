@@ -7,6 +7,7 @@
 
 mod audit;
 mod checkers;
+mod clash;
 mod class;
 mod judge;
 mod reader;
@@ -146,6 +147,8 @@ const SUITES: &[Suite] = &[
     ("sheets in four orders", written::orders),
     // Random classes, whole and with disturbed ends.
     ("class", class::suite),
+    // Sheets whose rules fight, with much room and little; proposals of every kind.
+    ("clash", clash::suite),
 ];
 
 fn main() {

@@ -1,0 +1,94 @@
+//! Which step rules fight: the trials of document 02's planner, one by one with the proved judge, so that each can be told.
+//!
+//! What comes out is a proposal. Whoever shows it puts it to the proved check first.
+
+use crate::bytes;
+use crate::input::Source;
+use crate::proved::Room;
+
+/// The judge's answers to a sheet, lent no room for a run.
+const MORE_STATES: u32 = 11;
+const CAN_BE_KEPT: u32 = 12;
+const CANNOT_BE_KEPT: u32 = 13;
+
+/// Where the trials ended. Rules are counted from 0.
+#[derive(Clone, Debug, PartialEq, Eq)]
+pub enum Plan {
+    /// The whole sheet can be kept.
+    Kept,
+    /// More states can be reached than there is room for, in this trial.
+    Crowded(Trial),
+    /// With these rules alone the sheet cannot be kept, and with each single one left out it can.
+    Fight(Vec<usize>),
+}
+
+/// A sheet that was tried: without the rules dropped so far, and without one more.
+#[derive(Clone, Debug, PartialEq, Eq)]
+pub struct Trial {
+    /// The rules dropped so far, the first of them first.
+    pub dropped: Vec<usize>,
+    /// The rule left out besides; none in the trial of the whole sheet.
+    pub left_out: Option<usize>,
+}
+
+/// How far the trials are.
+#[derive(Clone, Copy, Debug)]
+pub enum Stage {
+    /// From the last rule to the first: this rule of so many, both counted from 1.
+    Dropping(usize, usize),
+    /// Each rule of the choice left out by itself: this one of so many, both counted from 1.
+    LeavingOut(usize, usize),
+}
+
+/// Drops rules from the last to the first wherever the sheet still cannot be kept, then tries the choice with each rule left out. Tells each
+/// of these trials before it is made.
+pub fn plan(source: &Source, room: &mut Room, tell: &mut impl FnMut(Stage)) -> Plan {
+    match room.answer(&source.bytes) {
+        MORE_STATES => Plan::Crowded(Trial { dropped: Vec::new(), left_out: None }),
+        CAN_BE_KEPT => Plan::Kept,
+        _ => match needed(source, room, tell).and_then(|chosen| each_left_out(source, chosen, room, tell)) {
+            Ok(chosen) => Plan::Fight(chosen),
+            Err(trial) => Plan::Crowded(trial),
+        },
+    }
+}
+
+/// The rules that are left when each, from the last to the first, is dropped wherever the rest cannot be kept; or the trial without room.
+fn needed(source: &Source, room: &mut Room, tell: &mut impl FnMut(Stage)) -> Result<Vec<usize>, Trial> {
+    let rules = source.sheet.steps.len();
+    let mut chosen: Vec<usize> = (0..rules).collect();
+    for rule in (0..rules).rev() {
+        tell(Stage::Dropping(rule + 1, rules));
+        if answer_without(source, &chosen, rule, room)? == CANNOT_BE_KEPT {
+            chosen = without(&chosen, rule);
+        }
+    }
+    Ok(chosen)
+}
+
+/// The same choice, if there is room to judge it with each rule left out. With fewer of the other rules than before, a rule that was needed
+/// is needed still, but more states may be reached.
+fn each_left_out(source: &Source, chosen: Vec<usize>, room: &mut Room, tell: &mut impl FnMut(Stage)) -> Result<Vec<usize>, Trial> {
+    for (at, &rule) in chosen.iter().enumerate() {
+        tell(Stage::LeavingOut(at + 1, chosen.len()));
+        answer_without(source, &chosen, rule, room)?;
+    }
+    Ok(chosen)
+}
+
+/// The judge's answer for the chosen rules without this one, or the trial if there is no room.
+fn answer_without(source: &Source, chosen: &[usize], rule: usize, room: &mut Room) -> Result<u32, Trial> {
+    let sheet = source.sheet.with_steps(&without(chosen, rule));
+    match room.answer(&bytes::write(&sheet)) {
+        MORE_STATES => {
+            let dropped = (0..source.sheet.steps.len()).filter(|other| !chosen.contains(other)).collect();
+            Err(Trial { dropped, left_out: Some(rule) })
+        }
+        answer => Ok(answer),
+    }
+}
+
+/// A choice without this rule.
+pub fn without(chosen: &[usize], rule: usize) -> Vec<usize> {
+    chosen.iter().copied().filter(|&other| other != rule).collect()
+}

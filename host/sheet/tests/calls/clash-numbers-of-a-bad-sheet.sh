@@ -1,0 +1,1 @@
+sheet clash --numbers examples/bad-07.sheet

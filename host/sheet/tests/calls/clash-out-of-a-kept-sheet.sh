@@ -1,0 +1,1 @@
+sheet clash examples/clock-mended.txt --out "$scratch/none.txt"; status=$?; [ ! -e "$scratch/none.txt" ] && exit "$status"

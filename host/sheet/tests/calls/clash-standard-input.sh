@@ -1,0 +1,1 @@
+sheet clash - <examples/w04.sheet

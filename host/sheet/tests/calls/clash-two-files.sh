@@ -1,0 +1,1 @@
+sheet clash examples/clock.txt examples/w04.txt

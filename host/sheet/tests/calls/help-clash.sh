@@ -1,0 +1,1 @@
+sheet clash --help
