@@ -51,6 +51,14 @@ pub fn shown(file: &str) -> String {
     }
 }
 
+/// Do two names stand for one file that is there?
+pub fn is_same_file(one: &str, other: &str) -> bool {
+    match (std::fs::canonicalize(one), std::fs::canonicalize(other)) {
+        (Ok(one), Ok(other)) => one == other,
+        _ => false,
+    }
+}
+
 /// Opens a file, or standard input for `-`.
 pub fn open(file: &str) -> Result<Box<dyn Read>, Trouble> {
     if file == "-" {

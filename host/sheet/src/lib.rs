@@ -15,6 +15,7 @@ pub mod model;
 pub mod out;
 pub mod paper;
 pub mod picture;
+pub mod plan;
 pub mod proved;
 pub mod story;
 pub mod text;

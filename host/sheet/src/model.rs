@@ -84,6 +84,12 @@ impl Sheet {
         self.names.len() <= usize::from(MOST_LETTERS) && state >> self.names.len() == 0
     }
 
+    /// The sheet with only these step rules, counted from 0.
+    pub fn with_steps(&self, chosen: &[usize]) -> Sheet {
+        let steps = chosen.iter().map(|&step| self.steps[step].clone()).collect();
+        Sheet { steps, ..self.clone() }
+    }
+
     /// The first limit, counted from 0, that does not hold in the state.
     pub fn broken_limit(&self, state: State) -> Option<usize> {
         self.limits.iter().position(|limit| !limit.holds(state))

@@ -2,6 +2,7 @@
 
 use crate::answers::{BAD, GOOD};
 use std::io::{ErrorKind, IsTerminal, Write};
+use std::time::{Duration, Instant};
 
 /// Whether colours are wanted.
 #[derive(Clone, Copy, Debug)]
@@ -78,6 +79,16 @@ impl Page {
         }
     }
 
+    /// Writes a result's bytes to a file; `-` prints them.
+    pub fn write_to(&mut self, file: &str, bytes: &[u8]) {
+        if file == "-" {
+            self.write(bytes);
+        } else if let Err(error) = std::fs::write(file, bytes) {
+            self.say(&format!("{file}: cannot be written: {error}\n"));
+            self.raise(BAD);
+        }
+    }
+
     /// Writes a message. Where nobody takes messages, there is nobody to tell.
     pub fn say(&mut self, text: &str) {
         let _ = std::io::stderr().lock().write_all(text.as_bytes());
@@ -110,5 +121,31 @@ impl Page {
     pub fn trouble(&mut self, trouble: &crate::input::Trouble) {
         self.say(&trouble.message);
         self.raise(trouble.status);
+    }
+}
+
+/// Tells how far a verb is, once a second, from its second second on.
+pub struct Progress {
+    last: Instant,
+}
+
+impl Progress {
+    /// A verb begins.
+    pub fn new() -> Progress {
+        Progress { last: Instant::now() }
+    }
+
+    /// Says this line, made only if it is said.
+    pub fn tell(&mut self, page: &mut Page, line: impl FnOnce() -> String) {
+        if self.last.elapsed() >= Duration::from_secs(1) {
+            self.last = Instant::now();
+            page.say(&(line() + "\n"));
+        }
+    }
+}
+
+impl Default for Progress {
+    fn default() -> Progress {
+        Progress::new()
     }
 }

@@ -44,10 +44,35 @@ extern "C" {
         numbers_len: usize,
     ) -> u32;
     fn naxxurbi_audit(sheet: *const u8, sheet_len: usize, account: *mut [u32; ACCOUNT], states: *const u32, states_len: usize) -> u32;
+    fn naxxurbi_check_clash(
+        sheet: *const u8,
+        sheet_len: usize,
+        rules: *const u32,
+        rules_len: usize,
+        table: *mut u32,
+        table_len: usize,
+        words: *mut u32,
+        words_len: usize,
+        scratch: *mut u32,
+        scratch_len: usize,
+    ) -> u32;
+    fn naxxurbi_clash(
+        sheet: *const u8,
+        sheet_len: usize,
+        table: *mut u32,
+        table_len: usize,
+        words: *mut u32,
+        words_len: usize,
+        scratch: *mut u32,
+        scratch_len: usize,
+        marks: *mut [u8; RULES],
+    ) -> u32;
 }
 
+/// The most step rules of a sheet: so many marks the planner sets.
+const RULES: usize = 255;
 /// How many tallies of kept moves, and of broken moves, an account has.
-const TALLIES: usize = 255;
+const TALLIES: usize = RULES;
 /// How many numbers an account is.
 const ACCOUNT: usize = 5 + 2 * TALLIES;
 
@@ -169,9 +194,77 @@ pub fn audit(sheet: &[u8], account: &mut Account, states: &[u32]) -> u32 {
     unsafe { naxxurbi_audit(sheet.as_ptr(), sheet.len(), &mut account.0, states.as_ptr(), states.len()) }
 }
 
+/// What is lent to the judge beside a run: all the room that there can be.
+pub struct Room {
+    table: Vec<u32>,
+    words: Vec<u32>,
+    scratch: Vec<u32>,
+}
+
+impl Room {
+    /// All the room.
+    pub fn new() -> Room {
+        Room { table: vec![0; MOST_STATES], words: vec![0; MOST_STATES], scratch: vec![0; 2 * MOST_STATES] }
+    }
+
+    /// The judge's answer for a sheet, with no room for a run: 12 if it can be kept, 13 if it cannot, 11 if there is no room to say.
+    pub fn answer(&mut self, sheet: &[u8]) -> u32 {
+        judge_in(sheet, &mut self.table, &mut self.words, &mut self.scratch, &mut []).answer
+    }
+
+    /// Checks whether step rules, counted from 1, fight: 0 if they do, 14 if not, 17 without room, 1 to 10 for a bad sheet.
+    pub fn check_clash(&mut self, sheet: &[u8], rules: &[u32]) -> u32 {
+        let Room { table, words, scratch } = self;
+        // SAFETY: the call reads `sheet_len` bytes and `rules_len` numbers, and reads and writes as many numbers of each other slice as its
+        // length says; the slices do not overlap, for each that is written is borrowed alone.
+        unsafe {
+            naxxurbi_check_clash(
+                sheet.as_ptr(),
+                sheet.len(),
+                rules.as_ptr(),
+                rules.len(),
+                table.as_mut_ptr(),
+                table.len(),
+                words.as_mut_ptr(),
+                words.len(),
+                scratch.as_mut_ptr(),
+                scratch.len(),
+            )
+        }
+    }
+
+    /// The proved planner's answer, and the step rules that it marks, counted from 1.
+    pub fn clash(&mut self, sheet: &[u8]) -> (u32, Vec<u32>) {
+        let Room { table, words, scratch } = self;
+        let mut marks = [u8::MAX; RULES];
+        // SAFETY: the call reads `sheet_len` bytes, reads and writes as many numbers of each slice as its length says, and writes the marks;
+        // the slices do not overlap, for each is borrowed alone.
+        let answer = unsafe {
+            naxxurbi_clash(
+                sheet.as_ptr(),
+                sheet.len(),
+                table.as_mut_ptr(),
+                table.len(),
+                words.as_mut_ptr(),
+                words.len(),
+                scratch.as_mut_ptr(),
+                scratch.len(),
+                &mut marks,
+            )
+        };
+        (answer, (1..).zip(marks).filter(|&(_, mark)| mark != 0).map(|(rule, _)| rule).collect())
+    }
+}
+
+impl Default for Room {
+    fn default() -> Room {
+        Room::new()
+    }
+}
+
 /// Judges a sheet with all the room that there can be. A run that needs more room than was lent is asked for again.
 pub fn judge(sheet: &[u8]) -> Judged {
-    let (mut table, mut words, mut scratch) = (vec![0; MOST_STATES], vec![0; MOST_STATES], vec![0; 2 * MOST_STATES]);
+    let Room { mut table, mut words, mut scratch } = Room::new();
     let mut run = vec![0; MOST_STATES];
     let mut numbers = judge_in(sheet, &mut table, &mut words, &mut scratch, &mut run);
     if numbers.answer == 12 {
@@ -217,7 +310,7 @@ const CLASS_NUMBERS: usize = 4;
 
 /// Judges many sheets, in calls of up to 32, with all the room that there can be: answer, count, a and b of each.
 pub fn judge_class(sheets: &[&[u8]]) -> Vec<[u32; CLASS_NUMBERS]> {
-    let (mut table, mut words, mut scratch) = (vec![0; MOST_STATES], vec![0; MOST_STATES], vec![0; 2 * MOST_STATES]);
+    let Room { mut table, mut words, mut scratch } = Room::new();
     let mut run = vec![0; MOST_MOMENTS];
     let mut judged = Vec::new();
     for class in sheets.chunks(CLASS_SHEETS) {

@@ -11,19 +11,22 @@ use sheet::explain;
 use sheet::input::Source;
 use sheet::paper::{self, Paper};
 use sheet::picture::graph::explore;
+use sheet::plan::{plan, Plan};
+use sheet::proved::Room;
 use sheet::text::{names, parse, print};
 use sheet::{bytes, proved};
 
 /// A part of the test: so many sheets; what is wrong, if something is.
 type Part = (&'static str, fn(&mut Rng, usize) -> Result<String, String>);
 
-const PARTS: [Part; 6] = [
+const PARTS: [Part; 7] = [
     ("bytes to text and back", round_trip),
     ("damaged text", damaged_text),
     ("damaged bytes", damaged_bytes),
     ("papers to text and back", papers),
     ("reasons against papers", reasons),
     ("states struck in pictures", pictures),
+    ("rules that fight", fights),
 ];
 
 fn main() {
@@ -280,4 +283,31 @@ fn pictures(rng: &mut Rng, sheets: usize) -> Result<String, String> {
         return Err(format!("saw {seen:?}"));
     }
     Ok(format!("{} sheets that cannot be kept, {} that can", seen[0], seen[1]))
+}
+
+/// The rules that the command finds are those that the proved planner marks, and the proved check accepts them.
+fn fights(rng: &mut Rng, sheets: usize) -> Result<String, String> {
+    let mut room = Room::new();
+    let mut seen = [0; 3];
+    for _ in 0..sheets / 100 {
+        let source = source(rng, 6);
+        let plan = plan(&source, &mut room, &mut |_| ());
+        let (answer, marked) = room.clash(&source.bytes);
+        let same = match &plan {
+            Plan::Kept => answer == 12 && marked.is_empty(),
+            Plan::Crowded(_) => false,
+            Plan::Fight(chosen) => {
+                let found: Vec<u32> = chosen.iter().map(|&rule| rule as u32 + 1).collect();
+                answer == 0 && marked == found && room.check_clash(&source.bytes, &found) == 0
+            }
+        };
+        if !same {
+            return Err(format!("{plan:?}, but the planner answers {answer} {marked:?}\n{}", print::print(&source.sheet)));
+        }
+        seen[if answer == 12 { 0 } else { 1 + usize::from(!marked.is_empty()) }] += 1;
+    }
+    if seen.contains(&0) {
+        return Err(format!("saw {seen:?}"));
+    }
+    Ok(format!("{} sheets that can be kept, {} without a rule that fights, {} with some", seen[0], seen[1], seen[2]))
 }

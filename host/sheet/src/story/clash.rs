@@ -76,7 +76,8 @@ pub fn sentence(sheet: &Sheet, demands: &[Demand], margin: &str) -> String {
     format!("{margin}{said}\n")
 }
 
-fn capital(text: &str) -> String {
+/// The text with a capital in front.
+pub fn capital(text: &str) -> String {
     text[..1].to_uppercase() + &text[1..]
 }
 

@@ -1,6 +1,7 @@
 //! The judge's papers in words.
 
 pub mod clash;
+pub mod fight;
 pub mod run;
 pub mod strikes;
 

@@ -5,11 +5,10 @@ use crate::call::{Call, Choice};
 use crate::input::{self, Source, Trouble};
 use crate::log::read::{Form, Log};
 use crate::log::told::{self, Breach};
-use crate::out::Page;
+use crate::out::{Page, Progress};
 use crate::proved::{self, Account};
 use crate::story::count;
 use crate::verbs::Verb;
-use std::time::{Duration, Instant};
 
 /// The verb.
 pub const VERB: Verb = Verb {
@@ -68,17 +67,17 @@ fn act(call: &Call, page: &mut Page) -> Result<(), String> {
 fn audit(source: &Source, mut log: Log, name: &str, page: &mut Page) -> Result<(Account, Option<Breach>), Trouble> {
     let (mut account, mut breach, mut progress) = (Account::new(), None, Progress::new());
     while let Some(states) = log.piece()? {
-        let (count, last) = (account.count() as usize, account.last());
+        let (read, last) = (account.count() as usize, account.last());
         let answer = proved::audit(&source.bytes, &mut account, &states);
         if answer != 0 {
             return Err(refused(name, answer));
         }
         if breach.is_none() && account.what() != 0 {
-            let at = account.moment() as usize - count;
-            let before = if at > 0 { Some(states[at - 1]) } else { (count > 0).then_some(last) };
+            let at = account.moment() as usize - read;
+            let before = if at > 0 { Some(states[at - 1]) } else { (read > 0).then_some(last) };
             breach = Some(Breach { before, state: states[at] });
         }
-        progress.tell(&account, page);
+        progress.tell(page, || format!("audit: {} so far", count(account.count() as usize, "moment")));
     }
     if account.count() == 0 {
         return Err(Trouble::new(format!("{name}: the log is empty; there is no moment to audit")));
@@ -93,22 +92,4 @@ fn refused(name: &str, answer: u32) -> Trouble {
         _ => format!("the audit refuses the sheet (answer {answer})"),
     };
     Trouble { answer: Some(answer), status: BAD, ..Trouble::new(format!("{name}: {said}")) }
-}
-
-/// Tells how far the audit is, once a second, from its second second on.
-struct Progress {
-    last: Instant,
-}
-
-impl Progress {
-    fn new() -> Progress {
-        Progress { last: Instant::now() }
-    }
-
-    fn tell(&mut self, account: &Account, page: &mut Page) {
-        if self.last.elapsed() >= Duration::from_secs(1) {
-            self.last = Instant::now();
-            page.say(&format!("audit: {} so far\n", count(account.count() as usize, "moment")));
-        }
-    }
 }

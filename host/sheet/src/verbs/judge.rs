@@ -41,7 +41,7 @@ fn act(call: &Call, page: &mut Page) -> Result<(), String> {
     if call.files.iter().filter(|file| *file == "-").count() > 1 {
         return Err("standard input can be read once".to_string());
     }
-    if call.value("--paper").is_some_and(|paper| is_same_file(paper, &call.files[0])) {
+    if call.value("--paper").is_some_and(|paper| input::is_same_file(paper, &call.files[0])) {
         return Err("--paper would write over the sheet".to_string());
     }
     for (at, file) in call.files.iter().enumerate() {
@@ -61,14 +61,6 @@ fn act(call: &Call, page: &mut Page) -> Result<(), String> {
         }
     }
     Ok(())
-}
-
-/// Do two names stand for one file that is there?
-fn is_same_file(one: &str, other: &str) -> bool {
-    match (std::fs::canonicalize(one), std::fs::canonicalize(other)) {
-        (Ok(one), Ok(other)) => one == other,
-        _ => false,
-    }
 }
 
 /// Judges one sheet.
@@ -137,11 +129,5 @@ fn write_paper(source: &Source, judged: Judged, file: &str, numbers: bool, page:
             return;
         }
     };
-    let text = print::print(&source.sheet, &paper, numbers);
-    if file == "-" {
-        page.print(&text);
-    } else if let Err(error) = std::fs::write(file, text) {
-        page.say(&format!("{file}: cannot be written: {error}\n"));
-        page.raise(crate::answers::BAD);
-    }
+    page.write_to(file, print::print(&source.sheet, &paper, numbers).as_bytes());
 }

@@ -2,6 +2,7 @@
 
 pub mod audit;
 pub mod check;
+pub mod clash;
 pub mod class;
 pub mod draw;
 pub mod judge;
@@ -30,8 +31,7 @@ pub struct Verb {
 }
 
 /// Every verb.
-pub const ALL: [&Verb; 7] =
-    [&write::VERB, &read::VERB, &judge::VERB, &class::VERB, &check::VERB, &audit::VERB, &draw::VERB];
+pub const ALL: [&Verb; 8] = [&write::VERB, &read::VERB, &judge::VERB, &clash::VERB, &class::VERB, &check::VERB, &audit::VERB, &draw::VERB];
 
 impl Verb {
     /// Its own options, then those of every verb.
