@@ -17,6 +17,7 @@ use Rattle.meaning.specs.Rules.{lawful, firstState, moves, every, stepHolds, al
 use Rattle.meaning.specs.System.{Run, Obeys}
 use Rattle.meaning.specs.Papers.{RunAccepted, reading}
 use Rattle.meaning.proofs.Lasso.{run-accepted-exactly}
+use Rattle.rules.proofs.Counting.{split-count, count-within}
 use Rattle.audit.specs.Account.{
   Account,
   AccountOf,
@@ -33,7 +34,6 @@ use Rattle.audit.specs.Account.{
   stateAt,
   whatAt,
   ruleAt,
-  howMany,
   asks,
   keeps,
   breaks,
@@ -86,30 +86,11 @@ account-unique sheet log {account} {other} a b =
 
 -- ---- tallies
 
--- a sum of two tests counts as both
-sum-many : (f g h : ℕ → Bool) → ((i : ℕ) → cond (f i) 1 0 ≡ cond (g i) 1 0 + cond (h i) 1 0) → (n : ℕ) → howMany f n ≡ howMany g n + howMany h n
-unfolding howMany
-sum-many f g h each zero = refl
-sum-many f g h each (suc n) =
-    regroup (cond (f n) 1 0) (cond (g n) 1 0) (cond (h n) 1 0) (howMany f n) (howMany g n) (howMany h n) (each n) (sum-many f g h each n)
-  where
-    regroup : (a b c d e i : ℕ) → a ≡ b + c → d ≡ e + i → d + a ≡ (e + b) + (i + c)
-    regroup a b c d e i p q = omega arith
-
--- no more pass than there are
-many-within : (f : ℕ → Bool) (n : ℕ) → howMany f n ≤ n
-unfolding howMany
-many-within f zero = omega arith
-many-within f (suc n) = by (f n) (many-within f n)
-  where
-    by : (b : Bool) → howMany f n ≤ n → howMany f n + cond b 1 0 ≤ suc n
-    by true h = omega arith
-    by false h = omega arith
-
 -- "kept plus broken equals the moves whose earlier state made that left side true"
 pub kept-and-broken : (log : List ℕ) (rule : StepRule) → tallyOf keeps log rule + tallyOf breaks log rule ≡ tallyOf asks log rule
 unfolding tallyOf keeps breaks
-kept-and-broken log rule = sym (sum-many (asks rule log) (keeps rule log) (breaks rule log) (λ i. split (asks rule log i) (someTrue (stateAt log (suc i)) (rule .right))) (movesOf log))
+kept-and-broken log rule =
+    sym (split-count (asks rule log) (keeps rule log) (breaks rule log) (movesOf log) (λ i. split (asks rule log i) (someTrue (stateAt log (suc i)) (rule .right))))
   where
     split : (a b : Bool) → cond a 1 0 ≡ cond (a && b) 1 0 + cond (a && not b) 1 0
     split true true = refl
@@ -119,7 +100,7 @@ kept-and-broken log rule = sym (sum-many (asks rule log) (keeps rule log) (break
 -- No tally is above the number of moments.
 pub tally-within : (test : StepRule → List ℕ → ℕ → Bool) (log : List ℕ) (rule : StepRule) → tallyOf test log rule ≤ length log
 unfolding tallyOf movesOf
-tally-within test log rule = omega (arith, many-within (test rule log) (length log - 1))
+tally-within test log rule = omega (arith, count-within (test rule log) (length log - 1))
 
 -- So it is with every place of the tallies.
 pub tallies-within : (test : StepRule → List ℕ → ℕ → Bool) (sheet : Sheet) (log : List ℕ) (i : ℕ) → getD (talliesOf test sheet log) i 0 ≤ length log

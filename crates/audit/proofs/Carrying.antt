@@ -6,6 +6,7 @@ use mathlib.Core.Logic.{_⊎_, inl, inr}
 use mathlib.Core.Bool.{Bool, true, false, cond, not, _&&_}
 use mathlib.Core.List.{List, [], _∷_, _++_, map, append-assoc, append-nil}
 use Prim.Native.Nat.{ℕ, zero, suc, _+_, _-_, _≤_, _<_}
+use native.Mathlib.Nat.{add-comm}
 use native.Mathlib.Decide.{decLt, ℕ-discrete}
 use native.Mathlib.Omega.{arith}
 use borrow.Author.Tests.{eqb-true, eqb-false, eq-eqb, ne-eqb}
@@ -14,6 +15,8 @@ use lib.ListN.{length, getD, replicate, length-append, List·getD-append}
 use lib.Seq.{getD-append-seam}
 use Rattle.meaning.specs.Sheet.{Sheet, StepRule}
 use Rattle.meaning.specs.Rules.{allTrue, someTrue}
+use Rattle.rules.specs.Book.{howMany}
+use Rattle.rules.proofs.Counting.{same-count}
 use Rattle.audit.specs.Account.{
   Account,
   AccountOf,
@@ -26,7 +29,6 @@ use Rattle.audit.specs.Account.{
   stateAt,
   whatAt,
   ruleAt,
-  howMany,
   asks,
   keeps,
   breaks,
@@ -94,13 +96,6 @@ rule-new sheet log t (suc n) e =
 
 -- ---- tallies
 
--- tests that are equal below n pass as often
-pub same-many : {f g : ℕ → Bool} (n : ℕ) → ((i : ℕ) → i < n → f i ≡ g i) → howMany f n ≡ howMany g n
-unfolding howMany
-same-many zero same = refl
-same-many (suc n) same =
-    ap₂ _+_ (same-many n (λ i h. same i (omega arith))) (ap (λ (b : Bool). cond b 1 0) (same n (omega arith)))
-
 -- a rule's test of a move, on its earlier and its later state
 abbrev Moving : Type 0
 Moving = StepRule → (s t : ℕ) → Bool
@@ -112,7 +107,7 @@ along g rule log i = g rule (stateAt log i) (stateAt log (suc i))
 -- the move into the new state is counted, if there is one
 tally-new : (g : Moving) (rule : StepRule) (log : List ℕ) (t n : ℕ) → length log ≡ n
     → tallyOf (along g) (log ++ t ∷ []) rule ≡ tallyOf (along g) log rule + cond (not (eqb n 0) && g rule (lastOf log) t) 1 0
-unfolding tallyOf howMany movesOf
+unfolding tallyOf movesOf
 tally-new g rule log t zero e =
     let now : length (log ++ t ∷ []) - 1 ≡ 0 = omega (arith, length-one-more log t) in
     let was : length log - 1 ≡ 0 = omega arith in
@@ -122,8 +117,9 @@ tally-new g rule log t (suc n) e =
     let was : length log - 1 ≡ n = omega arith in
     let some : eqb (suc n) 0 ≡ false = ne-eqb (suc n) 0 (λ z. omega arith) in
     ap (howMany (along g rule (log ++ t ∷ []))) now
+    ∙ add-comm _ (howMany (along g rule (log ++ t ∷ [])) n)
     ∙ ap₂ _+_
-    (same-many n (λ i h. ap₂ (g rule) (state-before log t i (omega arith)) (state-before log t (suc i) (omega arith)))
+    (same-count n (λ i h. ap₂ (g rule) (state-before log t i (omega arith)) (state-before log t (suc i) (omega arith)))
     ∙ ap (howMany (along g rule log)) (sym was))
     (ap (λ (b : Bool). cond b 1 0)
     (ap₂ (g rule) (last-before log t n e) (state-new log t (suc n) e)
@@ -275,7 +271,7 @@ carried-account sheet log account (t ∷ piece) a =
 
 -- The empty account is that of the empty log, if the sheet has at most 255 step rules (as every sheet has: a byte counts them).
 pub empty-account : (sheet : Sheet) → length (sheet .steps) ≤ mostTallies → AccountOf sheet [] empty
-unfolding empty talliesOf tallyOf howMany movesOf lastOf stateAt
+unfolding empty talliesOf tallyOf movesOf lastOf stateAt
 empty-account sheet few = record {
   count-is = refl;
   last-is = refl;

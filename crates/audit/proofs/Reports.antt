@@ -24,6 +24,8 @@ use Rattle.meaning.specs.Promises.{systemIn, Lent, Outcome, Judged}
 use Rattle.meaning.proofs.Demands.{kept-hands-over, kept-run-accepted, fault-number}
 use Rattle.meaning.proofs.Promised.{bad-not-good}
 use Rattle.reader.proofs.Good.{names-letter, good-header, step-good, step-record, step-at, steps-count}
+use Rattle.rules.specs.Book.{howMany}
+use Rattle.rules.proofs.Counting.{same-count}
 use Rattle.audit.specs.Account.{
   Account,
   AccountOf,
@@ -31,7 +33,6 @@ use Rattle.audit.specs.Account.{
   nothing,
   firstBroken,
   stateAt,
-  howMany,
   asks,
   keeps,
   breaks,
@@ -40,7 +41,7 @@ use Rattle.audit.specs.Account.{
   talliesOf,
 }
 use Rattle.audit.specs.Carry.{carried, empty, mostMoments, Past, Audited, faulty, past, done}
-use Rattle.audit.proofs.Carrying.{same-many, carried-account, empty-account}
+use Rattle.audit.proofs.Carrying.{carried-account, empty-account}
 use Rattle.audit.proofs.Accounts.{kept-and-broken, clean-exactly, accepted-clean}
 use Rattle.audit.proofs.Audits.{Calls, joined, refused-by-length-only}
 
@@ -222,7 +223,7 @@ tally-low : (n : ℕ) (g : StepRule → ℕ → ℕ → Bool) (rule : StepRule) 
 unfolding tallyOf movesOf
 tally-low n g rule log low =
     ap (λ (m : ℕ). howMany (λ i. g rule (stateAt (lowBits n log) i) (stateAt (lowBits n log) (suc i))) (m - 1)) (length-low n log)
-    ∙ same-many (length log - 1)
+    ∙ same-count (length log - 1)
     (λ i h. ap₂ (g rule) (state-low n log i) (state-low n log (suc i)) ∙ low (stateAt log i) (stateAt log (suc i)))
 
 same-map : (f g : StepRule → ℕ) (rules : List StepRule) → ((k : ℕ) → k < length rules → f (getD rules k (stepOf [])) ≡ g (getD rules k (stepOf [])))

@@ -12,7 +12,7 @@ use borrow.Author.Tests.{eq-eqb, ne-eqb}
 use lib.Dec.{eqb}
 use lib.ListN.{length, getD, set}
 use lib.Seq.{getD-set-same, getD-set-other, set-out}
-use Rattle.rules.specs.Book.{allAt, someAt, stepAt, stepsOf}
+use Rattle.rules.specs.Book.{allAt, someAt, stepAt, rightAt, stepsOf}
 use Rattle.audit.specs.Account.{Account, mostTallies}
 use Rattle.audit.specs.Carry.{mostMoments}
 use Rattle.audit.specs.Book.{
@@ -32,7 +32,7 @@ use Rattle.audit.specs.Book.{
 
 -- What one rule adds: to the kept moves, to the broken ones, or nothing.
 pub rule-tallied : (book : List ℕ) (s t times i : ℕ) (kept broken : List ℕ) (asks allows : Bool) (more-kept more-broken : ℕ)
-    → asks ≡ allAt book (stepAt i) s → allows ≡ someAt book (stepAt i + 2) t → more-kept ≡ cond (asks && allows) times 0
+    → asks ≡ allAt book (stepAt i) s → allows ≡ someAt book (rightAt i) t → more-kept ≡ cond (asks && allows) times 0
     → more-broken ≡ cond (asks && not allows) times 0
     → Ruled book s t times i kept broken (set kept i (getD kept i 0 + more-kept)) (set broken i (getD broken i 0 + more-broken)) (asks && not allows)
 unfolding keptBy brokenBy bump

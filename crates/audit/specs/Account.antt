@@ -10,6 +10,7 @@ use lib.Dec.{eqb}
 use lib.ListN.{length, getD, replicate}
 use Rattle.meaning.specs.Sheet.{Sheet, StepRule}
 use Rattle.meaning.specs.Rules.{lawful, firstState, allTrue, someTrue, stepHolds}
+use Rattle.rules.specs.Book.{howMany}
 
 -- "One tally is kept for each of 255 step rules"
 abbrev pub mostTallies : ℕ
@@ -94,11 +95,6 @@ pub record NoBreach (sheet : Sheet) (log : List ℕ) (what moment rule : ℕ) : 
   pub no-moment : moment ≡ 0
   pub no-rule : rule ≡ 0
 
--- how many numbers below n pass a test
-unfoldable pub howMany : (ℕ → Bool) → ℕ → ℕ
-howMany test zero = 0
-howMany test (suc n) = howMany test n + cond (test n) 1 0
-
 -- the move from moment i on: its earlier state made the rule's left side true; "and it was kept", "and it was broken"
 unfoldable pub asks : StepRule → List ℕ → ℕ → Bool
 unfolding stateAt
@@ -117,7 +113,7 @@ unfoldable pub movesOf : List ℕ → ℕ
 movesOf log = length log - 1
 
 unfoldable pub tallyOf : (StepRule → List ℕ → ℕ → Bool) → List ℕ → StepRule → ℕ
-unfolding howMany movesOf
+unfolding movesOf
 tallyOf test log rule = howMany (test rule log) (movesOf log)
 
 -- one tally for each step rule of the sheet, in order, then zeros: 255 in all

@@ -8,7 +8,7 @@ use mathlib.Core.List.{List, [], _∷_}
 use Prim.Native.Nat.{ℕ, zero, suc, _+_, _≤_, _<_}
 use lib.Dec.{eqb}
 use lib.ListN.{length, getD, set}
-use Rattle.rules.specs.Book.{Shaped, stepAt, stepsOf, allAt, someAt, bookLawful, bookFirst}
+use Rattle.rules.specs.Book.{Shaped, stepAt, rightAt, stepsOf, allAt, someAt, bookLawful, bookFirst}
 use Rattle.audit.specs.Account.{Account, mostTallies, nothing, unlawful, brokeFirst, brokeStep}
 use Rattle.audit.specs.Carry.{mostMoments}
 use Rattle.audit.specs.declared.Account as Given
@@ -18,10 +18,10 @@ use Rattle.audit.specs.declared.carry.Head as Head
 
 -- the move from s to t keeps step rule i, or breaks it, its left side having been true; rules are counted from 0 here
 unfoldable pub keptBy : List ℕ → (s t i : ℕ) → Bool
-keptBy book s t i = allAt book (stepAt i) s && someAt book (stepAt i + 2) t
+keptBy book s t i = allAt book (stepAt i) s && someAt book (rightAt i) t
 
 unfoldable pub brokenBy : List ℕ → (s t i : ℕ) → Bool
-brokenBy book s t i = allAt book (stepAt i) s && not (someAt book (stepAt i + 2) t)
+brokenBy book s t i = allAt book (stepAt i) s && not (someAt book (rightAt i) t)
 
 -- `times` more at place i where the test passes
 unfoldable pub bump : (times : ℕ) → List ℕ → ℕ → Bool → List ℕ

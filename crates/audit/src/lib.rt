@@ -107,7 +107,7 @@ fn audit_good(sheet: &[u8], account: Account, states: &[u32]) -> Report
             account,
         };
     }
-    let mut book = [0u32; 1698];
+    let mut book = [0u32; rules::BOOK_SIZE];
     rules::compile(sheet, &mut book);
     let back = carry::carry(&book, account, states);
     Report {

@@ -24,12 +24,11 @@ const SPREAD: usize = 40503;
 fn signature(book: &[u32], s: u32) -> usize
     requires { ⌜ Shaped (now book) ⌝ }
 {
-    let steps = book[3] as usize;
+    let steps = rules::steps(book);
     let mut sign: usize = 0;
     let mut i: usize = 0;
     while i < steps {
-        let left = 646 + 4 * i;
-        if rules::ask::all_at(book, left, s) {
+        if rules::step_asks(book, i, s) {
             sign = (sign * SPREAD + i + 1) % SIGNATURES;
             i += 1;
         } else {

@@ -33,9 +33,6 @@ fn refusal(answer: u32, b: u32, place: u32) -> Judgement
     }
 }
 
-// How many numbers a book has.
-const BOOK: usize = 1698;
-
 // Zeros from a place on.
 pub fn wipe(s: &mut [u32], from: usize)
     requires { ⌜ from ≤ length (now s) ⌝ }
@@ -182,7 +179,7 @@ fn judge_good(
         (lentOf (now (table .entry)) (now (words .entry)) (now (scratch .entry)) (now (run .entry)))
         (outcomeOf r (lentOf (now (table .exit)) (now (words .exit)) (now (scratch .exit)) (now (run .exit)))) ⌝ }
 {
-    let mut book = [0u32; BOOK];
+    let mut book = [0u32; rules::BOOK_SIZE];
     rules::compile(sheet, &mut book);
     judge_book(&book, table, words, scratch, run)
 }

@@ -1,15 +1,16 @@
 -- A test of every number below a bound, as loops make it. Assumes nothing.
 use mathlib.Core.Path.{_≡_, refl, sym, _∙_, ap, ap₂, subst}
 use mathlib.Core.Bool.{Bool, true, false, _&&_, and-false}
+use mathlib.Core.List.{List}
 use Prim.Native.Nat.{ℕ, zero, suc, _+_, _/_, _^_, _≤_, _<_}
 use native.Mathlib.Nat.{div-lt-iff-lt-mul}
 use native.Mathlib.Decide.{ℕ-discrete, decLt}
 use lib.Pow.{pow-pos}
 use native.Mathlib.Numerals.{add-one}
 use native.Mathlib.Omega.{arith}
-use lib.Dec.{ltb}
+use lib.Dec.{ltb, leb}
 use borrow.Author.Tests.{lt-ltb, le-ltb}
-use Rattle.rules.specs.Book.{allBelow}
+use Rattle.rules.specs.Book.{allBelow, countOf, limitOk, LimitRead}
 
 module _ (test : ℕ → Bool) where
   -- One more number passes.
@@ -64,3 +65,12 @@ past-last k n r rest e h = sym (ap (λ (t : Bool). t && rest) (le-ltb k n (omega
 
 pub not-past : (k n r : ℕ) (rest : Bool) → r ≡ n → k < r → rest ≡ (ltb k n && rest)
 not-past k n r rest e h = sym (ap (λ (t : Bool). t && rest) (lt-ltb k n (omega arith)))
+
+-- A limit's row, read, says what the limit says.
+pub limit-read :
+    {book : List ℕ} {i held unheld least most : ℕ} (s : ℕ) → LimitRead book i held unheld least most
+    → (leb least (countOf s held unheld) && leb (countOf s held unheld) most) ≡ limitOk book s i
+unfolding limitOk
+limit-read s r =
+    let count = ap₂ (countOf s) (r .masks .held-is) (r .masks .unheld-is) in
+    λ k. leb (r .least-is k) (count k) && leb (count k) (r .most-is k)

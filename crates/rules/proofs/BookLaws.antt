@@ -16,7 +16,7 @@ use Rattle.reader.proofs.Good.{good-header, limit-at, first-at, step-at, promis
 use Rattle.reader.proofs.Good.{promises-count, letters-count, promise-record, promise-good}
 use Rattle.rules.specs.Book.{Masks, Shaped, BookOf, allBelow, countOf, someOf, allOf, someAt, allAt, limitAt, firstAt, stepAt, promiseAt}
 use Rattle.rules.specs.Book.{limitOk, limitsOk, firstsOk, stepOk, stepsOk, bookLawful, bookFirst, bookMoves, bookKept}
-use Rattle.rules.specs.Book.{lettersOf, limitsOf, firstsOf, stepsOf, promisesOf, ruleOf}
+use Rattle.rules.specs.Book.{lettersOf, limitsOf, firstsOf, stepsOf, promisesOf, rightAt, mostRules, ruleOf}
 use Rattle.rules.specs.Literals.{Ordered}
 use Rattle.rules.specs.Compile.{MasksAt, LimitRow, StepRow, Written}
 use Rattle.rules.proofs.Masks.{tells}
@@ -95,7 +95,7 @@ step-says :
     → (s t : ℕ) → stepOk l s t i ≡ stepHolds s t x
 unfolding stepOk stepHolds
 step-says l i n x r o p s t =
-    ap₂ (λ (a b : Bool). not a || b) (all-says l (stepAt i) n (x .left) (r .left) o s) (some-says l (stepAt i + 2) n (x .right) (r .right) p t)
+    ap₂ (λ (a b : Bool). not a || b) (all-says l (stepAt i) n (x .left) (r .left) o s) (some-says l (rightAt i) n (x .right) (r .right) p t)
 
 -- a promise's one literal
 lone-says : (s : ℕ) (body : List ℕ) → length body ≡ 1 → someTrue s body ≡ trueIn s (promiseOf body)
@@ -106,7 +106,7 @@ lone-says s (b ∷ (b′ ∷ bs)) e = absurd (omega arith)
 
 -- ---- the whole book
 
-module _ (s book : List ℕ) (good : firstFault s ≡ none) (f5 : byte s 5 ≤ 255) (f6 : byte s 6 ≤ 255) (w : Written s book) where
+module _ (s book : List ℕ) (good : firstFault s ≡ none) (f5 : byte s 5 ≤ mostRules) (f6 : byte s 6 ≤ mostRules) (w : Written s book) where
   limits-say : (t : ℕ) → limitsOk book t ≡ every (limitHolds t) (decode s .limits)
   unfolding limitsOk
   limits-say t =
@@ -146,10 +146,10 @@ module _ (s book : List ℕ) (good : firstFault s ≡ none) (f5 : byte s 5 ≤ 2
       all-says book (stepAt i) (lettersIn s) _ (w .steps i k .left) (step-sound s good i k .left) t
       ∙ ap (λ (rule : StepRule). allTrue t (rule .left)) (sym (step-at s i (stepOf []) k))
 
-  right-says : (i t : ℕ) → i < stepsOf book → someAt book (stepAt i + 2) t ≡ someTrue t (ruleOf (decode s) i .right)
+  right-says : (i t : ℕ) → i < stepsOf book → someAt book (rightAt i) t ≡ someTrue t (ruleOf (decode s) i .right)
   right-says i t h =
       let k : i < byte s 6 = (let c = w .counts .steps in omega arith) in
-      some-says book (stepAt i + 2) (lettersIn s) _ (w .steps i k .right) (step-sound s good i k .right) t
+      some-says book (rightAt i) (lettersIn s) _ (w .steps i k .right) (step-sound s good i k .right) t
       ∙ ap (λ (rule : StepRule). someTrue t (rule .right)) (sym (step-at s i (stepOf []) k))
 
   kept-says : (k t : ℕ) → bookKept book k t ≡ kept (decode s) k t
@@ -217,7 +217,7 @@ module _ (s book : List ℕ) (good : firstFault s ≡ none) (f5 : byte s 5 ≤ 2
             within (stepAt i) (masks-within book (stepAt i) (lettersIn s) _ (w .steps i k .left) (step-sound s good i k .left));
         rights = λ i l.
             let k : i < byte s 6 = (let b = c .steps in omega arith) in
-            within (stepAt i + 2) (masks-within book (stepAt i + 2) (lettersIn s) _ (w .steps i k .right) (step-sound s good i k .right));
+            within (rightAt i) (masks-within book (rightAt i) (lettersIn s) _ (w .steps i k .right) (step-sound s good i k .right));
         promises = λ i l.
             let k : i < byte s 7 = (let b = c .promises in omega arith) in
             within (promiseAt i) (masks-within book (promiseAt i) (lettersIn s) _ (w .promises i k) (promise-sound s good i k .literals));

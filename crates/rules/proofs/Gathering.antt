@@ -8,18 +8,20 @@ use native.Mathlib.Decide.{ℕ-discrete}
 use native.Mathlib.Numerals.{add-one}
 use native.Mathlib.Omega.{arith}
 use lib.ListN.{getD}
-use Rattle.rules.specs.Book.{Masks, Shaped, allBelow, someOf, allOf, someAt, allAt, firstAt, stepAt, stepOk, stepsOk, firstsOk}
+use borrow.Author.Tests.{not-true, not-false}
+use Rattle.rules.specs.Book.{Masks, Shaped, allBelow, someOf, someAt, allAt, firstAt, stepAt, rightAt, gatheredAt, stepOk, stepsOk, firstsOk}
 use Rattle.rules.specs.Book.{lettersOf, firstsOf, stepsOf, clausesOk, packClear, FirstClauses, NextClauses, BeforePack}
+use Rattle.rules.specs.Book.{bookSize, mostRules, farTest, farAt, stepToward, asksToward, GatheredToward}
 use Rattle.rules.specs.Rows.{Copied}
 use Rattle.rules.proofs.Asking.{all-same}
 
 -- what row j says of state t, by a test of two masks
 abbrev pub rowSays : (ℕ → ℕ → ℕ → Bool) → List ℕ → ℕ → ℕ → Bool
-rowSays test l t j = test t (getD l (2 * j) 0) (getD l (2 * j + 1) 0)
+rowSays test l t j = test t (getD l (gatheredAt j) 0) (getD l (gatheredAt j + 1) 0)
 
 pub record Sofar (test : ℕ → ℕ → ℕ → Bool) (asks : ℕ → ℕ → Bool) (letters : ℕ) (l : List ℕ) (n i : ℕ) : Type 0 where
   pub few : n ≤ i
-  pub masks : (j : ℕ) → j < n → Masks l letters (2 * j)
+  pub masks : (j : ℕ) → j < n → Masks l letters (gatheredAt j)
   pub says : (t : ℕ) → allBelow n (rowSays test l t) ≡ allBelow i (asks t)
 
 module _ (test : ℕ → ℕ → ℕ → Bool) (asks : ℕ → ℕ → Bool) (letters : ℕ) where
@@ -36,7 +38,7 @@ module _ (test : ℕ → ℕ → ℕ → Bool) (asks : ℕ → ℕ → Bool) (le
 
   -- A rule's row is copied behind those that stand.
   pub copied-row :
-      (book : List ℕ) (from : ℕ) (l l′ : List ℕ) (n i : ℕ) → Sofar test asks letters l n i → Copied book from l (2 * n) l′
+      (book : List ℕ) (from : ℕ) (l l′ : List ℕ) (n i : ℕ) → Sofar test asks letters l n i → Copied book from l (gatheredAt n) l′
       → Masks book letters from
       → ((t : ℕ) → asks t i ≡ test t (getD book from 0) (getD book (from + 1) 0)) → Sofar test asks letters l′ (n + 1) (i + 1)
   copied-row book from l l′ n i so c m here =
@@ -66,23 +68,24 @@ module _ (test : ℕ → ℕ → ℕ → Bool) (asks : ℕ → ℕ → Bool) (le
           (all-same (rowSays test l′ t) (rowSays test l t) n (λ j h. ap₂ (test t) (old j h .0) (old j h .1)) ∙ so .says t)
           (ap₂ (test t) (c .held) (c .unheld) ∙ sym (here t))
 
--- ---- the three gatherings
+-- ---- the gatherings
 
 -- the clauses of the first i first rules
 abbrev pub FirstSofar : List ℕ → List ℕ → ℕ → Type 0
 FirstSofar book l i = Sofar someOf (λ t i. someAt book (firstAt i) t) (lettersOf book) l i i
 
--- the right sides of those of the first i step rules whose left side holds in s
-abbrev pub NextSofar : List ℕ → ℕ → List ℕ → ℕ → ℕ → Type 0
-NextSofar book s l n i = Sofar someOf (λ t i. stepOk book s t i) (lettersOf book) l n i
+-- what the first i step rules ask of the states on one side of s
+abbrev pub StepSofar : Bool → List ℕ → ℕ → List ℕ → ℕ → ℕ → Type 0
+StepSofar ahead book s l n i = Sofar (farTest ahead) (λ t i. stepToward ahead book s t i) (lettersOf book) l n i
 
--- the left sides of those of the first i step rules whose right side is false in t
-abbrev pub BeforeSofar : List ℕ → ℕ → List ℕ → ℕ → ℕ → Type 0
-BeforeSofar book t l n i = Sofar (λ s h u. not (allOf s h u)) (λ s i. stepOk book s t i) (lettersOf book) l n i
+-- either side's masks stand within a book
+pub far-within : (ahead : Bool) (i : ℕ) → i < mostRules → farAt ahead i + 1 < bookSize
+far-within true i h = omega arith
+far-within false i h = omega arith
 
 module _ (book : List ℕ) (shaped : Shaped book) where
   pub first-copied :
-      (l l′ : List ℕ) (i : ℕ) → i < firstsOf book → FirstSofar book l i → Copied book (firstAt i) l (2 * i) l′ → FirstSofar book l′ (i + 1)
+      (l l′ : List ℕ) (i : ℕ) → i < firstsOf book → FirstSofar book l i → Copied book (firstAt i) l (gatheredAt i) l′ → FirstSofar book l′ (i + 1)
   first-copied l l′ i h so c =
       copied-row someOf (λ t i. someAt book (firstAt i) t) (lettersOf book) book (firstAt i) l l′ i i so c (shaped .firsts i h) (λ t. refl)
 
@@ -93,51 +96,53 @@ module _ (book : List ℕ) (shaped : Shaped book) where
       let so′ : FirstSofar book l (firstsOf book) = subst (FirstSofar book l) (let e : i ≡ firstsOf book = omega arith in e) so in
       record { gathered = record { few = shaped .few-firsts; masks = so′ .masks }; says = λ t. so′ .says t }
 
-  pub next-copied :
-      (s : ℕ) (l l′ : List ℕ) (n i : ℕ) → i < stepsOf book → NextSofar book s l n i → allAt book (stepAt i) s ≡ true
-      → Copied book (stepAt i + 2) l (2 * n) l′ → NextSofar book s l′ (n + 1) (i + 1)
-  unfolding stepOk
-  next-copied s l l′ n i h so e c =
-      copied-row someOf (λ t i. stepOk book s t i) (lettersOf book) book (stepAt i + 2) l l′ n i so c (shaped .rights i h)
-      (λ t. ap (λ (x : Bool). not x || someAt book (stepAt i + 2) t) e)
+  far-masks : (ahead : Bool) (i : ℕ) → i < stepsOf book → Masks book (lettersOf book) (farAt ahead i)
+  far-masks true i h = shaped .rights i h
+  far-masks false i h = shaped .lefts i h
 
-  pub next-passed :
-      (s : ℕ) (l : List ℕ) (n i : ℕ) → NextSofar book s l n i → allAt book (stepAt i) s ≡ false → NextSofar book s l n (i + 1)
+  -- A rule that asks something is said by its far side; one that asks nothing allows every step.
+  far-says :
+      (ahead : Bool) (s i t : ℕ) → asksToward ahead book s i ≡ true
+      → stepToward ahead book s t i ≡ farTest ahead t (getD book (farAt ahead i) 0) (getD book (farAt ahead i + 1) 0)
   unfolding stepOk
-  next-passed s l n i so e =
-      passed-over someOf (λ t i. stepOk book s t i) (lettersOf book) l n i so (λ t. ap (λ (x : Bool). not x || someAt book (stepAt i + 2) t) e)
+  far-says true s i t e = ap (λ (x : Bool). not x || someAt book (rightAt i) t) e
+  far-says false s i t e =
+      ap (λ (x : Bool). not (allAt book (stepAt i) t) || x) (not-true (someAt book (rightAt i) s) e) ∙ or-false (not (allAt book (stepAt i) t))
 
-  pub next-gathered :
-      (s : ℕ) (l : List ℕ) (n i : ℕ) → i ≤ stepsOf book → stepsOf book ≤ i → NextSofar book s l n i → NextClauses book s l n
-  unfolding clausesOk stepsOk
-  next-gathered s l n i h k so =
+  nothing-asked : (ahead : Bool) (s i t : ℕ) → asksToward ahead book s i ≡ false → stepToward ahead book s t i ≡ true
+  unfolding stepOk
+  nothing-asked true s i t e = ap (λ (x : Bool). not x || someAt book (rightAt i) t) e
+  nothing-asked false s i t e =
+      ap (λ (x : Bool). not (allAt book (stepAt i) t) || x) (not-false (someAt book (rightAt i) s) e) ∙ or-true (not (allAt book (stepAt i) t))
+
+  pub step-copied :
+      (ahead : Bool) (s : ℕ) (l l′ : List ℕ) (n i : ℕ) → i < stepsOf book → StepSofar ahead book s l n i → asksToward ahead book s i ≡ true
+      → Copied book (farAt ahead i) l (gatheredAt n) l′ → StepSofar ahead book s l′ (n + 1) (i + 1)
+  step-copied ahead s l l′ n i h so e c =
+      copied-row (farTest ahead) (λ t i. stepToward ahead book s t i) (lettersOf book) book (farAt ahead i) l l′ n i so c (far-masks ahead i h)
+      (λ t. far-says ahead s i t e)
+
+  pub step-passed :
+      (ahead : Bool) (s : ℕ) (l : List ℕ) (n i : ℕ) → StepSofar ahead book s l n i → asksToward ahead book s i ≡ false
+      → StepSofar ahead book s l n (i + 1)
+  step-passed ahead s l n i so e =
+      passed-over (farTest ahead) (λ t i. stepToward ahead book s t i) (lettersOf book) l n i so (λ t. nothing-asked ahead s i t e)
+
+  pub steps-gathered :
+      (ahead : Bool) (s : ℕ) (l : List ℕ) (n i : ℕ) → i ≤ stepsOf book → stepsOf book ≤ i → StepSofar ahead book s l n i
+      → GatheredToward ahead book s l n
+  steps-gathered ahead s l n i h k so =
       let e : i ≡ stepsOf book = omega arith in
       record {
         gathered = record { few = (let f = so .few in let g = shaped .few-steps in omega arith); masks = so .masks };
-        says = λ t. so .says t ∙ ap (λ (x : ℕ). allBelow x (stepOk book s t)) e;
+        says = λ t. so .says t ∙ ap (λ (x : ℕ). allBelow x (λ i. stepToward ahead book s t i)) e;
       }
 
-  pub before-copied :
-      (t : ℕ) (l l′ : List ℕ) (n i : ℕ) → i < stepsOf book → BeforeSofar book t l n i → someAt book (stepAt i + 2) t ≡ false
-      → Copied book (stepAt i) l (2 * n) l′ → BeforeSofar book t l′ (n + 1) (i + 1)
-  unfolding stepOk
-  before-copied t l l′ n i h so e c =
-      copied-row (λ s h u. not (allOf s h u)) (λ s i. stepOk book s t i) (lettersOf book) book (stepAt i) l l′ n i so c (shaped .lefts i h)
-      (λ s. ap (λ (x : Bool). not (allAt book (stepAt i) s) || x) e ∙ or-false (not (allAt book (stepAt i) s)))
+-- On either side these are the clauses and the pack.
+pub next-clauses : (book : List ℕ) (s : ℕ) (l : List ℕ) (n : ℕ) → GatheredToward true book s l n → NextClauses book s l n
+unfolding clausesOk stepsOk
+next-clauses book s l n g = record { gathered = g .gathered; says = g .says }
 
-  pub before-passed :
-      (t : ℕ) (l : List ℕ) (n i : ℕ) → BeforeSofar book t l n i → someAt book (stepAt i + 2) t ≡ true → BeforeSofar book t l n (i + 1)
-  unfolding stepOk
-  before-passed t l n i so e =
-      passed-over (λ s h u. not (allOf s h u)) (λ s i. stepOk book s t i) (lettersOf book) l n i so
-      (λ s. ap (λ (x : Bool). not (allAt book (stepAt i) s) || x) e ∙ or-true (not (allAt book (stepAt i) s)))
-
-  pub before-gathered :
-      (t : ℕ) (l : List ℕ) (n i : ℕ) → i ≤ stepsOf book → stepsOf book ≤ i → BeforeSofar book t l n i → BeforePack book t l n
-  unfolding packClear stepsOk
-  before-gathered t l n i h k so =
-      let e : i ≡ stepsOf book = omega arith in
-      record {
-        gathered = record { few = (let f = so .few in let g = shaped .few-steps in omega arith); masks = so .masks };
-        says = λ s. so .says s ∙ ap (λ (x : ℕ). allBelow x (stepOk book s t)) e;
-      }
+pub before-pack : (book : List ℕ) (t : ℕ) (l : List ℕ) (n : ℕ) → GatheredToward false book t l n → BeforePack book t l n
+unfolding packClear stepsOk
+before-pack book t l n g = record { gathered = g .gathered; says = g .says }

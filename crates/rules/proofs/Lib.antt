@@ -9,5 +9,6 @@ pub mod Summing
 pub mod RowLaws
 pub mod SectionLaws
 pub mod BookLaws
+pub mod Counting
 pub mod Facts
 pub mod FreerLaws

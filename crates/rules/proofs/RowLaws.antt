@@ -6,13 +6,13 @@ use Prim.Native.Nat.{ℕ, suc, _+_, _≤_, _<_}
 use native.Mathlib.Omega.{arith}
 use lib.ListN.{length, set, length-set}
 use lib.Seq.{getD-set-same}
-use Rattle.meaning.specs.Sheet.{limitOf, stepOf, byte, bodyAt, nextAt, lettersIn}
+use Rattle.meaning.specs.Sheet.{limitOf, stepOf, byte, bodyAt, nextAt, lettersIn, aLimit, aFirst, aStep}
 use Rattle.reader.specs.Place.{part}
 use Rattle.reader.proofs.Bodies.{body-from}
+use Rattle.rules.specs.Book.{limitWidth, listWidth}
 use Rattle.rules.specs.Literals.{Ordered}
 use Rattle.rules.specs.Rows.{KeptBelow}
-use Rattle.rules.specs.Compile.{ListSound, MasksAt, ListWritten, LimitSound, LimitWritten, ListRecordSound, RecordWritten}
-use Rattle.rules.specs.Compile.{StepSound, StepWritten}
+use Rattle.rules.specs.Compile.{ListSound, MasksAt, ListWritten, LimitSound, ListRecordSound, StepSound, RowWritten}
 use Rattle.rules.proofs.Rows.{kept-then, kept-set}
 
 -- Masks stay where they stand.
@@ -38,10 +38,10 @@ limit-list s at start end sound e le n = record {
 }
 
 pub limit-written :
-    (s : List ℕ) (at : ℕ) (before mid : List ℕ) (row : ℕ) (ls : List ℕ) (exact : Bool) (bound least end : ℕ) → row + 3 < length before
+    (s : List ℕ) (at : ℕ) (before mid : List ℕ) (row : ℕ) (ls : List ℕ) (exact : Bool) (bound least end : ℕ) → row + limitWidth ≤ length before
     → ListWritten ls before row mid → ls ≡ limitOf (bodyAt s at) .among → exact ≡ limitOf (bodyAt s at) .exact
     → bound ≡ limitOf (bodyAt s at) .bound
-    → least ≡ cond exact bound 0 → end ≡ nextAt s at → LimitWritten s at before row (set (set mid (row + 2) least) (row + 3) bound) end
+    → least ≡ cond exact bound 0 → end ≡ nextAt s at → RowWritten aLimit s at before row (set (set mid (row + 2) least) (row + 3) bound) end
 limit-written s at before mid row ls exact bound least end room w among e b m n =
     let third : List ℕ = set mid (row + 2) least in
     let len : length mid ≡ length before = w .keeps .long in
@@ -51,7 +51,7 @@ limit-written s at before mid row ls exact bound least end room w among e b m n 
     let both : KeptBelow (row + 2) mid (set (set mid (row + 2) least) (row + 3) bound) = kept-then (omega arith) k3 k4 in
     record {
       keeps = kept-then (omega arith) (w .keeps) both;
-      limit = record {
+      says = record {
         masks = masks-as among (masks-kept {m = row + 2} (omega arith) both (w .masks));
         least =
             k4 .same (row + 2) (omega arith) ∙ getD-set-same mid (row + 2) least 0 (omega arith)
@@ -79,11 +79,11 @@ record-list s at end sound e = record {
 
 pub record-written :
     (s : List ℕ) (at : ℕ) (before after : List ℕ) (row end : ℕ) → ListWritten (part (at + 1) end s) before row after → end ≡ at + 1 + byte s at
-    → RecordWritten s at before row after end
+    → RowWritten aFirst s at before row after end
 unfolding nextAt
 record-written s at before after row end w e = record {
   keeps = w .keeps;
-  masks = masks-as (record-body s at end e) (w .masks);
+  says = masks-as (record-body s at end e) (w .masks);
   there = omega arith;
 }
 
@@ -111,10 +111,10 @@ step-right s at right end sound e le n = record {
 
 pub step-written :
     (s : List ℕ) (at : ℕ) (before mid after : List ℕ) (row : ℕ) (ls rs : List ℕ) (end : ℕ) → ListWritten ls before row mid
-    → ListWritten rs mid (row + 2) after → ls ≡ stepOf (bodyAt s at) .left → rs ≡ stepOf (bodyAt s at) .right → end ≡ nextAt s at
-    → StepWritten s at before row after end
+    → ListWritten rs mid (row + listWidth) after → ls ≡ stepOf (bodyAt s at) .left → rs ≡ stepOf (bodyAt s at) .right → end ≡ nextAt s at
+    → RowWritten aStep s at before row after end
 step-written s at before mid after row ls rs end v w l r n = record {
   keeps = kept-then (omega arith) (v .keeps) (w .keeps);
-  rule = record { left = masks-as l (masks-kept {m = row + 2} (omega arith) (w .keeps) (v .masks)); right = masks-as r (w .masks) };
+  says = record { left = masks-as l (masks-kept {m = row + listWidth} (omega arith) (w .keeps) (v .masks)); right = masks-as r (w .masks) };
   there = n;
 }

@@ -8,15 +8,15 @@ use native.Mathlib.Decide.{ℕ-discrete}
 use native.Mathlib.Numerals.{add-one}
 use native.Mathlib.Omega.{arith}
 use lib.ListN.{length, getD, set}
-use Rattle.meaning.specs.Sheet.{firstFault, names, byte, bodyAt, nextAt, afterAt, lettersIn, limitOf, stepOf, promiseOf}
-use Rattle.meaning.specs.Sheet.{firstsAt, stepsAt, promisesAt}
+use Rattle.meaning.specs.Sheet.{firstFault, names, byte, bodyAt, nextAt, afterAt, lettersIn, limitOf, stepOf, promiseOf, mostLimits}
+use Rattle.meaning.specs.Sheet.{firstsAt, stepsAt, promisesAt, Kind, aLimit, aFirst, aStep, aPromise}
 use Rattle.reader.proofs.Good.{good-header, limit-record, first-record, step-record, promise-record, limit-good, first-good, step-good}
 use Rattle.reader.proofs.Good.{promise-good, LiteralsGood, body-byte, after-more}
-use Rattle.rules.specs.Book.{bookSize, limitAt, firstAt, stepAt, promiseAt}
+use Rattle.rules.specs.Book.{bookSize, mostRules, limitAt, firstAt, stepAt, rowAt, widthOf, listWidth, limitWidth, stepWidth}
+use Rattle.rules.specs.Book.{limitsFrom, firstsFrom, stepsFrom, promisesFrom}
 use Rattle.rules.specs.Rows.{KeptBelow}
-use Rattle.rules.specs.Compile.{LimitSound, LimitRow, LimitWritten, ListRecordSound, RecordWritten, MasksAt, StepSound, StepRow, StepWritten}
-use Rattle.rules.specs.Compile.{LimitsWritten, FirstsWritten, StepsWritten, PromisesWritten}
-use Rattle.rules.specs.Compile.{Counts, Written, Section, LimitRowOf, FirstRowOf, StepRowOf, PromiseRowOf}
+use Rattle.rules.specs.Compile.{LimitSound, ListRecordSound, StepSound, Sound, Row, RowWritten, startOf, recordsOf}
+use Rattle.rules.specs.Compile.{RowOf, Section, Counts, Written}
 use Rattle.rules.proofs.Rows.{kept-all, kept-then, kept-less}
 use Rattle.rules.proofs.RowLaws.{masks-kept}
 use Rattle.rules.proofs.Sorted.{in-order}
@@ -83,76 +83,77 @@ module _ (s : List ℕ) (good : firstFault s ≡ none) where
         literals = in-order (lettersIn s) (bodyAt s at) few (lone-good (lettersIn s) (bodyAt s at) (g .one) (g .literal));
       }
 
+  -- each record of a kind
+  pub sound : (kind : Kind) (i : ℕ) → i < recordsOf kind s → Sound kind s (afterAt s i (startOf kind s))
+  sound aLimit i h = limit-sound i h
+  sound aFirst i h = first-sound i h
+  sound aStep i h = step-sound i h
+  sound aPromise i h = promise-sound i h
+
+  -- Every row has its place within the book.
+  pub row-within : (kind : Kind) (i : ℕ) → i < recordsOf kind s → recordsOf kind s ≤ mostRules → rowAt kind i + widthOf kind ≤ bookSize
+  row-within aLimit i h m = let few-limits = good-header s good .few-limits in omega arith
+  row-within aFirst i h m = omega arith
+  row-within aStep i h m = omega arith
+  row-within aPromise i h m = let few-promises = good-header s good .few-promises in omega arith
+
 -- ---- one more row
 
-pub none-written : (Row : List ℕ → List ℕ → ℕ → Type 0) (s : List ℕ) (base start : ℕ) (l : List ℕ) → Section Row s base start l l 0 start
-unfolding afterAt
-none-written Row s base start l = record { keeps = kept-all base l; rows = λ j h. absurd (omega arith); there = refl }
+-- A row stays where it stands.
+pub row-kept :
+    (kind : Kind) (row : ℕ) (body l l′ : List ℕ) → KeptBelow (row + widthOf kind) l l′ → Row kind l row body → Row kind l′ row body
+row-kept aLimit row body l l′ k r = record {
+  masks = masks-kept {m = row + limitWidth} (omega arith) k (r .masks);
+  least = k .same (row + 2) (omega arith) ∙ r .least;
+  most = k .same (row + 3) (omega arith) ∙ r .most;
+}
+row-kept aFirst row body l l′ k r = masks-kept {m = row + listWidth} (omega arith) k r
+row-kept aStep row body l l′ k r = record {
+  left = masks-kept {m = row + stepWidth} (omega arith) k (r .left);
+  right = masks-kept {m = row + stepWidth} (omega arith) k (r .right);
+}
+row-kept aPromise row body l l′ k r = masks-kept {m = row + listWidth} (omega arith) k r
 
--- A row written behind the others, at place `base + width * i`.
-row-more :
-    (Row : List ℕ → List ℕ → ℕ → Type 0) (s : List ℕ) (base width start : ℕ) (place : ℕ → ℕ)
-    → ((j : ℕ) (l l′ : List ℕ) → KeptBelow (place (suc j)) l l′ → Row s l j → Row s l′ j)
-    → ((j i : ℕ) → j < i → place (suc j) ≤ place i)
-    → (before l l′ : List ℕ) (i at next : ℕ) → base ≤ place i
-    → Section Row s base start before l i at → KeptBelow (place i) l l′ → Row s l′ i → next ≡ nextAt s at
-    → Section Row s base start before l′ (i + 1) next
-row-more Row s base width start place keep rise before l l′ i at next le so k row n =
-    subst (λ (m : ℕ). Section Row s base start before l′ m next) (sym (add-one i)) (record {
-      keeps = kept-then le (so .keeps) k;
+-- A later row begins behind an earlier one.
+row-behind : (kind : Kind) (j i : ℕ) → j < i → rowAt kind j + widthOf kind ≤ rowAt kind i
+row-behind aLimit j i h = omega arith
+row-behind aFirst j i h = omega arith
+row-behind aStep j i h = omega arith
+row-behind aPromise j i h = omega arith
+
+row-from : (kind : Kind) (i : ℕ) → rowAt kind 0 ≤ rowAt kind i
+row-from aLimit i = omega arith
+row-from aFirst i = omega arith
+row-from aStep i = omega arith
+row-from aPromise i = omega arith
+
+-- A first rule and a promise have the same row.
+pub promise-written :
+    (s : List ℕ) (at : ℕ) (before : List ℕ) (row : ℕ) (after : List ℕ) (next : ℕ)
+    → RowWritten aFirst s at before row after next → RowWritten aPromise s at before row after next
+promise-written s at before row after next w = record { keeps = w .keeps; says = w .says; there = w .there }
+
+pub none-written : (kind : Kind) (s l : List ℕ) (from : ℕ) → from ≡ startOf kind s → Section kind s l l 0 from
+unfolding afterAt
+none-written kind s l from e = record { keeps = kept-all (rowAt kind 0) l; rows = λ j h. absurd (omega arith); there = e }
+
+-- One more row, behind the others.
+pub row-more :
+    (kind : Kind) (s before l l′ : List ℕ) (i at next : ℕ) → Section kind s before l i at → RowWritten kind s at l (rowAt kind i) l′ next
+    → Section kind s before l′ (i + 1) next
+row-more kind s before l l′ i at next so w =
+    subst (λ (m : ℕ). Section kind s before l′ m next) (sym (add-one i)) (record {
+      keeps = kept-then (row-from kind i) (so .keeps) (w .keeps);
       rows = λ j h. by j h (ℕ-discrete j i);
-      there = n ∙ ap (nextAt s) (so .there) ∙ sym (after-more s i start);
+      there = w .there ∙ ap (nextAt s) (so .there) ∙ sym (after-more s i (startOf kind s));
     })
   where
-    by : (j : ℕ) → j < suc i → Dec (j ≡ i) → Row s l′ j
-    by j h (yes e) = subst (Row s l′) (sym e) row
+    by : (j : ℕ) → j < suc i → Dec (j ≡ i) → RowOf kind s l′ j
+    by j h (yes e) =
+        subst (RowOf kind s l′) (sym e) (subst (λ (a : ℕ). Row kind l′ (rowAt kind i) (bodyAt s a)) (so .there) (w .says))
     by j h (no e) =
         let lt : j < i = omega arith in
-        let up = rise j i lt in
-        keep j l l′ (record { long = k .long; same = λ x b. k .same x (omega arith) }) (so .rows j lt)
-
-pub limit-kept : (s : List ℕ) (j : ℕ) (l l′ : List ℕ) → KeptBelow (limitAt (suc j)) l l′ → LimitRowOf s l j → LimitRowOf s l′ j
-limit-kept s j l l′ k r = record {
-  masks = masks-kept {m = limitAt (suc j)} (omega arith) k (r .masks);
-  least = k .same (limitAt j + 2) (omega arith) ∙ r .least;
-  most = k .same (limitAt j + 3) (omega arith) ∙ r .most;
-}
-
-pub step-kept : (s : List ℕ) (j : ℕ) (l l′ : List ℕ) → KeptBelow (stepAt (suc j)) l l′ → StepRowOf s l j → StepRowOf s l′ j
-step-kept s j l l′ k r = record {
-  left = masks-kept {m = stepAt (suc j)} (omega arith) k (r .left);
-  right = masks-kept {m = stepAt (suc j)} (omega arith) k (r .right);
-}
-
-pub limit-more :
-    (s before l l′ : List ℕ) (i at next : ℕ) → Section LimitRowOf s 8 8 before l i at → LimitWritten s at l (limitAt i) l′ next
-    → Section LimitRowOf s 8 8 before l′ (i + 1) next
-limit-more s before l l′ i at next so w =
-    row-more LimitRowOf s 8 4 8 limitAt (limit-kept s) (λ j i h. omega arith) before l l′ i at next (omega arith) so (w .keeps)
-    (subst (λ (a : ℕ). LimitRow l′ (limitAt i) (limitOf (bodyAt s a))) (so .there) (w .limit)) (w .there)
-
-pub first-more :
-    (s before l l′ : List ℕ) (i at next : ℕ) → Section FirstRowOf s 136 (firstsAt s) before l i at → RecordWritten s at l (firstAt i) l′ next
-    → Section FirstRowOf s 136 (firstsAt s) before l′ (i + 1) next
-first-more s before l l′ i at next so w =
-    row-more FirstRowOf s 136 2 (firstsAt s) firstAt (λ j l l′ k r. masks-kept {m = firstAt (suc j)} (omega arith) k r) (λ j i h. omega arith)
-    before l l′ i at next (omega arith) so (w .keeps)
-    (subst (λ (a : ℕ). MasksAt l′ (firstAt i) (bodyAt s a)) (so .there) (w .masks)) (w .there)
-
-pub step-more :
-    (s before l l′ : List ℕ) (i at next : ℕ) → Section StepRowOf s 646 (stepsAt s) before l i at → StepWritten s at l (stepAt i) l′ next
-    → Section StepRowOf s 646 (stepsAt s) before l′ (i + 1) next
-step-more s before l l′ i at next so w =
-    row-more StepRowOf s 646 4 (stepsAt s) stepAt (step-kept s) (λ j i h. omega arith) before l l′ i at next (omega arith) so (w .keeps)
-    (subst (λ (a : ℕ). StepRow l′ (stepAt i) (stepOf (bodyAt s a))) (so .there) (w .rule)) (w .there)
-
-pub promise-more :
-    (s before l l′ : List ℕ) (i at next : ℕ) → Section PromiseRowOf s 1666 (promisesAt s) before l i at
-    → RecordWritten s at l (promiseAt i) l′ next → Section PromiseRowOf s 1666 (promisesAt s) before l′ (i + 1) next
-promise-more s before l l′ i at next so w =
-    row-more PromiseRowOf s 1666 2 (promisesAt s) promiseAt (λ j l l′ k r. masks-kept {m = promiseAt (suc j)} (omega arith) k r)
-    (λ j i h. omega arith) before l l′ i at next (omega arith) so (w .keeps)
-    (subst (λ (a : ℕ). MasksAt l′ (promiseAt i) (bodyAt s a)) (so .there) (w .masks)) (w .there)
+        row-kept kind (rowAt kind j) _ l l′ (kept-less (row-behind kind j i lt) (w .keeps)) (so .rows j lt)
 
 -- ---- the counts
 
@@ -183,15 +184,15 @@ counted s l e =
 
 -- Counts, then section behind section: nothing written is written over.
 pub all-written :
-    (s b1 b2 b3 b4 b5 : List ℕ) (r2 r3 r4 r5 : ℕ) → byte s 4 ≤ 32 → byte s 5 ≤ 255 → byte s 6 ≤ 255 → Counts s b1 → length b1 ≡ bookSize
-    → Section LimitRowOf s 8 8 b1 b2 (byte s 4) r2 → Section FirstRowOf s 136 (firstsAt s) b2 b3 (byte s 5) r3
-    → Section StepRowOf s 646 (stepsAt s) b3 b4 (byte s 6) r4 → Section PromiseRowOf s 1666 (promisesAt s) b4 b5 (byte s 7) r5
+    (s b1 b2 b3 b4 b5 : List ℕ) (r2 r3 r4 r5 : ℕ) → byte s 4 ≤ mostLimits → byte s 5 ≤ mostRules → byte s 6 ≤ mostRules
+    → Counts s b1 → length b1 ≡ bookSize → Section aLimit s b1 b2 (byte s 4) r2 → Section aFirst s b2 b3 (byte s 5) r3
+    → Section aStep s b3 b4 (byte s 6) r4 → Section aPromise s b4 b5 (byte s 7) r5
     → Written s b5
 all-written s b1 b2 b3 b4 b5 r2 r3 r4 r5 f4 f5 f6 c n limits firsts steps promises =
-    let k4 : KeptBelow 1666 b4 b5 = promises .keeps in
-    let k3 : KeptBelow 646 b3 b5 = kept-then (omega arith) (steps .keeps) k4 in
-    let k2 : KeptBelow 136 b2 b5 = kept-then (omega arith) (firsts .keeps) k3 in
-    let k1 : KeptBelow 8 b1 b5 = kept-then (omega arith) (limits .keeps) k2 in
+    let k4 : KeptBelow promisesFrom b4 b5 = promises .keeps in
+    let k3 : KeptBelow stepsFrom b3 b5 = kept-then (omega arith) (steps .keeps) k4 in
+    let k2 : KeptBelow firstsFrom b2 b5 = kept-then (omega arith) (firsts .keeps) k3 in
+    let k1 : KeptBelow limitsFrom b1 b5 = kept-then (omega arith) (limits .keeps) k2 in
     record {
       long = k1 .long ∙ n;
       counts = record {
@@ -201,8 +202,8 @@ all-written s b1 b2 b3 b4 b5 r2 r3 r4 r5 f4 f5 f6 c n limits firsts steps promis
         steps = k1 .same 3 (omega arith) ∙ c .steps;
         promises = k1 .same 4 (omega arith) ∙ c .promises;
       };
-      limits = λ j h. limit-kept s j b2 b5 (kept-less (omega arith) k2) (limits .rows j h);
-      firsts = λ j h. masks-kept {m = 646} (omega arith) k3 (firsts .rows j h);
-      steps = λ j h. step-kept s j b4 b5 (kept-less (omega arith) k4) (steps .rows j h);
+      limits = λ j h. row-kept aLimit (limitAt j) _ b2 b5 (kept-less (omega arith) k2) (limits .rows j h);
+      firsts = λ j h. row-kept aFirst (firstAt j) _ b3 b5 (kept-less (omega arith) k3) (firsts .rows j h);
+      steps = λ j h. row-kept aStep (stepAt j) _ b4 b5 (kept-less (omega arith) k4) (steps .rows j h);
       promises = promises .rows;
     }

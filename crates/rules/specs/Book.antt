@@ -3,7 +3,7 @@
 -- first rule's two are its masks, a step rule's four the masks of its left and its right side, a promise's two its masks. All that the
 -- crates above know of a book is the system that it describes (`bookSystem`) and its shape (`Shaped`). Assumes nothing.
 use mathlib.Core.Path.{_≡_}
-use mathlib.Core.Bool.{Bool, true, false, not, _&&_, _||_}
+use mathlib.Core.Bool.{Bool, true, false, cond, not, _&&_, _||_}
 use mathlib.Core.List.{List, []}
 use Prim.Native.Nat.{ℕ, zero, suc, _+_, _-_, _*_, _^_, _≤_, _<_}
 use lib.Bits.{bitAnd}
@@ -11,17 +11,70 @@ use lib.Count.{ones}
 use lib.Dec.{T, leb, ltb, eqb}
 use lib.ListN.{length, getD}
 use Rattle.meaning.specs.System.{System}
-use Rattle.meaning.specs.Sheet.{Sheet, StepRule, stepOf, mostLetters, mostLimits, mostPromises}
+use Rattle.meaning.specs.Sheet.{Sheet, StepRule, stepOf, mostLetters, mostLimits, mostPromises, Kind, aLimit, aFirst, aStep, aPromise}
 use Rattle.meaning.specs.Rules.{lawful, firstState, moves, kept, allTrue, someTrue}
 
 -- ---- where things stand in a book
 
-abbrev pub bookSize : ℕ
-bookSize = 1698
-
+-- "first rules (at most 255), step rules (at most 255)": a count is one byte
 abbrev pub mostRules : ℕ
 mostRules = 255
 
+-- how many numbers a row has, by the kind of its record
+abbrev pub listWidth : ℕ
+listWidth = 2
+
+abbrev pub limitWidth : ℕ
+limitWidth = 4
+
+abbrev pub stepWidth : ℕ
+stepWidth = 4
+
+abbrev pub widthOf : Kind → ℕ
+widthOf aLimit = limitWidth
+widthOf aFirst = listWidth
+widthOf aStep = stepWidth
+widthOf aPromise = listWidth
+
+-- where the rows of each kind begin, the limits' behind the counts; and how many numbers a book has
+abbrev pub limitsFrom : ℕ
+limitsFrom = 8
+
+abbrev pub firstsFrom : ℕ
+firstsFrom = limitsFrom + limitWidth * mostLimits
+
+abbrev pub stepsFrom : ℕ
+stepsFrom = firstsFrom + listWidth * mostRules
+
+abbrev pub promisesFrom : ℕ
+promisesFrom = stepsFrom + stepWidth * mostRules
+
+abbrev pub bookSize : ℕ
+bookSize = promisesFrom + listWidth * mostPromises
+
+-- row i of each kind begins here; a step rule's right side stands behind its left one
+abbrev pub limitAt : ℕ → ℕ
+limitAt i = limitsFrom + limitWidth * i
+
+abbrev pub firstAt : ℕ → ℕ
+firstAt i = firstsFrom + listWidth * i
+
+abbrev pub stepAt : ℕ → ℕ
+stepAt i = stepsFrom + stepWidth * i
+
+abbrev pub rightAt : ℕ → ℕ
+rightAt i = stepAt i + listWidth
+
+abbrev pub promiseAt : ℕ → ℕ
+promiseAt i = promisesFrom + listWidth * i
+
+abbrev pub rowAt : Kind → ℕ → ℕ
+rowAt aLimit i = limitAt i
+rowAt aFirst i = firstAt i
+rowAt aStep i = stepAt i
+rowAt aPromise i = promiseAt i
+
+-- the counts
 abbrev pub lettersOf : List ℕ → ℕ
 lettersOf book = getD book 0 0
 
@@ -37,18 +90,15 @@ stepsOf book = getD book 3 0
 abbrev pub promisesOf : List ℕ → ℕ
 promisesOf book = getD book 4 0
 
--- limit i's four numbers begin here, first rule i's two, step rule i's four, promise i's two
-abbrev pub limitAt : ℕ → ℕ
-limitAt i = 8 + 4 * i
+-- numbers that were read: the two masks at a place, and limit i's row
+pub record MasksRead (l : List ℕ) (at held unheld : ℕ) : Type 0 where
+  pub held-is : held ≡ getD l at 0
+  pub unheld-is : unheld ≡ getD l (at + 1) 0
 
-abbrev pub firstAt : ℕ → ℕ
-firstAt i = 136 + 2 * i
-
-abbrev pub stepAt : ℕ → ℕ
-stepAt i = 646 + 4 * i
-
-abbrev pub promiseAt : ℕ → ℕ
-promiseAt i = 1666 + 2 * i
+pub record LimitRead (book : List ℕ) (i held unheld least most : ℕ) : Type 0 where
+  pub masks : MasksRead book (limitAt i) held unheld
+  pub least-is : least ≡ getD book (limitAt i + 2) 0
+  pub most-is : most ≡ getD book (limitAt i + 3) 0
 
 -- ---- two masks against a state
 
@@ -67,6 +117,11 @@ allOf s held unheld = eqb (bitAnd s held) held && eqb (bitAnd s unheld) 0
 abbrev pub allBelow : ℕ → (ℕ → Bool) → Bool
 allBelow zero test = true
 allBelow (suc n) test = allBelow n test && test n
+
+-- how many numbers below n pass the test
+abbrev pub howMany : (ℕ → Bool) → ℕ → ℕ
+howMany test zero = 0
+howMany test (suc n) = cond (test n) 1 0 + howMany test n
 
 -- ---- the book's rules
 
@@ -97,7 +152,7 @@ bookFirst book s = bookLawful book s && firstsOk book s
 
 -- step rule i allows the step from s to t
 unfoldable pub stepOk : List ℕ → ℕ → ℕ → ℕ → Bool
-stepOk book s t i = not (allAt book (stepAt i) s) || someAt book (stepAt i + 2) t
+stepOk book s t i = not (allAt book (stepAt i) s) || someAt book (rightAt i) t
 
 unfoldable pub stepsOk : List ℕ → ℕ → ℕ → Bool
 stepsOk book s t = allBelow (stepsOf book) (stepOk book s t)
@@ -136,7 +191,7 @@ pub record Shaped (book : List ℕ) : Type 0 where
   pub limits : (i : ℕ) → i < limitsOf book → Masks book (lettersOf book) (limitAt i)
   pub firsts : (i : ℕ) → i < firstsOf book → Masks book (lettersOf book) (firstAt i)
   pub lefts : (i : ℕ) → i < stepsOf book → Masks book (lettersOf book) (stepAt i)
-  pub rights : (i : ℕ) → i < stepsOf book → Masks book (lettersOf book) (stepAt i + 2)
+  pub rights : (i : ℕ) → i < stepsOf book → Masks book (lettersOf book) (rightAt i)
   pub promises : (i : ℕ) → i < promisesOf book → Masks book (lettersOf book) (promiseAt i)
 
 -- the sheet's step rule i, from 0 (past the last: one that asks nothing and allows nothing)
@@ -153,25 +208,29 @@ pub record BookOf (sheet : Sheet) (book : List ℕ) : Type 0 where
   pub kept-is : (k s : ℕ) → bookKept book k s ≡ kept sheet k s
   pub steps-is : stepsOf book ≡ length (sheet .steps)
   pub left-is : (i s : ℕ) → i < stepsOf book → allAt book (stepAt i) s ≡ allTrue s (ruleOf sheet i .left)
-  pub right-is : (i s : ℕ) → i < stepsOf book → someAt book (stepAt i + 2) s ≡ someTrue s (ruleOf sheet i .right)
+  pub right-is : (i s : ℕ) → i < stepsOf book → someAt book (rightAt i) s ≡ someTrue s (ruleOf sheet i .right)
 
 -- ---- rules gathered for one state
 
+-- gathered lists stand one behind another, and there is room for one of each rule
+abbrev pub gatheredAt : ℕ → ℕ
+gatheredAt i = listWidth * i
+
+abbrev pub gatherSize : ℕ
+gatherSize = listWidth * mostRules
+
 -- Clauses: or-lists gathered from a book, two masks each, `count` of them; all are true in t.
 unfoldable pub clausesOk : List ℕ → ℕ → ℕ → Bool
-clausesOk clauses count t = allBelow count (λ i. someAt clauses (2 * i) t)
+clausesOk clauses count t = allBelow count (λ i. someAt clauses (gatheredAt i) t)
 
 -- A pack: and-lists gathered from a book, two masks each; none of them is true in s.
 unfoldable pub packClear : List ℕ → ℕ → ℕ → Bool
-packClear pack count s = allBelow count (λ i. not (allAt pack (2 * i) s))
-
-abbrev pub gatherSize : ℕ
-gatherSize = 510
+packClear pack count s = allBelow count (λ i. not (allAt pack (gatheredAt i) s))
 
 -- gathered masks within the letters
 pub record Gathered (n : ℕ) (l : List ℕ) (count : ℕ) : Type 0 where
   pub few : count ≤ mostRules
-  pub masks : (i : ℕ) → i < count → Masks l n (2 * i)
+  pub masks : (i : ℕ) → i < count → Masks l n (gatheredAt i)
 
 -- the clauses that a first state must make true, and those that a state after s must
 pub record FirstClauses (book clauses : List ℕ) (count : ℕ) : Type 0 where
@@ -186,3 +245,28 @@ pub record NextClauses (book : List ℕ) (s : ℕ) (clauses : List ℕ) (count :
 pub record BeforePack (book : List ℕ) (t : ℕ) (pack : List ℕ) (count : ℕ) : Type 0 where
   pub gathered : Gathered (lettersOf book) pack count
   pub says : (s : ℕ) → packClear pack count s ≡ stepsOk book s t
+
+-- The same for either side of a step: `ahead` for the states after s, else for those before it. What step rule i asks of t; whether it asks
+-- anything, s being what it is; and which of its sides then says what.
+abbrev pub stepToward : Bool → List ℕ → (s t i : ℕ) → Bool
+stepToward true book s t i = stepOk book s t i
+stepToward false book s t i = stepOk book t s i
+
+abbrev pub asksToward : Bool → List ℕ → (s i : ℕ) → Bool
+asksToward true book s i = allAt book (stepAt i) s
+asksToward false book s i = not (someAt book (rightAt i) s)
+
+abbrev pub farAt : Bool → ℕ → ℕ
+farAt true i = rightAt i
+farAt false i = stepAt i
+
+-- what a gathered list of either kind says of a state: a clause is to be true, a list of a pack is not
+abbrev pub farTest : Bool → (t held unheld : ℕ) → Bool
+farTest true t held unheld = someOf t held unheld
+farTest false t held unheld = not (allOf t held unheld)
+
+-- the lists gathered for s say of every t what the step rules say
+pub record GatheredToward (ahead : Bool) (book : List ℕ) (s : ℕ) (l : List ℕ) (count : ℕ) : Type 0 where
+  pub gathered : Gathered (lettersOf book) l count
+  pub says : (t : ℕ) → allBelow count (λ i. farTest ahead t (getD l (gatheredAt i) 0) (getD l (gatheredAt i + 1) 0))
+      ≡ allBelow (stepsOf book) (λ i. stepToward ahead book s t i)

@@ -3,11 +3,13 @@
 use mathlib.Core.Path.{_≡_}
 use mathlib.Core.Bool.{true, false, cond}
 use mathlib.Core.List.{List}
+use mathlib.Core.Option.{none}
 use Prim.Native.Nat.{ℕ, suc, _+_, _≤_, _<_}
 use lib.ListN.{length, getD}
 use Rattle.meaning.specs.Sheet.{Limit, StepRule, limitOf, stepOf, byte, bodyAt, nextAt, afterAt, lettersIn, firstsAt, stepsAt, promisesAt}
+use Rattle.meaning.specs.Sheet.{Kind, aLimit, aFirst, aStep, aPromise, leastBytes, mostLetters, firstFault}
 use Rattle.reader.specs.Place.{part}
-use Rattle.rules.specs.Book.{bookSize, limitAt, firstAt, stepAt, promiseAt}
+use Rattle.rules.specs.Book.{bookSize, listWidth, rowAt, lettersOf, limitsOf, firstsOf, stepsOf, promisesOf}
 use Rattle.rules.specs.Literals.{maskOf, Ordered}
 use Rattle.rules.specs.Rows.{KeptBelow}
 
@@ -17,7 +19,7 @@ use Rattle.rules.specs.Rows.{KeptBelow}
 pub record ListSound (s : List ℕ) (start end : ℕ) : Type 0 where
   pub order : start ≤ end
   pub within : end ≤ length s
-  pub few : lettersIn s ≤ 24
+  pub few : lettersIn s ≤ mostLetters
   pub ordered : Ordered (lettersIn s) 0 (part start end s)
 
 -- a list's masks stand at a place
@@ -39,92 +41,93 @@ pub record LimitRow (l : List ℕ) (row : ℕ) (limit : Limit) : Type 0 where
 
 pub record StepRow (l : List ℕ) (row : ℕ) (rule : StepRule) : Type 0 where
   pub left : MasksAt l row (rule .left)
-  pub right : MasksAt l (row + 2) (rule .right)
+  pub right : MasksAt l (row + listWidth) (rule .right)
 
 -- what compiling a record asks: it lies within the sheet, has its shape, and its lists are in order
 pub record LimitSound (s : List ℕ) (at : ℕ) : Type 0 where
   pub fits : nextAt s at ≤ length s
   pub long : 2 ≤ byte s at
-  pub few : lettersIn s ≤ 24
+  pub few : lettersIn s ≤ mostLetters
   pub among : Ordered (lettersIn s) 0 (limitOf (bodyAt s at) .among)
 
 pub record ListRecordSound (s : List ℕ) (at : ℕ) : Type 0 where
   pub fits : nextAt s at ≤ length s
-  pub few : lettersIn s ≤ 24
+  pub few : lettersIn s ≤ mostLetters
   pub literals : Ordered (lettersIn s) 0 (bodyAt s at)
 
 pub record StepSound (s : List ℕ) (at : ℕ) : Type 0 where
   pub fits : nextAt s at ≤ length s
   pub long : 1 ≤ byte s at
   pub count : byte s (suc at) < byte s at
-  pub few : lettersIn s ≤ 24
+  pub few : lettersIn s ≤ mostLetters
   pub left : Ordered (lettersIn s) 0 (stepOf (bodyAt s at) .left)
   pub right : Ordered (lettersIn s) 0 (stepOf (bodyAt s at) .right)
 
+-- the same by kind: what compiling a record asks, and what its row then says of the record's own bytes
+abbrev pub Sound : Kind → List ℕ → ℕ → Type 0
+Sound aLimit s at = LimitSound s at
+Sound aFirst s at = ListRecordSound s at
+Sound aStep s at = StepSound s at
+Sound aPromise s at = ListRecordSound s at
+
+abbrev pub Row : Kind → List ℕ → ℕ → List ℕ → Type 0
+Row aLimit l row body = LimitRow l row (limitOf body)
+Row aFirst l row body = MasksAt l row body
+Row aStep l row body = StepRow l row (stepOf body)
+Row aPromise l row body = MasksAt l row body
+
 -- a row written, and where the next record begins
-pub record LimitWritten (s : List ℕ) (at : ℕ) (before : List ℕ) (row : ℕ) (after : List ℕ) (next : ℕ) : Type 0 where
+pub record RowWritten (kind : Kind) (s : List ℕ) (at : ℕ) (before : List ℕ) (row : ℕ) (after : List ℕ) (next : ℕ) : Type 0 where
   pub keeps : KeptBelow row before after
-  pub limit : LimitRow after row (limitOf (bodyAt s at))
-  pub there : next ≡ nextAt s at
-
-pub record RecordWritten (s : List ℕ) (at : ℕ) (before : List ℕ) (row : ℕ) (after : List ℕ) (next : ℕ) : Type 0 where
-  pub keeps : KeptBelow row before after
-  pub masks : MasksAt after row (bodyAt s at)
-  pub there : next ≡ nextAt s at
-
-pub record StepWritten (s : List ℕ) (at : ℕ) (before : List ℕ) (row : ℕ) (after : List ℕ) (next : ℕ) : Type 0 where
-  pub keeps : KeptBelow row before after
-  pub rule : StepRow after row (stepOf (bodyAt s at))
+  pub says : Row kind after row (bodyAt s at)
   pub there : next ≡ nextAt s at
 
 -- ---- sections
 
--- row j of each section, from the sheet's j-th record of that kind
-abbrev pub LimitRowOf : List ℕ → List ℕ → ℕ → Type 0
-LimitRowOf s l j = LimitRow l (limitAt j) (limitOf (bodyAt s (afterAt s j 8)))
+-- where the records of a kind begin in the sheet, and how many there are
+abbrev pub startOf : Kind → List ℕ → ℕ
+startOf aLimit s = leastBytes
+startOf aFirst s = firstsAt s
+startOf aStep s = stepsAt s
+startOf aPromise s = promisesAt s
 
-abbrev pub FirstRowOf : List ℕ → List ℕ → ℕ → Type 0
-FirstRowOf s l j = MasksAt l (firstAt j) (bodyAt s (afterAt s j (firstsAt s)))
+abbrev pub recordsOf : Kind → List ℕ → ℕ
+recordsOf aLimit s = byte s 4
+recordsOf aFirst s = byte s 5
+recordsOf aStep s = byte s 6
+recordsOf aPromise s = byte s 7
 
-abbrev pub StepRowOf : List ℕ → List ℕ → ℕ → Type 0
-StepRowOf s l j = StepRow l (stepAt j) (stepOf (bodyAt s (afterAt s j (stepsAt s))))
+-- row j of a kind stands, from the sheet's j-th record of that kind
+abbrev pub RowOf : Kind → List ℕ → List ℕ → ℕ → Type 0
+RowOf kind s l j = Row kind l (rowAt kind j) (bodyAt s (afterAt s j (startOf kind s)))
 
-abbrev pub PromiseRowOf : List ℕ → List ℕ → ℕ → Type 0
-PromiseRowOf s l j = MasksAt l (promiseAt j) (bodyAt s (afterAt s j (promisesAt s)))
+-- what compiling a section asks: a good sheet, a book's room, and where the section begins and how many records it has
+pub record SectionAsks (kind : Kind) (s book : List ℕ) (count from : ℕ) : Type 0 where
+  pub good : firstFault s ≡ none
+  pub long : length book ≡ bookSize
+  pub all : count ≡ recordsOf kind s
+  pub begins : from ≡ startOf kind s
 
--- the first i rows of a section that begins at `base`, the cursor behind the i-th record
-pub record Section (Row : List ℕ → List ℕ → ℕ → Type 0) (s : List ℕ) (base start : ℕ) (before after : List ℕ) (i at : ℕ) : Type 0 where
-  pub keeps : KeptBelow base before after
-  pub rows : (j : ℕ) → j < i → Row s after j
-  pub there : at ≡ afterAt s i start
-
--- a whole section written, and where the next one begins
-abbrev pub LimitsWritten : List ℕ → List ℕ → List ℕ → ℕ → Type 0
-LimitsWritten s before after next = Section LimitRowOf s 8 8 before after (byte s 4) next
-
-abbrev pub FirstsWritten : List ℕ → List ℕ → List ℕ → ℕ → Type 0
-FirstsWritten s before after next = Section FirstRowOf s 136 (firstsAt s) before after (byte s 5) next
-
-abbrev pub StepsWritten : List ℕ → List ℕ → List ℕ → ℕ → Type 0
-StepsWritten s before after next = Section StepRowOf s 646 (stepsAt s) before after (byte s 6) next
-
-abbrev pub PromisesWritten : List ℕ → List ℕ → List ℕ → ℕ → Type 0
-PromisesWritten s before after next = Section PromiseRowOf s 1666 (promisesAt s) before after (byte s 7) next
+-- the first i rows of a section, the cursor behind the i-th record
+pub record Section (kind : Kind) (s before after : List ℕ) (i at : ℕ) : Type 0 where
+  pub keeps : KeptBelow (rowAt kind 0) before after
+  pub rows : (j : ℕ) → j < i → RowOf kind s after j
+  pub there : at ≡ afterAt s i (startOf kind s)
 
 -- ---- the whole book
 
 -- the five counts
 pub record Counts (s l : List ℕ) : Type 0 where
-  pub letters : getD l 0 0 ≡ byte s 3
-  pub limits : getD l 1 0 ≡ byte s 4
-  pub firsts : getD l 2 0 ≡ byte s 5
-  pub steps : getD l 3 0 ≡ byte s 6
-  pub promises : getD l 4 0 ≡ byte s 7
+  pub letters : lettersOf l ≡ byte s 3
+  pub limits : limitsOf l ≡ byte s 4
+  pub firsts : firstsOf l ≡ byte s 5
+  pub steps : stepsOf l ≡ byte s 6
+  pub promises : promisesOf l ≡ byte s 7
 
 pub record Written (s book : List ℕ) : Type 0 where
   pub long : length book ≡ bookSize
   pub counts : Counts s book
-  pub limits : (j : ℕ) → j < byte s 4 → LimitRowOf s book j
-  pub firsts : (j : ℕ) → j < byte s 5 → FirstRowOf s book j
-  pub steps : (j : ℕ) → j < byte s 6 → StepRowOf s book j
-  pub promises : (j : ℕ) → j < byte s 7 → PromiseRowOf s book j
+  pub limits : (j : ℕ) → j < byte s 4 → RowOf aLimit s book j
+  pub firsts : (j : ℕ) → j < byte s 5 → RowOf aFirst s book j
+  pub steps : (j : ℕ) → j < byte s 6 → RowOf aStep s book j
+  pub promises : (j : ℕ) → j < byte s 7 → RowOf aPromise s book j

@@ -1,4 +1,15 @@
 // The tests of a book.
+use super::book::State;
+use super::book::first_at;
+use super::book::firsts;
+use super::book::letters;
+use super::book::limit;
+use super::book::limits;
+use super::book::promise_at;
+use super::book::promises;
+use super::book::right_at;
+use super::book::step_at;
+use super::book::steps;
 use super::tally::all_true;
 use super::tally::count_true;
 use super::tally::some_true;
@@ -6,11 +17,11 @@ ghost use mathlib.Core.Path.{_≡_};
 ghost use mathlib.Core.Bool.{true};
 ghost use Prim.Native.Nat.{_+_, _<_, _≤_};
 ghost use lib.ListN.{length};
-ghost use Rattle.rules.specs.Book.{someAt, allAt, limitAt, limitOk, limitsOk, bookLawful, firstsOk, bookFirst, stepOk};
-ghost use Rattle.rules.specs.Book.{stepAt, stepsOk, bookMoves, bookKept, lettersOf, limitsOf, firstsOf, stepsOf, promisesOf, Shaped};
+ghost use Rattle.rules.specs.Book.{someAt, allAt, limitOk, limitsOk, bookLawful, firstsOk, bookFirst, stepOk};
+ghost use Rattle.rules.specs.Book.{firstAt, stepAt, rightAt, stepsOk, bookMoves, bookKept, limitsOf, firstsOf, stepsOf, Shaped};
 
 // Whether some literal of the two masks at place `at` is true in s.
-pub fn some_at(l: &[u32], at: usize, s: u32) -> bool
+pub fn some_at(l: &[State], at: usize, s: State) -> bool
     requires { ⌜ at + 1 < length (now l) ⌝ }
     ensures { λ r. ⌜ r ≡ someAt (now (l .entry)) at s ⌝ }
 {
@@ -21,7 +32,7 @@ pub fn some_at(l: &[u32], at: usize, s: u32) -> bool
 }
 
 // Whether every literal of the two masks at place `at` is true in s.
-pub fn all_at(l: &[u32], at: usize, s: u32) -> bool
+pub fn all_at(l: &[State], at: usize, s: State) -> bool
     requires { ⌜ at + 1 < length (now l) ⌝ }
     ensures { λ r. ⌜ r ≡ allAt (now (l .entry)) at s ⌝ }
 {
@@ -32,28 +43,23 @@ pub fn all_at(l: &[u32], at: usize, s: u32) -> bool
 }
 
 // Whether limit i holds in s.
-fn limit_ok(book: &[u32], s: u32, i: usize) -> bool
-    requires { ⌜ limitAt i + 3 < length (now book) ⌝ }
+fn limit_ok(book: &[State], s: State, i: usize) -> bool
+    requires { ⌜ Shaped (now book) × (i < limitsOf (now book)) ⌝ }
     ensures { λ r. ⌜ r ≡ limitOk (now (book .entry)) s i ⌝ }
 {
-    let at = 8 + 4 * i;
-    let second = at + 1;
-    let third = at + 2;
-    let fourth = at + 3;
-    let held = book[at];
-    let unheld = book[second];
-    let least = book[third];
-    let most = book[fourth];
-    let count = count_true(s, held, unheld);
+    let row = limit(book, i);
+    let least = row.least;
+    let most = row.most;
+    let count = count_true(s, row.held, row.unheld);
     least <= count && count <= most
 }
 
 // Whether every limit holds in s.
-pub fn limits_ok(book: &[u32], s: u32) -> bool
+pub fn limits_ok(book: &[State], s: State) -> bool
     requires { ⌜ Shaped (now book) ⌝ }
     ensures { λ r. ⌜ r ≡ limitsOk (now (book .entry)) s ⌝ }
 {
-    let count = book[1] as usize;
+    let count = limits(book);
     let mut i: usize = 0;
     while i < count {
         if !limit_ok(book, s, i) {
@@ -65,7 +71,7 @@ pub fn limits_ok(book: &[u32], s: u32) -> bool
 }
 
 // Whether s is lawful: below 2^n, and every limit holds in it.
-pub fn lawful(book: &[u32], s: u32) -> bool
+pub fn lawful(book: &[State], s: State) -> bool
     requires { ⌜ Shaped (now book) ⌝ }
     ensures { λ r. ⌜ r ≡ bookLawful (now (book .entry)) s ⌝ }
 {
@@ -76,16 +82,24 @@ pub fn lawful(book: &[u32], s: u32) -> bool
     limits_ok(book, s)
 }
 
+// Whether first rule i is true in s.
+fn first_allows(book: &[State], s: State, i: usize) -> bool
+    requires { ⌜ Shaped (now book) × (i < firstsOf (now book)) ⌝ }
+    ensures { λ r. ⌜ r ≡ someAt (now (book .entry)) (firstAt i) s ⌝ }
+{
+    let at = first_at(i);
+    some_at(book, at, s)
+}
+
 // Whether every first rule is true in s.
-pub fn firsts_ok(book: &[u32], s: u32) -> bool
+pub fn firsts_ok(book: &[State], s: State) -> bool
     requires { ⌜ Shaped (now book) ⌝ }
     ensures { λ r. ⌜ r ≡ firstsOk (now (book .entry)) s ⌝ }
 {
-    let count = book[2] as usize;
+    let count = firsts(book);
     let mut i: usize = 0;
     while i < count {
-        let at = 136 + 2 * i;
-        if !some_at(book, at, s) {
+        if !first_allows(book, s, i) {
             return false;
         }
         i += 1;
@@ -94,7 +108,7 @@ pub fn firsts_ok(book: &[u32], s: u32) -> bool
 }
 
 // Whether s is a first state.
-pub fn first_state(book: &[u32], s: u32) -> bool
+pub fn first_state(book: &[State], s: State) -> bool
     requires { ⌜ Shaped (now book) ⌝ }
     ensures { λ r. ⌜ r ≡ bookFirst (now (book .entry)) s ⌝ }
 {
@@ -105,24 +119,22 @@ pub fn first_state(book: &[u32], s: u32) -> bool
 }
 
 // Whether step rule i allows the step from s to t.
-fn step_ok(book: &[u32], s: u32, t: u32, i: usize) -> bool
-    requires { ⌜ i < 255 × (length (now book) ≡ 1698) ⌝ }
+fn step_ok(book: &[State], s: State, t: State, i: usize) -> bool
+    requires { ⌜ Shaped (now book) × (i < stepsOf (now book)) ⌝ }
     ensures { λ r. ⌜ r ≡ stepOk (now (book .entry)) s t i ⌝ }
 {
-    let at = 646 + 4 * i;
-    let right = at + 2;
-    if !all_at(book, at, s) {
+    if !step_asks(book, i, s) {
         return true;
     }
-    some_at(book, right, t)
+    step_allows(book, i, t)
 }
 
 // Whether every step rule allows the step from s to t.
-pub fn steps_ok(book: &[u32], s: u32, t: u32) -> bool
+pub fn steps_ok(book: &[State], s: State, t: State) -> bool
     requires { ⌜ Shaped (now book) ⌝ }
     ensures { λ r. ⌜ r ≡ stepsOk (now (book .entry)) s t ⌝ }
 {
-    let count = book[3] as usize;
+    let count = steps(book);
     let mut i: usize = 0;
     while i < count {
         if !step_ok(book, s, t, i) {
@@ -134,7 +146,7 @@ pub fn steps_ok(book: &[u32], s: u32, t: u32) -> bool
 }
 
 // Whether s moves to t.
-pub fn moves(book: &[u32], s: u32, t: u32) -> bool
+pub fn moves(book: &[State], s: State, t: State) -> bool
     requires { ⌜ Shaped (now book) ⌝ }
     ensures { λ r. ⌜ r ≡ bookMoves (now (book .entry)) s t ⌝ }
 {
@@ -148,7 +160,7 @@ pub fn moves(book: &[u32], s: u32, t: u32) -> bool
 }
 
 // Whether promise k, counted from 0, is kept in s; false past the last promise.
-pub fn kept(book: &[u32], k: usize, s: u32) -> bool
+pub fn kept(book: &[State], k: usize, s: State) -> bool
     requires { ⌜ Shaped (now book) ⌝ }
     ensures { λ r. ⌜ r ≡ bookKept (now (book .entry)) k s ⌝ }
 {
@@ -156,49 +168,24 @@ pub fn kept(book: &[u32], k: usize, s: u32) -> bool
     if k >= count {
         return false;
     }
-    let at = 1666 + 2 * k;
+    let at = promise_at(k);
     some_at(book, at, s)
 }
 
-// How many letters the sheet has.
-pub fn letters(book: &[u32]) -> u32
-    requires { ⌜ Shaped (now book) ⌝ }
-    ensures { λ r. ⌜ r ≡ lettersOf (now (book .entry)) ⌝ }
-{
-    book[0]
-}
-
-// How many promises the sheet has.
-pub fn promises(book: &[u32]) -> usize
-    requires { ⌜ Shaped (now book) ⌝ }
-    ensures { λ r. ⌜ r ≡ promisesOf (now (book .entry)) ⌝ }
-{
-    book[4] as usize
-}
-
-// How many step rules the sheet has.
-pub fn steps(book: &[u32]) -> usize
-    requires { ⌜ Shaped (now book) ⌝ }
-    ensures { λ r. ⌜ r ≡ stepsOf (now (book .entry)) ⌝ }
-{
-    book[3] as usize
-}
-
 // Whether step rule i, counted from 0, asks something after s: its left side is true there.
-pub fn step_asks(book: &[u32], i: usize, s: u32) -> bool
+pub fn step_asks(book: &[State], i: usize, s: State) -> bool
     requires { ⌜ Shaped (now book) × (i < stepsOf (now book)) ⌝ }
     ensures { λ r. ⌜ r ≡ allAt (now (book .entry)) (stepAt i) s ⌝ }
 {
-    let at = 646 + 4 * i;
+    let at = step_at(i);
     all_at(book, at, s)
 }
 
 // Whether t gives what step rule i asks for: its right side is true there.
-pub fn step_allows(book: &[u32], i: usize, t: u32) -> bool
+pub fn step_allows(book: &[State], i: usize, t: State) -> bool
     requires { ⌜ Shaped (now book) × (i < stepsOf (now book)) ⌝ }
-    ensures { λ r. ⌜ r ≡ someAt (now (book .entry)) (stepAt i + 2) t ⌝ }
+    ensures { λ r. ⌜ r ≡ someAt (now (book .entry)) (rightAt i) t ⌝ }
 {
-    let at = 646 + 4 * i;
-    let right = at + 2;
-    some_at(book, right, t)
+    let at = right_at(i);
+    some_at(book, at, t)
 }

@@ -1,27 +1,23 @@
 // The two masks of a list of literals, each literal's byte read through the reader.
+use super::book::Pair;
+use super::book::State;
 ghost use mathlib.Core.Path.{_≡_};
 ghost use mathlib.Core.Bool.{true, false};
 ghost use Prim.Native.Nat.{_-_, _+_, _^_, _≤_, _<_};
 ghost use lib.ListN.{length};
-ghost use Rattle.meaning.specs.Sheet.{size};
+ghost use Rattle.meaning.specs.Sheet.{size, mostLetters};
 ghost use Rattle.reader.specs.Place.{part};
 ghost use Rattle.rules.specs.Literals.{maskOf};
 ghost use Rattle.rules.specs.Compile.{ListSound, ListWritten};
 
-// The letters that are to hold, and those that are not.
-pub struct Pair {
-    pub held: u32,
-    pub unheld: u32,
-}
-
 // The bit of the letter that a literal names.
-fn bit_of(b: u8) -> u32
-    requires { ⌜ (1 ≤ size b) × (size b ≤ 24) ⌝ }
+fn bit_of(b: u8) -> State
+    requires { ⌜ (1 ≤ size b) × (size b ≤ mostLetters) ⌝ }
     ensures { λ r. ⌜ r ≡ 2 ^ (size b - 1) ⌝ }
 {
     let letter = reader::literal::letter_of(b);
     let j = letter - 1;
-    1u32 << j
+    (1 as State) << j
 }
 
 // The masks of the literals from `start` to `end`.
@@ -30,8 +26,8 @@ fn masks_of(sheet: &[u8], start: usize, end: usize) -> Pair
     ensures held { λ r. ⌜ r .held ≡ maskOf true (part start end (now (sheet .entry))) ⌝ }
     ensures unheld { λ r. ⌜ r .unheld ≡ maskOf false (part start end (now (sheet .entry))) ⌝ }
 {
-    let mut held: u32 = 0;
-    let mut unheld: u32 = 0;
+    let mut held: State = 0;
+    let mut unheld: State = 0;
     let mut at = start;
     while at < end {
         let b = sheet[at];
@@ -48,7 +44,7 @@ fn masks_of(sheet: &[u8], start: usize, end: usize) -> Pair
 }
 
 // Writes the two masks of the sheet's literals from `start` to `end` at places `at` and `at` + 1 of the book.
-pub fn put_masks(sheet: &[u8], start: usize, end: usize, book: &mut [u32], at: usize)
+pub fn put_masks(sheet: &[u8], start: usize, end: usize, book: &mut [State], at: usize)
     requires { ⌜ ListSound (now sheet) start end × (at + 1 < length (now book)) ⌝ }
     ensures { λ _. ⌜ ListWritten (part start end (now (sheet .entry))) (now (book .entry)) at (now (book .exit)) ⌝ }
 {

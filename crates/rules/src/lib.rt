@@ -1,6 +1,7 @@
 // Rules: a good sheet compiled into a book (two masks for each list of literals), and the tests of states against it. What the functions
 // promise is said in specs/Book.antt; that a book's system is its sheet's is proofs/Same.antt.
 pub mod ask;
+pub mod book;
 pub mod build;
 pub mod freedom;
 pub mod gather;
@@ -11,12 +12,17 @@ pub mod tally;
 pub use ask::first_state;
 pub use ask::kept;
 pub use ask::lawful;
-pub use ask::letters;
 pub use ask::moves;
-pub use ask::promises;
 pub use ask::step_allows;
 pub use ask::step_asks;
-pub use ask::steps;
+pub use book::BOOK_SIZE;
+pub use book::GATHER_SIZE;
+pub use book::gathered;
+pub use book::letters;
+pub use book::limit;
+pub use book::limits;
+pub use book::promises;
+pub use book::steps;
 pub use freedom::freer;
 pub use gather::clear;
 pub use gather::fits;

@@ -1,23 +1,28 @@
 // One record compiled into its row of the book. Each function answers where the next record begins.
+use super::book::State;
 use super::build::put_masks;
+use reader::Kind;
 ghost use mathlib.Core.Path.{_≡_};
 ghost use mathlib.Core.Bool.{cond};
-ghost use Prim.Native.Nat.{_+_, _<_};
+ghost use Prim.Native.Nat.{_+_, _≤_};
 ghost use lib.ListN.{length};
-ghost use Rattle.rules.specs.Compile.{LimitSound, LimitWritten, ListRecordSound, RecordWritten, StepSound, StepWritten};
+ghost use Rattle.meaning.specs.Sheet.{aLimit, aFirst, aStep};
+ghost use Rattle.reader.specs.Answer.{kindOf};
+ghost use Rattle.rules.specs.Book.{limitWidth, listWidth, stepWidth, widthOf};
+ghost use Rattle.rules.specs.Compile.{LimitSound, ListRecordSound, StepSound, Sound, RowWritten};
 
 // The least that may be true: the bound itself for exactly, 0 for at most.
-fn least(exact: bool, bound: u8) -> u32
+fn least(exact: bool, bound: u8) -> State
     ensures { λ r. ⌜ r ≡ cond exact bound 0 ⌝ }
 {
-    if exact { bound as u32 } else { 0 }
+    if exact { bound as State } else { 0 }
 }
 
 // Compiles a limit: its masks, the least and the most. The record's length byte stands at `at`, its row begins at place `row` of the book;
 // answers where the next record begins.
-pub fn limit(sheet: &[u8], at: usize, book: &mut [u32], row: usize) -> usize
-    requires { ⌜ LimitSound (now sheet) at × (row + 3 < length (now book)) ⌝ }
-    ensures { λ r. ⌜ LimitWritten (now (sheet .entry)) at (now (book .entry)) row (now (book .exit)) r ⌝ }
+fn limit(sheet: &[u8], at: usize, book: &mut [State], row: usize) -> usize
+    requires { ⌜ LimitSound (now sheet) at × (row + limitWidth ≤ length (now book)) ⌝ }
+    ensures { λ r. ⌜ RowWritten aLimit (now (sheet .entry)) at (now (book .entry)) row (now (book .exit)) r ⌝ }
 {
     let p = reader::parts::limit_parts(sheet, at);
     let start = p.start;
@@ -26,14 +31,14 @@ pub fn limit(sheet: &[u8], at: usize, book: &mut [u32], row: usize) -> usize
     let third = row + 2;
     let fourth = row + 3;
     book[third] = least(p.exact, p.bound);
-    book[fourth] = p.bound as u32;
+    book[fourth] = p.bound as State;
     end
 }
 
 // Compiles a first rule or a promise, the same way: the masks of its literals.
-pub fn list(sheet: &[u8], at: usize, book: &mut [u32], row: usize) -> usize
-    requires { ⌜ ListRecordSound (now sheet) at × (row + 1 < length (now book)) ⌝ }
-    ensures { λ r. ⌜ RecordWritten (now (sheet .entry)) at (now (book .entry)) row (now (book .exit)) r ⌝ }
+fn list(sheet: &[u8], at: usize, book: &mut [State], row: usize) -> usize
+    requires { ⌜ ListRecordSound (now sheet) at × (row + listWidth ≤ length (now book)) ⌝ }
+    ensures { λ r. ⌜ RowWritten aFirst (now (sheet .entry)) at (now (book .entry)) row (now (book .exit)) r ⌝ }
 {
     let len = sheet[at] as usize;
     let start = at + 1;
@@ -43,9 +48,9 @@ pub fn list(sheet: &[u8], at: usize, book: &mut [u32], row: usize) -> usize
 }
 
 // Compiles a step rule, the same way: the masks of its left and of its right side.
-pub fn step(sheet: &[u8], at: usize, book: &mut [u32], row: usize) -> usize
-    requires { ⌜ StepSound (now sheet) at × (row + 3 < length (now book)) ⌝ }
-    ensures { λ r. ⌜ StepWritten (now (sheet .entry)) at (now (book .entry)) row (now (book .exit)) r ⌝ }
+fn step(sheet: &[u8], at: usize, book: &mut [State], row: usize) -> usize
+    requires { ⌜ StepSound (now sheet) at × (row + stepWidth ≤ length (now book)) ⌝ }
+    ensures { λ r. ⌜ RowWritten aStep (now (sheet .entry)) at (now (book .entry)) row (now (book .exit)) r ⌝ }
 {
     let p = reader::parts::step_parts(sheet, at);
     let left = p.left;
@@ -55,4 +60,17 @@ pub fn step(sheet: &[u8], at: usize, book: &mut [u32], row: usize) -> usize
     let second = row + 2;
     put_masks(sheet, right, end, book, second);
     end
+}
+
+// Compiles a record of any kind, the same way.
+pub fn compile(kind: Kind, sheet: &[u8], at: usize, book: &mut [State], row: usize) -> usize
+    requires { ⌜ Sound (kindOf kind) (now sheet) at × (row + widthOf (kindOf kind) ≤ length (now book)) ⌝ }
+    ensures { λ r. ⌜ RowWritten (kindOf kind) (now (sheet .entry)) at (now (book .entry)) row (now (book .exit)) r ⌝ }
+{
+    match kind {
+        Kind::Limit => limit(sheet, at, book, row),
+        Kind::FirstRule => list(sheet, at, book, row),
+        Kind::StepRule => step(sheet, at, book, row),
+        Kind::Promise => list(sheet, at, book, row),
+    }
 }

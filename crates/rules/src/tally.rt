@@ -1,17 +1,18 @@
 // Two masks against a state: how many of their literals are true in it, whether some is, whether all are.
+use super::book::State;
 ghost use mathlib.Core.Path.{_≡_};
 ghost use lib.Count.{ones};
 ghost use Rattle.rules.specs.Book.{countOf, someOf, allOf};
 
 // How many bits of x are set.
-pub fn ones_in(x: u32) -> u32
+pub fn ones_in(x: State) -> u32
     ensures { λ r. ⌜ r ≡ ones x ⌝ }
 {
     u32::count_ones(x)
 }
 
 // How many literals are true in s: of the letters asked to hold those that do, and of those asked not to hold those that do not.
-pub fn count_true(s: u32, held: u32, unheld: u32) -> u32
+pub fn count_true(s: State, held: State, unheld: State) -> u32
     ensures { λ r. ⌜ r ≡ countOf s held unheld ⌝ }
 {
     let holding = ones_in(s & held);
@@ -20,7 +21,7 @@ pub fn count_true(s: u32, held: u32, unheld: u32) -> u32
 }
 
 // Whether some literal is true in s.
-pub fn some_true(s: u32, held: u32, unheld: u32) -> bool
+pub fn some_true(s: State, held: State, unheld: State) -> bool
     ensures { λ r. ⌜ r ≡ someOf s held unheld ⌝ }
 {
     let common = s & held;
@@ -29,7 +30,7 @@ pub fn some_true(s: u32, held: u32, unheld: u32) -> bool
 }
 
 // Whether every literal is true in s.
-pub fn all_true(s: u32, held: u32, unheld: u32) -> bool
+pub fn all_true(s: State, held: State, unheld: State) -> bool
     ensures { λ r. ⌜ r ≡ allOf s held unheld ⌝ }
 {
     let common = s & held;

@@ -79,7 +79,7 @@ fn check_paper(sheet: &[u8], sb: &[u8], sn: &[u32], wb: &[u8], wn: &[u32]) -> u3
     if wb.len() % 4 != 0 {
         return 14;
     }
-    let mut book = [0u32; 1698];
+    let mut book = [0u32; rules::BOOK_SIZE];
     rules::compile(sheet, &mut book);
     if accepted(&book, sb, sn, wb, wn) {
         0

@@ -6,24 +6,15 @@ use borrow.Author.Needs.{needs}
 use Rattle.rules.proofs.ask.moves.Statement.{statement}
 use Rattle.rules.proofs.ask.moves.Tie as tie
 
-lawful-requires : tie.Need-lawful-requires
-lawful-requires c κs = search needs
-
 returns : tie.Need-returns
 unfolding bookMoves
 returns c = rw (sym (c .before .lawful .ensures) ∙ not-true _ (c .if1 .taken)) refl
-
-lawful-requires-2 : tie.Need-lawful-requires-2
-lawful-requires-2 c κs = search needs
 
 returns-2 : tie.Need-returns-2
 unfolding bookMoves
 returns-2 c =
     let first = sym (c .before .before .before .lawful .ensures) ∙ not-false _ (c .before .before .if1 .left) in
     rw (first, sym (c .before .lawful2 .ensures) ∙ not-true _ (c .if2 .taken)) refl
-
-steps-ok-requires : tie.Need-steps-ok-requires
-steps-ok-requires c κs = search needs
 
 returns-3 : tie.Need-returns-3
 unfolding bookMoves
@@ -34,4 +25,4 @@ returns-3 c =
 pub moves-spec : {M : Type 1} → statement M
 moves-spec =
     tie.close
-    (tie.spec lawful-requires returns lawful-requires-2 returns-2 steps-ok-requires returns-3)
+    (tie.spec (λ c κs. search needs) returns (λ c κs. search needs) returns-2 (λ c κs. search needs) returns-3)

@@ -45,12 +45,6 @@ add-held c =
     (l .at) 0) - 1)) (l .unheld) so in
     omega (arith, f .0, after-bit-of .bit-of .ensures)
 
-add-at : tie.Need-add-at Inv-loop μ-loop
-add-at c = omega arith
-
-loop-less : tie.Need-loop-less Inv-loop μ-loop
-loop-less c = omega arith
-
 loop-again : tie.Need-loop-again Inv-loop μ-loop
 loop-again c =
     let after-bit-of = c .before .before in
@@ -76,12 +70,6 @@ add-unheld c =
     let f = sums-fit (a .sheet .now) (a .start) (a .end) (start .pre) (l .at + 1) (l .held) (l .unheld + 2 ^ (size (getD (a .sheet .now)
     (l .at) 0) - 1)) so in
     omega (arith, f .1, after-bit-of .bit-of .ensures)
-
-add-at-2 : tie.Need-add-at-2 Inv-loop μ-loop
-add-at-2 c = omega arith
-
-loop-less-2 : tie.Need-loop-less-2 Inv-loop μ-loop
-loop-less-2 c = omega arith
 
 loop-again-2 : tie.Need-loop-again-2 Inv-loop μ-loop
 loop-again-2 c =
@@ -112,11 +100,11 @@ masks-of-spec =
     bit-of-requires
     is-positive-requires
     add-held
-    add-at
-    loop-less
+    (λ c. omega arith)
+    (λ c. omega arith)
     loop-again
     add-unheld
-    add-at-2
-    loop-less-2
+    (λ c. omega arith)
+    (λ c. omega arith)
     loop-again-2
     returns)

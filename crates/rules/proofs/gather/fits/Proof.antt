@@ -1,59 +1,51 @@
 -- The loop has tested every number below i. Assumes nothing.
-use mathlib.Core.Path.{_≡_, refl, sym, _∙_}
-use mathlib.Core.Bool.{true}
-use Prim.Native.Nat.{_-_, _*_, _≤_}
+use mathlib.Core.Path.{_≡_, refl, sym, _∙_, ap}
+use mathlib.Core.Bool.{Bool, true}
+use Prim.Native.Nat.{ℕ, _-_, _≤_}
 use native.Mathlib.Omega.{arith}
 use borrow.Author.Tests.{not-true, not-false}
 use Rattle.rules.proofs.Asking.{all-more, all-broken, all-done}
-use Rattle.rules.specs.Book.{allBelow, someAt, clausesOk}
+use Rattle.rules.specs.Book.{allBelow, someAt, gatheredAt, clausesOk}
 use Rattle.rules.proofs.gather.fits.Statement.{statement}
 use Rattle.rules.proofs.gather.fits.Tie as tie
 
 abbrev Inv-loop : tie.InvT-loop
-Inv-loop clauses count t i₀ i = (i ≤ count) × (allBelow i (λ i. someAt clauses (2 * i) t) ≡ true)
+Inv-loop clauses count t i₀ i = (i ≤ count) × (allBelow i (λ i. someAt clauses (gatheredAt i) t) ≡ true)
 
 abbrev μ-loop : tie.MeasureT-loop
 μ-loop clauses count t i₀ i = count - i
 
-loop-holds : tie.Need-loop-holds Inv-loop μ-loop
-loop-holds c = (omega arith, refl)
+-- what the loop tests
+abbrev test : tie.Start Inv-loop μ-loop → ℕ → Bool
+test start = λ i. someAt (start .args .clauses .now) (gatheredAt i) (start .args .t)
 
-mul-at : tie.Need-mul-at Inv-loop μ-loop
-mul-at c = omega arith
-
-some-at-requires : tie.Need-some-at-requires Inv-loop μ-loop
-some-at-requires c κs = omega arith
+-- what a turn's call says of its clause
+turn-says :
+    (c : tie.After-some-at Inv-loop μ-loop) → let head = c .before .before .before in
+    test (head .before .before) (head .loop .i) ≡ c .some-at .result
+turn-says c =
+    let a = c .before .before .before .before .before .args in
+    sym (c .some-at .ensures ∙ ap (λ (at : ℕ). someAt (a .clauses .now) at (a .t)) (c .before .gathered-at .ensures))
 
 returns : tie.Need-returns Inv-loop μ-loop
 unfolding clausesOk
 returns c =
-    let turn = c .before .before in
+    let turn = c .before .before .before in
     let head = turn .before in
-    let start = head .before .before in
-    sym (all-broken (λ i. someAt (start .args .clauses .now) (2 * i) (start .args .t)) _ (head .loop .i) (turn .loop-test .taken) (sym
-    (c .before .some-at .ensures) ∙ not-true _ (c .if1 .taken)))
-
-add-i : tie.Need-add-i Inv-loop μ-loop
-add-i c = omega arith
-
-loop-less : tie.Need-loop-less Inv-loop μ-loop
-loop-less c = omega arith
+    let fails = turn-says (c .before) ∙ not-true _ (c .if1 .taken) in
+    sym (all-broken (test (head .before .before)) _ (head .loop .i) (turn .loop-test .taken) fails)
 
 loop-again : tie.Need-loop-again Inv-loop μ-loop
 loop-again c =
-    let head = c .before .before .before in
-    let start = head .before .before in (
-      omega arith,
-      all-more (λ i. someAt (start .args .clauses .now) (2 * i) (start .args .t)) (head .loop .i) (head .loop .inv .1) (sym
-          (c .before .some-at .ensures) ∙ not-false _ (c .if1 .left)),
-    )
+    let head = c .before .before .before .before in
+    let passes = turn-says (c .before) ∙ not-false _ (c .if1 .left) in
+    (omega arith, all-more (test (head .before .before)) (head .loop .i) (head .loop .inv .1) passes)
 
 returns-2 : tie.Need-returns-2 Inv-loop μ-loop
 unfolding clausesOk
 returns-2 c =
-    let start = c .before .before .before in
-    sym (all-done (λ i. someAt (start .args .clauses .now) (2 * i) (start .args .t)) (c .before .loop .i) _ (c .before .loop .inv .0)
-    (c .loop-test .left) (c .before .loop .inv .1))
+    let l = c .before .loop in
+    sym (all-done (test (c .before .before .before)) (l .i) _ (l .inv .0) (c .loop-test .left) (l .inv .1))
 
 pub fits-spec : {M : Type 1} → statement M
 fits-spec =
@@ -61,11 +53,11 @@ fits-spec =
     (tie.spec
     Inv-loop
     μ-loop
-    loop-holds
-    mul-at
-    some-at-requires
+    (λ c. (omega arith, refl))
+    (λ c κs. omega arith)
+    (λ c κs. omega arith)
     returns
-    add-i
-    loop-less
+    (λ c. omega arith)
+    (λ c. omega arith)
     loop-again
     returns-2)

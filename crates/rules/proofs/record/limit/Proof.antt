@@ -7,9 +7,6 @@ use borrow.Author.Needs.{needs}
 use Rattle.rules.proofs.record.limit.Statement.{statement}
 use Rattle.rules.proofs.record.limit.Tie as tie
 
-limit-parts-requires : tie.Need-limit-parts-requires
-limit-parts-requires c κs = search needs
-
 put-masks-requires : tie.Need-put-masks-requires
 put-masks-requires c κs =
     let a = c .before .before .before .before .args in
@@ -17,27 +14,6 @@ put-masks-requires c κs =
     let r = c .before .limit-parts .ensures in
     let h = c .before .before .before .before .pre .1 in
     (limit-list (a .sheet .now) (a .at) (p .start) (p .end) (c .before .before .before .before .pre .0) (r .among) (r .order) (r .end), omega arith)
-
-add-third : tie.Need-add-third
-add-third c = search needs
-
-add-fourth : tie.Need-add-fourth
-add-fourth c = search needs
-
-least-requires : tie.Need-least-requires
-least-requires c κs = search needs
-
-mul-book : tie.Need-mul-book
-mul-book c = search needs
-
-slice-write-book : tie.Need-slice-write-book
-slice-write-book c = search needs
-
-cast-book : tie.Need-cast-book
-cast-book c = search needs
-
-mul-book-2 : tie.Need-mul-book-2
-mul-book-2 c = search needs
 
 slice-write-book-2 : tie.Need-slice-write-book-2
 slice-write-book-2 c =
@@ -47,9 +23,6 @@ slice-write-book-2 c =
     let f = c .before .before .before .before .put-masks .ensures .keeps .long in
     let h = c .before .before .before .before .before .before .before .before .before .pre .1 in
     omega arith
-
-same-length : tie.Need-same-length
-same-length c = search needs
 
 returns : tie.Need-returns
 returns c =
@@ -67,15 +40,15 @@ pub limit-spec : {M : Type 1} → statement M
 limit-spec =
     tie.close
     (tie.spec
-    limit-parts-requires
+    (λ c κs. search needs)
     put-masks-requires
-    add-third
-    add-fourth
-    least-requires
-    mul-book
-    slice-write-book
-    cast-book
-    mul-book-2
+    (λ c. search needs)
+    (λ c. search needs)
+    (λ c κs. search needs)
+    (λ c. search needs)
+    (λ c. search needs)
+    (λ c. search needs)
+    (λ c. search needs)
     slice-write-book-2
-    same-length
+    (λ c. search needs)
     returns)

@@ -11,9 +11,6 @@ shared-slice-read-len : tie.Need-shared-slice-read-len
 unfolding nextAt
 shared-slice-read-len c = let f = c .before .before .before .pre .0 .fits in omega arith
 
-cast-len : tie.Need-cast-len
-cast-len c = omega (arith, c .shared-slice-known2 .given (c .before .before .before .args .at))
-
 add-start : tie.Need-add-start
 unfolding nextAt
 add-start c = let f = c .before .before .before .pre .0 .fits in omega arith
@@ -25,11 +22,9 @@ add-end c = let f = c .before .before .before .pre .0 .fits in omega arith
 put-masks-requires : tie.Need-put-masks-requires
 unfolding byte
 put-masks-requires c κs =
-    let a = c .before .before .before .before .args in
-    (record-list (a .sheet .now) (a .at) _ (c .before .before .before .before .pre .0) refl, c .before .before .before .before .pre .1)
-
-same-length : tie.Need-same-length
-same-length c = search needs
+    let start = c .before .before .before .before in
+    let room = start .pre .1 in
+    (record-list (start .args .sheet .now) (start .args .at) _ (start .pre .0) refl, omega arith)
 
 returns : tie.Need-returns
 unfolding byte
@@ -43,9 +38,9 @@ list-spec =
     tie.close
     (tie.spec
     shared-slice-read-len
-    cast-len
+    (λ c. omega (arith, c .shared-slice-known2 .given (c .before .before .before .args .at)))
     add-start
     add-end
     put-masks-requires
-    same-length
+    (λ c. search needs)
     returns)

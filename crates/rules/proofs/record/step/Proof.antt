@@ -5,9 +5,6 @@ use borrow.Author.Needs.{needs}
 use Rattle.rules.proofs.record.step.Statement.{statement}
 use Rattle.rules.proofs.record.step.Tie as tie
 
-step-parts-requires : tie.Need-step-parts-requires
-step-parts-requires c κs = search needs
-
 put-masks-requires : tie.Need-put-masks-requires
 put-masks-requires c κs =
     let start = c .before .before .before .before in
@@ -16,9 +13,6 @@ put-masks-requires c κs =
     let r = c .before .step-parts .ensures in
     let h = start .pre .1 in
     (step-left (a .sheet .now) (a .at) (p .left) (p .right) (p .end) (start .pre .0) (r .left) (r .order) (r .order-2) (r .end), omega arith)
-
-add-second : tie.Need-add-second
-add-second c = search needs
 
 put-masks-requires-2 : tie.Need-put-masks-requires-2
 put-masks-requires-2 c κs =
@@ -31,9 +25,6 @@ put-masks-requires-2 c κs =
     let h = start .pre .1 in
     let e = after-put-masks .put-masks .ensures .keeps .long in
     (step-right (a .sheet .now) (a .at) (p .right) (p .end) (start .pre .0) (r .right) (r .order-2) (r .end), omega arith)
-
-same-length : tie.Need-same-length
-same-length c = search needs
 
 returns : tie.Need-returns
 returns c =
@@ -49,9 +40,9 @@ pub step-spec : {M : Type 1} → statement M
 step-spec =
     tie.close
     (tie.spec
-    step-parts-requires
+    (λ c κs. search needs)
     put-masks-requires
-    add-second
+    (λ c. search needs)
     put-masks-requires-2
-    same-length
+    (λ c. search needs)
     returns)

@@ -5,64 +5,34 @@ use Rattle.meaning.specs.Sheet.{byte}
 use Rattle.reader.proofs.Good.{good-header}
 use Rattle.rules.proofs.SectionLaws.{counted}
 use borrow.Author.Needs.{needs}
-use Rattle.rules.proofs.sections.counts.Statement.{statement}
-use Rattle.rules.proofs.sections.counts.Tie as tie
+use Rattle.rules.proofs.book.counts.Statement.{statement}
+use Rattle.rules.proofs.book.counts.Tie as tie
 
 shared-slice-read-letters : tie.Need-shared-slice-read-letters
 shared-slice-read-letters c = let h = good-header (c .before .args .sheet .now) (c .before .pre .0) .least in omega arith
 
-cast-letters : tie.Need-cast-letters
-cast-letters c = omega (arith, c .shared-slice-known .given 3)
-
 shared-slice-read-limits : tie.Need-shared-slice-read-limits
 shared-slice-read-limits c = let h = good-header (c .before .before .args .sheet .now) (c .before .before .pre .0) .least in omega arith
-
-cast-limits : tie.Need-cast-limits
-cast-limits c = omega (arith, c .shared-slice-known2 .given 4)
 
 shared-slice-read-firsts : tie.Need-shared-slice-read-firsts
 shared-slice-read-firsts c =
     let start = c .before .before .before in
     let h = good-header (start .args .sheet .now) (start .pre .0) .least in omega arith
 
-cast-firsts : tie.Need-cast-firsts
-cast-firsts c = omega (arith, c .shared-slice-known3 .given 5)
-
 shared-slice-read-steps : tie.Need-shared-slice-read-steps
 shared-slice-read-steps c =
     let start = c .before .before .before .before in
     let h = good-header (start .args .sheet .now) (start .pre .0) .least in omega arith
-
-cast-steps : tie.Need-cast-steps
-cast-steps c = omega (arith, c .shared-slice-known4 .given 6)
 
 shared-slice-read-promises : tie.Need-shared-slice-read-promises
 shared-slice-read-promises c =
     let start = c .before .before .before .before .before in
     let h = good-header (start .args .sheet .now) (start .pre .0) .least in omega arith
 
-cast-promises : tie.Need-cast-promises
-cast-promises c = omega (arith, c .shared-slice-known5 .given 7)
-
-slice-write-book : tie.Need-slice-write-book
-slice-write-book c = search needs
-
-slice-write-book-2 : tie.Need-slice-write-book-2
-slice-write-book-2 c = search needs
-
-slice-write-book-3 : tie.Need-slice-write-book-3
-slice-write-book-3 c = search needs
-
-slice-write-book-4 : tie.Need-slice-write-book-4
-slice-write-book-4 c = search needs
-
 slice-write-book-5 : tie.Need-slice-write-book-5
 slice-write-book-5 c =
     let n = c .before .before .before .before .before .pre .1 in
     simp length-set (omega arith)
-
-same-length : tie.Need-same-length
-same-length c = search needs
 
 returns : tie.Need-returns
 unfolding byte
@@ -75,19 +45,19 @@ counts-spec =
     tie.close
     (tie.spec
     shared-slice-read-letters
-    cast-letters
+    (λ c. omega (arith, c .shared-slice-known .given 3))
     shared-slice-read-limits
-    cast-limits
+    (λ c. omega (arith, c .shared-slice-known2 .given 4))
     shared-slice-read-firsts
-    cast-firsts
+    (λ c. omega (arith, c .shared-slice-known3 .given 5))
     shared-slice-read-steps
-    cast-steps
+    (λ c. omega (arith, c .shared-slice-known4 .given 6))
     shared-slice-read-promises
-    cast-promises
-    slice-write-book
-    slice-write-book-2
-    slice-write-book-3
-    slice-write-book-4
+    (λ c. omega (arith, c .shared-slice-known5 .given 7))
+    (λ c. search needs)
+    (λ c. search needs)
+    (λ c. search needs)
+    (λ c. search needs)
     slice-write-book-5
-    same-length
+    (λ c. search needs)
     returns)

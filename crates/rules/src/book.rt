@@ -1,0 +1,214 @@
+// A book's layout: where each number of a compiled sheet stands. Where a row begins only this module knows; a row's numbers are written by
+// record.rt in the order in which they are read here. specs/Book.antt says the same under the same names.
+use reader::Kind;
+ghost use mathlib.Core.Path.{_≡_};
+ghost use mathlib.Core.Option.{none};
+ghost use Prim.Native.Nat.{_+_, _≤_, _<_};
+ghost use lib.ListN.{length};
+ghost use Rattle.meaning.specs.Sheet.{firstFault};
+ghost use Rattle.reader.specs.Answer.{kindOf};
+ghost use Rattle.rules.specs.Book.{bookSize, gatherSize, mostRules, rowAt, limitAt, firstAt, stepAt, rightAt, promiseAt, gatheredAt};
+ghost use Rattle.rules.specs.Book.{lettersOf, limitsOf, firstsOf, stepsOf, promisesOf, Shaped, LimitRead, MasksRead};
+ghost use Rattle.rules.specs.Compile.{Counts};
+
+// A state, and a mask: a bit for each letter. A book's numbers are as wide.
+pub type State = u32;
+
+// The most limits, first or step rules, and promises of a sheet.
+const MOST_LIMITS: usize = 32;
+
+const MOST_RULES: usize = 255;
+
+const MOST_PROMISES: usize = 16;
+
+// How many numbers a row has: a list's are its two masks; a limit's its masks, the least and the most; a step rule's the masks of its sides.
+const LIST_WIDTH: usize = 2;
+
+const LIMIT_WIDTH: usize = 4;
+
+const STEP_WIDTH: usize = 4;
+
+// Where the rows of each kind begin, the limits' behind the counts; and how many numbers a book has.
+const LIMITS_FROM: usize = 8;
+
+const FIRSTS_FROM: usize = LIMITS_FROM + LIMIT_WIDTH * MOST_LIMITS;
+
+const STEPS_FROM: usize = FIRSTS_FROM + LIST_WIDTH * MOST_RULES;
+
+const PROMISES_FROM: usize = STEPS_FROM + STEP_WIDTH * MOST_RULES;
+
+pub const BOOK_SIZE: usize = PROMISES_FROM + LIST_WIDTH * MOST_PROMISES;
+
+// How many numbers the lists take that are gathered from a book: at most one for each rule.
+pub const GATHER_SIZE: usize = LIST_WIDTH * MOST_RULES;
+
+// A list's masks: the letters that are to hold, and those that are not.
+pub struct Pair {
+    pub held: State,
+    pub unheld: State,
+}
+
+// A limit's row: its masks, and the least and the most of its literals that may be true.
+pub struct Bounded {
+    pub held: State,
+    pub unheld: State,
+    pub least: State,
+    pub most: State,
+}
+
+// How many letters the sheet has.
+pub fn letters(book: &[State]) -> u32
+    requires { ⌜ Shaped (now book) ⌝ }
+    ensures { λ r. ⌜ r ≡ lettersOf (now (book .entry)) ⌝ }
+{
+    book[0]
+}
+
+// How many limits the sheet has.
+pub fn limits(book: &[State]) -> usize
+    requires { ⌜ Shaped (now book) ⌝ }
+    ensures { λ r. ⌜ r ≡ limitsOf (now (book .entry)) ⌝ }
+{
+    book[1] as usize
+}
+
+// How many first rules the sheet has.
+pub fn firsts(book: &[State]) -> usize
+    requires { ⌜ Shaped (now book) ⌝ }
+    ensures { λ r. ⌜ r ≡ firstsOf (now (book .entry)) ⌝ }
+{
+    book[2] as usize
+}
+
+// How many step rules the sheet has.
+pub fn steps(book: &[State]) -> usize
+    requires { ⌜ Shaped (now book) ⌝ }
+    ensures { λ r. ⌜ r ≡ stepsOf (now (book .entry)) ⌝ }
+{
+    book[3] as usize
+}
+
+// How many promises the sheet has.
+pub fn promises(book: &[State]) -> usize
+    requires { ⌜ Shaped (now book) ⌝ }
+    ensures { λ r. ⌜ r ≡ promisesOf (now (book .entry)) ⌝ }
+{
+    book[4] as usize
+}
+
+// Writes the five counts of a good sheet.
+pub fn counts(sheet: &[u8], book: &mut [State])
+    requires { ⌜ (firstFault (now sheet) ≡ none) × (length (now book) ≡ bookSize) ⌝ }
+    ensures { λ _. ⌜ Counts (now (sheet .entry)) (now (book .exit)) × (length (now (book .exit)) ≡ bookSize) ⌝ }
+{
+    let letters = sheet[3] as State;
+    let limits = sheet[4] as State;
+    let firsts = sheet[5] as State;
+    let steps = sheet[6] as State;
+    let promises = sheet[7] as State;
+    book[0] = letters;
+    book[1] = limits;
+    book[2] = firsts;
+    book[3] = steps;
+    book[4] = promises;
+}
+
+// Where limit i's row begins.
+pub fn limit_at(i: usize) -> usize
+    requires { ⌜ i ≤ mostRules ⌝ }
+    ensures { λ r. ⌜ r ≡ limitAt i ⌝ }
+{
+    LIMITS_FROM + LIMIT_WIDTH * i
+}
+
+// Where first rule i's masks stand.
+pub fn first_at(i: usize) -> usize
+    requires { ⌜ i ≤ mostRules ⌝ }
+    ensures { λ r. ⌜ r ≡ firstAt i ⌝ }
+{
+    FIRSTS_FROM + LIST_WIDTH * i
+}
+
+// Where step rule i's row begins: the masks of its left side.
+pub fn step_at(i: usize) -> usize
+    requires { ⌜ i ≤ mostRules ⌝ }
+    ensures { λ r. ⌜ r ≡ stepAt i ⌝ }
+{
+    STEPS_FROM + STEP_WIDTH * i
+}
+
+// Where the masks of step rule i's right side stand.
+pub fn right_at(i: usize) -> usize
+    requires { ⌜ i ≤ mostRules ⌝ }
+    ensures { λ r. ⌜ r ≡ rightAt i ⌝ }
+{
+    step_at(i) + LIST_WIDTH
+}
+
+// Where promise i's masks stand.
+pub fn promise_at(i: usize) -> usize
+    requires { ⌜ i ≤ mostRules ⌝ }
+    ensures { λ r. ⌜ r ≡ promiseAt i ⌝ }
+{
+    PROMISES_FROM + LIST_WIDTH * i
+}
+
+// Where row i of a kind begins.
+pub fn row_at(kind: Kind, i: usize) -> usize
+    requires { ⌜ i ≤ mostRules ⌝ }
+    ensures { λ r. ⌜ r ≡ rowAt (kindOf kind) i ⌝ }
+{
+    match kind {
+        Kind::Limit => limit_at(i),
+        Kind::FirstRule => first_at(i),
+        Kind::StepRule => step_at(i),
+        Kind::Promise => promise_at(i),
+    }
+}
+
+// Where gathered list i's masks stand.
+pub fn gathered_at(i: usize) -> usize
+    requires { ⌜ i ≤ mostRules ⌝ }
+    ensures { λ r. ⌜ r ≡ gatheredAt i ⌝ }
+{
+    LIST_WIDTH * i
+}
+
+// The two masks that stand at a place.
+pub fn masks_at(l: &[State], at: usize) -> Pair
+    requires { ⌜ at + 1 < length (now l) ⌝ }
+    ensures { λ r. ⌜ MasksRead (now (l .entry)) at (r .held) (r .unheld) ⌝ }
+{
+    let next = at + 1;
+    let held = l[at];
+    let unheld = l[next];
+    Pair { held, unheld }
+}
+
+// Gathered list i.
+pub fn gathered(l: &[State], i: usize) -> Pair
+    requires { ⌜ (length (now l) ≡ gatherSize) × (i < mostRules) ⌝ }
+    ensures { λ r. ⌜ MasksRead (now (l .entry)) (gatheredAt i) (r .held) (r .unheld) ⌝ }
+{
+    let at = gathered_at(i);
+    masks_at(l, at)
+}
+
+// Limit i.
+pub fn limit(book: &[State], i: usize) -> Bounded
+    requires { ⌜ Shaped (now book) × (i < limitsOf (now book)) ⌝ }
+    ensures { λ r. ⌜ LimitRead (now (book .entry)) i (r .held) (r .unheld) (r .least) (r .most) ⌝ }
+{
+    let at = limit_at(i);
+    let m = masks_at(book, at);
+    let third = at + 2;
+    let fourth = at + 3;
+    let least = book[third];
+    let most = book[fourth];
+    Bounded {
+        held: m.held,
+        unheld: m.unheld,
+        least,
+        most,
+    }
+}
