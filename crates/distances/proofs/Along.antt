@@ -8,6 +8,7 @@ use native.Mathlib.Numerals.{add-one}
 use native.Mathlib.Omega.{arith}
 use lib.ListN.{length, getD}
 use Rattle.meaning.specs.System.{System}
+use Rattle.web.specs.Layout.{mostPlaces}
 use Rattle.web.specs.Web.{Rows}
 use Rattle.distances.specs.Far.{gone}
 use Rattle.distances.specs.Layers.{fars, Reaches, as-was, reached, Sure, Layered, Near}
@@ -40,7 +41,7 @@ module _ (S : System) (G : ℕ → Type 0) (table words : List ℕ) (r : ℕ) wh
     steps = λ t i h k z m. absurd (omega arith);
   }
 
-  module _ (starts ends cells : List ℕ) (rows : Rows (λ (j i : ℕ). S .Move (getD table i 0) (getD table j 0)) r starts ends cells) (few : r ≤ 16384)
+  module _ (starts ends cells : List ℕ) (rows : Rows (λ (j i : ℕ). S .Move (getD table i 0) (getD table j 0)) r starts ends cells) (few : r ≤ mostPlaces)
       (near queue : List ℕ) (head tail : ℕ) (a : Along near queue head tail) where
     -- At the queue's end the values are the distances.
     pub along-done : tail ≤ head → Near S G table words r near
@@ -62,7 +63,7 @@ module _ (S : System) (G : ℕ → Type 0) (table words : List ℕ) (r : ℕ) wh
       number = getD near next 0
 
       -- The next place is one, and its number is small.
-      pub along-next : (next < r) × (number < 16384)
+      pub along-next : (next < r) × (number < mostPlaces)
       along-next = let u = a .lined head more in let b = u .1 in let c = a .room in (u .0, omega arith)
 
       -- Its row may be followed, whatever number it is to give.
@@ -205,27 +206,25 @@ module _ (S : System) (G : ℕ → Type 0) (table words : List ℕ) (r : ℕ) wh
 -- ---- the loop over the queue
 
 -- what is known of the next place of the queue, so that its row can be looked up
-pub record Next (starts ends near queue : List ℕ) (r head : ℕ) : Type 0 where
+pub record Next (near queue : List ℕ) (r head : ℕ) : Type 0 where
   pub place : getD queue head 0 < r
-  pub small : getD near (getD queue head 0) 0 < 16384
+  pub small : getD near (getD queue head 0) 0 < mostPlaces
   pub early : head < r
   pub in-queue : head < length queue
   pub in-near : getD queue head 0 < length near
-  pub in-starts : getD queue head 0 < length starts
-  pub in-ends : getD queue head 0 < length ends
 
 module _ (S : System) (G : ℕ → Type 0) (table words : List ℕ) (r : ℕ) (starts ends cells : List ℕ) where
   -- the rows are the moves back, the queue is as long as it was, and the rows of its first `head` places were followed
   pub record Tracing (before queue near : List ℕ) (tail head : ℕ) : Type 0 where
     pub rows : Rows (λ (j i : ℕ). S .Move (getD table i 0) (getD table j 0)) r starts ends cells
-    pub few : r ≤ 16384
+    pub few : r ≤ mostPlaces
     pub in-queue : r ≤ length queue
     pub same : length queue ≡ length before
     pub along : Along S G table words r near queue head tail
 
   -- Before the first turn.
   pub tracing-none : (queue near : List ℕ) (tail : ℕ) → Rows (λ (j i : ℕ). S .Move (getD table i 0) (getD table j 0)) r starts ends cells
-      → r ≤ 16384 → r ≤ length queue → Layered S G table words r 0 0 0 near → LinedUp near r tail queue → Tracing queue queue near tail 0
+      → r ≤ mostPlaces → r ≤ length queue → Layered S G table words r 0 0 0 near → LinedUp near r tail queue → Tracing queue queue near tail 0
   tracing-none queue near tail rows few long first l =
       record { rows = rows; few = few; in-queue = long; same = refl; along = along-none S G table words r near queue tail first l }
 
@@ -236,12 +235,10 @@ module _ (S : System) (G : ℕ → Type 0) (table words : List ℕ) (r : ℕ) (s
 
     module _ (more : head < tail) where
       -- The next place's row can be looked up,
-      pub tracing-next : Next starts ends near queue r head
+      pub tracing-next : Next near queue r head
       tracing-next =
           let u = along-next S G table words r starts ends cells (t .rows) (t .few) near queue head tail (t .along) more in
           let a = u .0 in
-          let b = t .rows .in-starts in
-          let c = t .rows .in-ends in
           let d = t .along .sure .long in
           let e = t .along .room in
           let f = t .in-queue in record {
@@ -250,8 +247,6 @@ module _ (S : System) (G : ℕ → Type 0) (table words : List ℕ) (r : ℕ) (s
             early = omega arith;
             in-queue = omega arith;
             in-near = omega arith;
-            in-starts = omega arith;
-            in-ends = omega arith;
           }
 
       -- and followed,

@@ -106,6 +106,9 @@ module _ (cells : List ℕ) (start end d r : ℕ) (old : List ℕ) (tail : ℕ) 
       nowhere : {i : ℕ} → InRow cells start end start i → ⊥
       nowhere (t, a, b, c, q) = omega arith
 
+  pub row-none-at : (e : ℕ) → e ≡ start → RowHere e old queue 0
+  row-none-at e q = subst (λ (x : ℕ). RowHere x old queue 0) (sym q) row-none
+
   module _ (e : ℕ) (near line : List ℕ) (got : ℕ) (row : RowHere e near line got) (after : start ≤ e) (before : e < end) where
     -- the cell is a place
     pub row-place : getD cells e 0 < r
@@ -242,6 +245,28 @@ module _ (cells : List ℕ) (start end d r : ℕ) (old : List ℕ) (tail : ℕ) 
       -- A place that is not reached yet gets d and joins the queue.
       pub row-more : RowHere (e + 1) (set near (getD cells e 0) d) (set line (tail + got) (getD cells e 0)) (got + 1)
       row-more = record { spread = row-spread; joined = row-joined }
+
+    -- The same of the place that the cell has been found to hold.
+    module _ (i : ℕ) (here : i ≡ getD cells e 0) where
+      pub cell-place : i < r
+      cell-place = omega (arith, row-place)
+
+      pub cell-past : (getD near i 0 ≡ far → ⊥) → RowHere (e + 1) near line got
+      cell-past near-by = row-past (λ z. near-by (ap (λ (x : ℕ). getD near x 0) here ∙ z))
+
+      module _ (isfar : getD near i 0 ≡ far) where
+        cell-far : getD near (getD cells e 0) 0 ≡ far
+        cell-far = sym (ap (λ (x : ℕ). getD near x 0) here) ∙ isfar
+
+        pub cell-inside : i < length near
+        cell-inside = omega (arith, row-inside cell-far)
+
+        pub cell-room : (tail + got < length line) × (tail + got < r)
+        cell-room = row-room cell-far
+
+        pub cell-more : RowHere (e + 1) (set near i d) (set line (tail + got) i) (got + 1)
+        cell-more =
+            subst (λ (x : ℕ). RowHere (e + 1) (set near x d) (set line (tail + got) x) (got + 1)) (sym here) (row-more cell-far)
 
   -- After its last cell the row is followed.
   pub row-done : (e : ℕ) (near line : List ℕ) (got : ℕ) → RowHere e near line got → end ≤ e

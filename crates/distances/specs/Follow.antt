@@ -1,17 +1,17 @@
 -- What the functions that follow stored moves back promise one another: who stands in the queue, and what one row of moves adds to it.
 -- Assumes nothing.
 use mathlib.Core.Path.{_≡_}
-use mathlib.Core.Bool.{Bool, true}
 use mathlib.Core.List.{List}
 use Prim.Native.Nat.{ℕ, _+_, _≤_, _<_}
 use lib.ListN.{length, getD}
 use Rattle.web.specs.Web.{Back}
+use Rattle.web.specs.Layout.{mostPlaces}
 use Rattle.distances.specs.Far.{far, gone}
 use Rattle.distances.specs.Layers.{fars, Spread}
 
--- if the moves are stored, the rows hold the moves back, and the queue has a place for each
-abbrev pub Followable : (book table : List ℕ) (r : ℕ) (stored : Bool) (starts ends cells queue : List ℕ) → Type 0
-Followable book table r stored starts ends cells queue = stored ≡ true → Back book table r starts ends cells × (r ≤ length queue)
+-- if moves are stored, they are the moves back, and the queue has a place for each
+abbrev pub Followable : (book table : List ℕ) (r : ℕ) (back queue : List ℕ) → Type 0
+Followable book table r back queue = (length back ≡ 0 → ⊥) → Back book table r back × (r ≤ length queue)
 
 -- place i stands in a list, from `start` on and before `end`
 abbrev pub Stands : (list : List ℕ) (start end i : ℕ) → Type 0
@@ -29,7 +29,7 @@ pub record Ready (cells : List ℕ) (start end d r : ℕ) (near queue : List ℕ
   pub places : (e : ℕ) → start ≤ e → e < end → getD cells e 0 < r
   pub small : d < gone
   pub long : length near ≡ r
-  pub few : r ≤ 16384
+  pub few : r ≤ mostPlaces
   pub in-queue : r ≤ length queue
   pub room : tail + fars near r ≤ r
 

@@ -9,9 +9,15 @@ ghost use lib.Dec.{eqb};
 ghost use lib.ListN.{length};
 ghost use Rattle.rules.specs.Book.{Shaped, gatherSize, packClear, bookSystem};
 ghost use Rattle.distances.specs.Far.{Measured, far, gone};
+ghost use Rattle.web.specs.Layout.{mostPlaces, startAt, endAt, cellsOf, HasRow};
 ghost use Rattle.web.specs.Web.{Back};
 ghost use Rattle.distances.specs.Layers.{Measurable, Begun, Opening, Spreadable, LayerDone, Spread, Near, keptIn, clearOf};
 ghost use Rattle.distances.specs.Follow.{Followable, LinedUp, Ready, Followed};
+
+// No path of unstruck states leads to the promise; or a place is struck, and looked at no more. Every distance is less.
+pub const FAR: u16 = 65535;
+
+pub const GONE: u16 = 65534;
 
 // What a place begins with: struck, at the goal, or not reached yet.
 fn start(book: &[u32], k: usize, s: u32, word: u32) -> u16
@@ -19,12 +25,12 @@ fn start(book: &[u32], k: usize, s: u32, word: u32) -> u16
     ensures { λ v. ⌜ Begun (keptIn (now (book .entry)) k s) word v ⌝ }
 {
     if word != 0 {
-        return 65534;
+        return GONE;
     }
     if rules::kept(book, k, s) {
         return 0;
     }
-    65535
+    FAR
 }
 
 // Puts the goal's states at 0; how many places are not reached yet.
@@ -37,7 +43,7 @@ fn begin(book: &[u32], k: usize, table: &[u32], words: &[u32], r: usize, near: &
     while i < r {
         let v = start(book, k, table[i], words[i]);
         near[i] = v;
-        if v == 65535 {
+        if v == FAR {
             left += 1;
             i += 1;
         } else {
@@ -52,7 +58,7 @@ fn opens(pack: &[u32], count: usize, s: u32, d: u16) -> bool
     requires { ⌜ (length (now pack) ≡ gatherSize) × (count ≤ 255) ⌝ }
     ensures { λ b. ⌜ b ≡ eqb d far && packClear (now (pack .entry)) count s ⌝ }
 {
-    if d == 65535 {
+    if d == FAR {
         return rules::clear(pack, count, s);
     }
     false
@@ -150,7 +156,7 @@ fn by_tests(
 
 // Puts the places at 0 into the queue, in order; how many those are.
 fn line_up(near: &[u16], r: usize, queue: &mut [u16]) -> usize
-    requires { ⌜ (r ≤ length (now near)) × (r ≤ length (now queue)) × (r ≤ 16384) ⌝ }
+    requires { ⌜ (r ≤ length (now near)) × (r ≤ length (now queue)) × (r ≤ mostPlaces) ⌝ }
     ensures { λ n. ⌜ LinedUp (now (near .entry)) r n (now (queue .exit)) × (length (now (queue .exit)) ≡ length (now (queue .entry))) ⌝ }
 {
     let mut tail: usize = 0;
@@ -167,29 +173,29 @@ fn line_up(near: &[u16], r: usize, queue: &mut [u16]) -> usize
     tail
 }
 
-// Gives d to the places of a row that are not reached yet, and puts them into the queue behind its first `tail`; how many those are.
+// Gives d to the places in place j's row that are not reached yet, and puts them into the queue behind its first `tail`; how many those are.
 fn follow_row(
-    cells: &[u16],
-    start: usize,
-    end: usize,
+    moves: &[u16],
+    j: usize,
     d: u16,
     near: &mut [u16],
     tail: usize,
     queue: &mut [u16],
 ) -> usize
-    requires { ⌜ Ready (now cells) start end d (length (now near)) (now near) (now queue) tail ⌝ }
-    ensures { λ got. ⌜ Followed (now (cells .entry)) start end d (length (now (near .entry))) (now (near .entry)) (now (near .exit)) tail
-        (now (queue .entry)) (now (queue .exit)) got ⌝ }
+    requires { ⌜ HasRow (now moves) j
+        × Ready (cellsOf (now moves)) (startAt (now moves) j) (endAt (now moves) j) d (length (now near)) (now near) (now queue) tail ⌝ }
+    ensures { λ got. ⌜ Followed (cellsOf (now (moves .entry))) (startAt (now (moves .entry)) j) (endAt (now (moves .entry)) j) d
+        (length (now (near .entry))) (now (near .entry)) (now (near .exit)) tail (now (queue .entry)) (now (queue .exit)) got ⌝ }
 {
+    let end = web::row_end(moves, j);
     let mut got: usize = 0;
-    let mut e: usize = start;
+    let mut e = web::row_start(moves, j);
     while e < end {
-        let v = cells[e];
-        let i = v as usize;
-        if near[i] == 65535 {
+        let i = web::cell(moves, e);
+        if near[i] == FAR {
             let at = tail + got;
             near[i] = d;
-            queue[at] = v;
+            queue[at] = i as u16;
             got += 1;
             e += 1;
         } else {
@@ -199,22 +205,20 @@ fn follow_row(
     got
 }
 
-// The distances of the table's first r places, in a slice of that length, by the stored moves: from each place of the queue in turn, its
-// row is followed back.
+// The distances of the table's first r places, in a slice of that length, by the stored moves back: from each place of the queue in turn, its
+// row is followed.
 fn measure_back(
     book: &[u32],
     k: usize,
     table: &[u32],
     words: &[u32],
     r: usize,
-    starts: &[u16],
-    ends: &[u16],
-    cells: &[u16],
+    back: &[u16],
     queue: &mut [u16],
     near: &mut [u16],
 )
     requires { ⌜ Measurable (now book) k (now table) (now words) r × (length (now near) ≡ r)
-        × Back (now book) (now table) r (now starts) (now ends) (now cells) × (r ≤ length (now queue)) ⌝ }
+        × Back (now book) (now table) r (now back) × (r ≤ length (now queue)) ⌝ }
     ensures { λ _. ⌜ Near (bookSystem (now (book .entry))) (bookSystem (now (book .entry)) .Kept k) (now (table .entry)) (now (words .entry)) r
         (now (near .exit)) × (length (now (queue .exit)) ≡ length (now (queue .entry))) ⌝ }
 {
@@ -224,9 +228,7 @@ fn measure_back(
     while head < tail {
         let j = queue[head] as usize;
         let d = near[j] + 1;
-        let start = starts[j] as usize;
-        let end = ends[j] as usize;
-        let got = follow_row(cells, start, end, d, near, tail, queue);
+        let got = follow_row(back, j, d, near, tail, queue);
         tail += got;
         head += 1;
     }
@@ -239,69 +241,41 @@ fn follow(
     table: &[u32],
     words: &[u32],
     r: usize,
-    starts: &[u16],
-    ends: &[u16],
-    cells: &[u16],
+    back: &[u16],
     queue: &mut [u16],
     dist: &mut [u16],
     from: usize,
 )
     requires { ⌜ Measurable (now book) k (now table) (now words) r × (from + r ≤ length (now dist))
-        × Back (now book) (now table) r (now starts) (now ends) (now cells) × (r ≤ length (now queue)) ⌝ }
+        × Back (now book) (now table) r (now back) × (r ≤ length (now queue)) ⌝ }
     ensures { λ _. ⌜ Measured (bookSystem (now (book .entry))) (bookSystem (now (book .entry)) .Kept k) (now (table .entry)) (now (words .entry)) r from
         (now (dist .entry)) (now (dist .exit)) × (length (now (queue .exit)) ≡ length (now (queue .entry))) ⌝ }
 {
     let end = from + r;
-    measure_back(
-        book,
-        k,
-        table,
-        words,
-        r,
-        starts,
-        ends,
-        cells,
-        queue,
-        &mut dist[from..end],
-    );
+    measure_back(book, k, table, words, r, back, queue, &mut dist[from..end]);
 }
 
-// The distances to promise k, counted from 0, of the table's first r places, written from `from` on: 65534 for a struck place, 65535 where no path of
-// unstruck states leads to the promise. By the stored moves if they are stored, else by tests of pairs.
+// The distances to promise k, counted from 0, of the table's first r places, written from `from` on: GONE for a struck place, FAR where no path of
+// unstruck states leads to the promise. By the stored moves back where they are stored, else (`back` is empty) by tests of pairs.
 pub fn distances(
     book: &[u32],
     k: usize,
     table: &[u32],
     words: &[u32],
     r: usize,
-    stored: bool,
-    starts: &[u16],
-    ends: &[u16],
-    cells: &[u16],
+    back: &[u16],
     queue: &mut [u16],
     dist: &mut [u16],
     from: usize,
 )
     requires { ⌜ Measurable (now book) k (now table) (now words) r × (from + r ≤ length (now dist))
-        × Followable (now book) (now table) r stored (now starts) (now ends) (now cells) (now queue) ⌝ }
+        × Followable (now book) (now table) r (now back) (now queue) ⌝ }
     ensures { λ _. ⌜ Measured (bookSystem (now (book .entry))) (bookSystem (now (book .entry)) .Kept k) (now (table .entry)) (now (words .entry)) r from
         (now (dist .entry)) (now (dist .exit)) × (length (now (queue .exit)) ≡ length (now (queue .entry))) ⌝ }
 {
-    if stored {
-        follow(
-            book,
-            k,
-            table,
-            words,
-            r,
-            starts,
-            ends,
-            cells,
-            queue,
-            dist,
-            from,
-        );
-    } else {
+    if back.len() == 0 {
         by_tests(book, k, table, words, r, dist, from);
+    } else {
+        follow(book, k, table, words, r, back, queue, dist, from);
     }
 }

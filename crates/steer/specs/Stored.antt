@@ -1,6 +1,5 @@
 -- What the parts of steering promise one another about stored moves: the rows forth, and the nearest of one row's places. Assumes nothing.
 use mathlib.Core.Path.{_≡_}
-use mathlib.Core.Bool.{Bool, true}
 use mathlib.Core.Logic.{_⊎_}
 use mathlib.Core.List.{List}
 use Prim.Native.Nat.{ℕ, _+_, _≤_, _<_}
@@ -8,26 +7,21 @@ use lib.ListN.{length, getD}
 use Rattle.meaning.specs.System.{System}
 use Rattle.meaning.specs.Sample.{Best}
 use Rattle.distances.specs.Far.{far}
+use Rattle.web.specs.Layout.{startAt, endAt, cellAt, HasRow}
 use Rattle.web.specs.Web.{Forth}
 
--- where the moves are stored, the rows hold the moves forth
-abbrev pub Onward : (book table : List ℕ) (k : ℕ) (stored : Bool) (starts ends cells : List ℕ) → Type 0
-Onward book table k stored starts ends cells = stored ≡ true → Forth book table k starts ends cells
+-- if moves are stored, they are the moves forth
+abbrev pub Onward : (book table : List ℕ) (k : ℕ) (forth : List ℕ) → Type 0
+Onward book table k forth = (length forth ≡ 0 → ⊥) → Forth book table k forth
 
 -- the state at place r is the best next state of the one at `place`, for that aim
 abbrev pub BestAt : (S : System) (table : List ℕ) (k place aim r : ℕ) → Type 0
 BestAt S table k place aim r = (r < k) × Best S aim (getD table place 0) (getD table r 0)
 
 -- a stored row that can be looked through: each of its cells is a place with a number in the row of distances that starts at `from`
-pub record Lookable (dist : List ℕ) (from : ℕ) (starts ends cells : List ℕ) (place : ℕ) : Type 0 where
-  pub in-starts : place < length starts
-  pub in-ends : place < length ends
-  pub in-cells : getD ends place 0 ≤ length cells
-  pub in-dist : (e : ℕ) → getD starts place 0 ≤ e → e < getD ends place 0 → from + getD cells e 0 < length dist
-
--- the place that stands in cell e
-abbrev pub cellAt : (cells : List ℕ) → ℕ → ℕ
-cellAt cells e = getD cells e 0
+pub record Lookable (dist : List ℕ) (from : ℕ) (forth : List ℕ) (place : ℕ) : Type 0 where
+  pub row : HasRow forth place
+  pub in-dist : (e : ℕ) → startAt forth place ≤ e → e < endAt forth place → from + cellAt forth e < length dist
 
 -- cell `at`, between start and end, holds `best`, whose number is `least`, and every cell before it a place with a larger one
 pub record FoundAt (cell d : ℕ → ℕ) (start end best least : ℕ) : Type 0 where

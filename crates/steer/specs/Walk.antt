@@ -9,6 +9,7 @@ use lib.Dec.{eqb}
 use lib.ListN.{length, getD, take}
 use Rattle.meaning.specs.System.{System, Livable, Lists}
 use Rattle.meaning.specs.Sample.{Distance, Passes, Best, Sample}
+use Rattle.web.specs.Layout.{mostPlaces}
 use Rattle.distances.specs.Far.{far}
 use Rattle.rules.specs.Book.{Shaped, bookSystem, bookFirst, clausesOk, gatherSize}
 use Rattle.steer.specs.Steered.{Steered}
@@ -19,7 +20,7 @@ use Rattle.steer.specs.Steered.{Steered}
 pub record Ready (book table words : List ℕ) (k : ℕ) : Type 0 where
   pub shaped : Shaped book
   pub some : 1 ≤ k
-  pub few : k ≤ 16384
+  pub few : k ≤ mostPlaces
   pub in-table : k ≤ length table
   pub in-words : k ≤ length words
   pub livable : Lists (Livable (bookSystem book)) (take k table)
@@ -41,6 +42,10 @@ pub record Livables (S : System) (table : List ℕ) (k : ℕ) : Type 0 where
 abbrev pub aimsOf : System → ℕ
 aimsOf S = suc (S .promises - 1)
 
+-- so many distances fit a small array
+abbrev pub fewDistances : ℕ
+fewDistances = 8192
+
 -- row q of `dist`: the distance to aim q from each of the first k places
 pub record Rowed (S : System) (table : List ℕ) (k : ℕ) (dist : List ℕ) : Type 0 where
   pub distance : (q x : ℕ) → q < aimsOf S → x < k → Distance S q (getD dist (q * k + x) 0) (getD table x 0)
@@ -59,7 +64,7 @@ pub record Wiped (k : ℕ) (old new : List ℕ) : Type 0 where
 pub record Ground (book table words : List ℕ) (k : ℕ) : Type 0 where
   pub shaped : Shaped book
   pub some : 1 ≤ k
-  pub few : k ≤ 16384
+  pub few : k ≤ mostPlaces
   pub in-table : k ≤ length table
   pub in-words : k ≤ length words
   pub livables : Livables (bookSystem book) table k
@@ -74,7 +79,7 @@ pub record Rows (book table : List ℕ) (k : ℕ) (old new : List ℕ) : Type 0 
 pub record Laid (book table dist : List ℕ) (k : ℕ) : Type 0 where
   pub shaped : Shaped book
   pub some : 1 ≤ k
-  pub few : k ≤ 16384
+  pub few : k ≤ mostPlaces
   pub in-table : k ≤ length table
   pub in-dist : aimsOf (bookSystem book) * k ≤ length dist
   pub livables : Livables (bookSystem book) table k

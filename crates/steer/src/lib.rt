@@ -10,9 +10,18 @@ ghost use lib.ListN.{length, getD};
 ghost use Rattle.meaning.specs.Sample.{Passes};
 ghost use Rattle.rules.specs.Book.{Shaped, bookSystem, clausesOk, promisesOf, gatherSize};
 ghost use Rattle.distances.specs.Follow.{Followable};
-ghost use Rattle.steer.specs.Stored.{Onward, BestAt, Lookable, NearestCell, cellAt};
+ghost use Rattle.web.specs.Layout.{startAt, endAt, cellAt};
+ghost use Rattle.steer.specs.Stored.{Onward, BestAt, Lookable, NearestCell};
 ghost use Rattle.steer.specs.Walk.{Ready, Told, aimsOf, Zero, Wiped, Ground, Rows, Laid, FirstPlace, passesAt, rowAt, Picked, Stepped, FirstAt, Pickable};
-ghost use Rattle.steer.specs.Walk.{Ended, Known, BackFrom, Written};
+ghost use Rattle.steer.specs.Walk.{Ended, Known, BackFrom, Written, fewDistances};
+
+// Up to so many states testing pairs is no more work than storing their moves.
+pub const FEW_STATES: usize = 512;
+
+// So many distances fit a small array; and there are never more than these, 16 rows of 16,384.
+const FEW_DISTANCES: usize = 8192;
+
+const MOST_DISTANCES: usize = 262144;
 
 // a, the moment that the run goes back to, and b, how many states it has.
 pub struct Steps {
@@ -78,33 +87,17 @@ fn promise_rows(
     dist: &mut [u16],
     k: usize,
     p: usize,
-    stored: bool,
-    starts: &[u16],
-    ends: &[u16],
-    cells: &[u16],
+    back: &[u16],
     queue: &mut [u16],
 )
     requires { ⌜ Ground (now book) (now table) (now words) k × (p ≡ promisesOf (now book)) × (1 ≤ p) × (p * k ≤ length (now dist))
-        × Followable (now book) (now table) k stored (now starts) (now ends) (now cells) (now queue) ⌝ }
+        × Followable (now book) (now table) k (now back) (now queue) ⌝ }
     ensures { λ _. ⌜ Rows (now (book .entry)) (now (table .entry)) k (now (dist .entry)) (now (dist .exit)) ⌝ }
 {
     let mut q = 0;
     while q < p {
         let from = q * k;
-        distances::distances(
-            book,
-            q,
-            table,
-            words,
-            k,
-            stored,
-            starts,
-            ends,
-            cells,
-            queue,
-            dist,
-            from,
-        );
+        distances::distances(book, q, table, words, k, back, queue, dist, from);
         q += 1;
     }
 }
@@ -116,33 +109,18 @@ fn rows(
     words: &[u32],
     dist: &mut [u16],
     k: usize,
-    stored: bool,
-    starts: &[u16],
-    ends: &[u16],
-    cells: &[u16],
+    back: &[u16],
     queue: &mut [u16],
 )
     requires { ⌜ Ground (now book) (now table) (now words) k × (aimsOf (bookSystem (now book)) * k ≤ length (now dist))
-        × Followable (now book) (now table) k stored (now starts) (now ends) (now cells) (now queue) ⌝ }
+        × Followable (now book) (now table) k (now back) (now queue) ⌝ }
     ensures { λ _. ⌜ Rows (now (book .entry)) (now (table .entry)) k (now (dist .entry)) (now (dist .exit)) ⌝ }
 {
     let p = rules::promises(book);
     if p == 0 {
         no_distances(dist, k);
     } else {
-        promise_rows(
-            book,
-            table,
-            words,
-            dist,
-            k,
-            p,
-            stored,
-            starts,
-            ends,
-            cells,
-            queue,
-        );
+        promise_rows(book, table, words, dist, k, p, back, queue);
     }
 }
 
@@ -207,7 +185,7 @@ fn nearest(
     ensures { λ r. ⌜ Picked (passesAt (now (clauses .entry)) count (now (table .entry))) (rowAt (now (dist .entry)) from) k r ⌝ }
 {
     let mut best: usize = 0;
-    let mut least: u16 = 65535;
+    let mut least: u16 = distances::FAR;
     let mut x: usize = 0;
     while x < k {
         let at = from + x;
@@ -305,33 +283,18 @@ fn seek(book: &[u32], table: &[u32], dist: &[u16], k: usize, place: usize, aim: 
     pick(table, dist, &clauses, count, from, k, place)
 }
 
-// A stored number, to count with.
-fn wide(x: u16) -> usize
-    ensures { λ r. ⌜ r ≡ x ⌝ }
-{
-    x as usize
-}
-
 // The first of the nearest places in the stored row of `place`.
-fn nearest_in_row(
-    dist: &[u16],
-    from: usize,
-    starts: &[u16],
-    ends: &[u16],
-    cells: &[u16],
-    place: usize,
-) -> usize
-    requires { ⌜ Lookable (now dist) from (now starts) (now ends) (now cells) place ⌝ }
-    ensures { λ r. ⌜ NearestCell (cellAt (now (cells .entry))) (rowAt (now (dist .entry)) from)
-        (getD (now (starts .entry)) place 0) (getD (now (ends .entry)) place 0) r ⌝ }
+fn nearest_in_row(dist: &[u16], from: usize, forth: &[u16], place: usize) -> usize
+    requires { ⌜ Lookable (now dist) from (now forth) place ⌝ }
+    ensures { λ r. ⌜ NearestCell (cellAt (now (forth .entry))) (rowAt (now (dist .entry)) from) (startAt (now (forth .entry)) place)
+        (endAt (now (forth .entry)) place) r ⌝ }
 {
-    let start = wide(starts[place]);
-    let end = ends[place] as usize;
+    let end = web::row_end(forth, place);
     let mut best: usize = 0;
-    let mut least: u16 = 65535;
-    let mut e = start;
+    let mut least: u16 = distances::FAR;
+    let mut e = web::row_start(forth, place);
     while e < end {
-        let x = cells[e] as usize;
+        let x = web::cell(forth, e);
         let at = from + x;
         let near = dist[at];
         if near < least {
@@ -353,28 +316,25 @@ fn step(
     k: usize,
     place: usize,
     aim: usize,
-    stored: bool,
-    starts: &[u16],
-    ends: &[u16],
-    cells: &[u16],
+    forth: &[u16],
 ) -> Moment
     requires { ⌜ Laid (now book) (now table) (now dist) k × (place < k) × (aim < aimsOf (bookSystem (now book)))
-        × Onward (now book) (now table) k stored (now starts) (now ends) (now cells) ⌝ }
+        × Onward (now book) (now table) k (now forth) ⌝ }
     ensures { λ r. ⌜ Stepped (bookSystem (now (book .entry))) (now (table .entry)) k place aim (r .place) (r .aim) ⌝ }
 {
     let s = table[place];
     let next = passed(book, aim, s);
-    if stored {
-        let from = next * k;
-        let near = nearest_in_row(dist, from, starts, ends, cells, place);
+    if forth.len() == 0 {
+        let best = seek(book, table, dist, k, place, next);
         return Moment {
-            place: near,
+            place: best,
             aim: next,
         };
     }
-    let best = seek(book, table, dist, k, place, next);
+    let from = next * k;
+    let near = nearest_in_row(dist, from, forth, place);
     Moment {
-        place: best,
+        place: near,
         aim: next,
     }
 }
@@ -388,31 +348,17 @@ fn find_end(
     words: &mut [u32],
     dist: &[u16],
     k: usize,
-    stored: bool,
-    starts: &[u16],
-    ends: &[u16],
-    cells: &[u16],
+    forth: &[u16],
 ) -> End
     requires { ⌜ Laid (now book) (now table) (now dist) k × (k ≤ length (now words)) × Zero k (now words)
-        × Onward (now book) (now table) k stored (now starts) (now ends) (now cells) ⌝ }
+        × Onward (now book) (now table) k (now forth) ⌝ }
     ensures { λ r. ⌜ Ended (now (book .entry)) (now (table .entry)) (now (words .entry)) (now (words .exit)) k (r .b) (r .place) (r .aim) ⌝ }
 {
     let mut place = first_place(book, table, k);
     let mut aim: usize = 0;
     let mut b: usize = 0;
     while !marks::met(words[place], aim) {
-        let next = step(
-            book,
-            table,
-            dist,
-            k,
-            place,
-            aim,
-            stored,
-            starts,
-            ends,
-            cells,
-        );
+        let next = step(book, table, dist, k, place, aim, forth);
         words[place] = marks::mark(words[place], aim);
         place = next.place;
         aim = next.aim;
@@ -443,13 +389,10 @@ fn write_run(
     b: usize,
     last: usize,
     goal: usize,
-    stored: bool,
-    starts: &[u16],
-    ends: &[u16],
-    cells: &[u16],
+    forth: &[u16],
 ) -> usize
     requires { ⌜ Known (now book) (now table) (now dist) (now run) k b last goal
-        × Onward (now book) (now table) k stored (now starts) (now ends) (now cells) ⌝ }
+        × Onward (now book) (now table) k (now forth) ⌝ }
     ensures { λ r. ⌜ Written (bookSystem (now (book .entry))) (now (table .entry)) b last goal (now (run .entry)) (now (run .exit)) r ⌝ }
 {
     let mut place = first_place(book, table, k);
@@ -459,18 +402,7 @@ fn write_run(
     while i < b {
         run[i] = table[place];
         a = back_from(a, i, place, last, aim, goal);
-        let next = step(
-            book,
-            table,
-            dist,
-            k,
-            place,
-            aim,
-            stored,
-            starts,
-            ends,
-            cells,
-        );
+        let next = step(book, table, dist, k, place, aim, forth);
         place = next.place;
         aim = next.aim;
         i += 1;
@@ -486,53 +418,24 @@ fn walk(
     run: &mut [u32],
     dist: &mut [u16],
     k: usize,
-    stored: bool,
-    starts: &[u16],
-    ends: &[u16],
-    cells: &[u16],
-    starts_back: &[u16],
-    ends_back: &[u16],
-    cells_back: &[u16],
+    forth: &[u16],
+    back: &[u16],
     queue: &mut [u16],
 ) -> Steps
     requires { ⌜ Ready (now book) (now table) (now words) k × (aimsOf (bookSystem (now book)) * k ≤ length (now dist))
-        × Onward (now book) (now table) k stored (now starts) (now ends) (now cells)
-        × Followable (now book) (now table) k stored (now «starts_back») (now «ends_back») (now «cells_back») (now queue) ⌝ }
+        × Onward (now book) (now table) k (now forth)
+        × Followable (now book) (now table) k (now back) (now queue) ⌝ }
     ensures { λ r. ⌜ Told (now (book .entry)) (now (words .entry)) (now (words .exit)) (now (run .entry)) (now (run .exit)) (r .a) (r .b) ⌝ }
 {
     wipe(words, k);
-    rows(
-        book,
-        table,
-        words,
-        dist,
-        k,
-        stored,
-        starts_back,
-        ends_back,
-        cells_back,
-        queue,
-    );
-    let end = find_end(book, table, words, dist, k, stored, starts, ends, cells);
+    rows(book, table, words, dist, k, back, queue);
+    let end = find_end(book, table, words, dist, k, forth);
     let b = end.b;
     let last = end.place;
     let goal = end.aim;
     let long = b as u32;
     if b <= run.len() {
-        let a = write_run(
-            book,
-            table,
-            run,
-            dist,
-            k,
-            b,
-            last,
-            goal,
-            stored,
-            starts,
-            ends,
-            cells,
-        );
+        let a = write_run(book, table, run, dist, k, b, last, goal, forth);
         let back = a as u32;
         return Steps { a: back, b: long };
     }
@@ -541,13 +444,13 @@ fn walk(
 
 // With room for few distances and for no moves, so that small sheets stay quick.
 fn walk_small(book: &[u32], table: &[u32], words: &mut [u32], run: &mut [u32], k: usize) -> Steps
-    requires { ⌜ Ready (now book) (now table) (now words) k × (aimsOf (bookSystem (now book)) * k ≤ 8192) ⌝ }
+    requires { ⌜ Ready (now book) (now table) (now words) k × (aimsOf (bookSystem (now book)) * k ≤ fewDistances) ⌝ }
     ensures { λ r. ⌜ Told (now (book .entry)) (now (words .entry)) (now (words .exit)) (now (run .entry)) (now (run .exit)) (r .a) (r .b) ⌝ }
 {
-    let mut dist = [0u16; 8192];
+    let mut dist = [0u16; FEW_DISTANCES];
     let mut queue = [0u16; 1];
     let none = [0u16; 1];
-    let row = &none[..0];
+    let empty = &none[..0];
     walk(
         book,
         table,
@@ -555,41 +458,22 @@ fn walk_small(book: &[u32], table: &[u32], words: &mut [u32], run: &mut [u32], k
         run,
         &mut dist,
         k,
-        false,
-        row,
-        row,
-        row,
-        row,
-        row,
-        row,
+        empty,
+        empty,
         &mut queue,
     )
 }
 
-// With room for as many distances as there can be, 16 rows of 16,384, and for the moves.
+// With room for as many distances as there can be, and for the moves.
 fn walk_large(book: &[u32], table: &[u32], words: &mut [u32], run: &mut [u32], k: usize) -> Steps
     requires { ⌜ Ready (now book) (now table) (now words) k ⌝ }
     ensures { λ r. ⌜ Told (now (book .entry)) (now (words .entry)) (now (words .exit)) (now (run .entry)) (now (run .exit)) (r .a) (r .b) ⌝ }
 {
-    let mut dist = [0u16; 262144];
-    let mut starts = [0u16; 16384];
-    let mut ends = [0u16; 16384];
-    let mut cells = [0u16; 32768];
-    let mut starts_back = [0u16; 16384];
-    let mut ends_back = [0u16; 16384];
-    let mut cells_back = [0u16; 32768];
-    let mut queue = [0u16; 16384];
-    let stored = web::store(
-        book,
-        table,
-        k,
-        &mut starts,
-        &mut ends,
-        &mut cells,
-        &mut starts_back,
-        &mut ends_back,
-        &mut cells_back,
-    );
+    let mut dist = [0u16; MOST_DISTANCES];
+    let mut forth = [0u16; web::SIZE];
+    let mut back = [0u16; web::SIZE];
+    let mut queue = [0u16; web::MOST_PLACES];
+    let kept = web::store(book, table, k, &mut forth, &mut back);
     walk(
         book,
         table,
@@ -597,22 +481,21 @@ fn walk_large(book: &[u32], table: &[u32], words: &mut [u32], run: &mut [u32], k
         run,
         &mut dist,
         k,
-        stored,
-        &starts,
-        &ends,
-        &cells,
-        &starts_back,
-        &ends_back,
-        &cells_back,
+        &forth[..kept],
+        &back[..kept],
         &mut queue,
     )
 }
 
 // Whether a small array holds the distances, and there are so few states that testing pairs is no more work than storing their moves.
 fn is_small(room: usize, k: usize) -> bool
-    ensures { λ b. ⌜ (b ≡ true → room ≤ 8192) ⌝ }
+    ensures { λ b. ⌜ (b ≡ true → room ≤ fewDistances) ⌝ }
 {
-    if k <= 512 { room <= 8192 } else { false }
+    if k <= FEW_STATES {
+        room <= FEW_DISTANCES
+    } else {
+        false
+    }
 }
 
 // Finds the sample run of the k livable states in the table's front. b is its length; if b places fit, run begins with its states and a is

@@ -9,6 +9,7 @@ use lib.ListN.{length, getD, take}
 use Rattle.meaning.specs.System.{System, Reachable, Lists}
 use Rattle.meaning.specs.Strike.{SavedBy}
 use Rattle.rules.specs.Book.{Shaped, bookLawful, bookSystem}
+use Rattle.web.specs.Layout.{mostPlaces}
 use Rattle.web.specs.Web.{To}
 use Rattle.distances.specs.Far.{Live, far}
 use Rattle.distances.specs.Layers.{total}
@@ -21,7 +22,7 @@ pub record Strikable (book table words scratch : List ℕ) (r : ℕ) : Type 0 wh
   pub in-table : r ≤ length table
   pub in-words : r ≤ length words
   pub in-scratch : r ≤ length scratch
-  pub few : r ≤ 16384
+  pub few : r ≤ mostPlaces
 
 -- a test's answer says exactly whether P holds
 pub record Says (P : Type 0) (b : Bool) : Type 0 where
@@ -83,7 +84,7 @@ pub record Phased (S : System) (table : List ℕ) (r reason v : ℕ) (old new : 
 pub record Told (book table : List ℕ) (r : ℕ) : Type 0 where
   pub shaped : Shaped book
   pub in-table : r ≤ length table
-  pub few : r ≤ 16384
+  pub few : r ≤ mostPlaces
   pub lawful : (i : ℕ) → i < r → bookLawful book (getD table i 0) ≡ true
 
 -- a phase may be run: no place has its word yet

@@ -10,8 +10,10 @@ ghost use lib.ListN.{length, getD};
 ghost use Rattle.rules.specs.Book.{gatherSize, clausesOk, bookLawful, promisesOf};
 ghost use Rattle.strike.specs.Phases.{Strikable, Stricken, Striking, PhaseDone, Told, Unphased, Zeros, Wiped};
 ghost use Rattle.strike.specs.Phases.{Says, Counts, Sought, Pointing, Pending, FarFree, Fell};
-ghost use Rattle.strike.specs.Stored.{Readable, SoughtInRow, Stored};
-ghost use Rattle.web.specs.Web.{Forth};
+ghost use Rattle.strike.specs.Stored.{Readable, SoughtInRow, Onward, Stored, fewStates};
+
+// Below so many states storing their moves would cost more than it saves.
+pub const FEW_STATES: usize = 512;
 
 // Whether a word counts as unstruck in the phase that gives `word`: what fell in this very phase still does.
 fn counts(x: u32, word: u32) -> bool
@@ -70,23 +72,15 @@ fn stands(words: &[u32], j: usize, lo: usize, word: u32) -> bool
     counts(words[j], word)
 }
 
-// The place after the first cell of place i's row that is `lo` or above and counts; 0 if there is none.
-fn seek_row(
-    words: &[u32],
-    i: usize,
-    word: u32,
-    lo: usize,
-    starts: &[u16],
-    ends: &[u16],
-    cells: &[u16],
-) -> usize
-    requires { ⌜ Readable i (now words) (now starts) (now ends) (now cells) ⌝ }
-    ensures { λ q. ⌜ SoughtInRow i (now (words .entry)) word lo (now (starts .entry)) (now (ends .entry)) (now (cells .entry)) q ⌝ }
+// The place after the first one in place i's row that is `lo` or above and counts; 0 if there is none.
+fn seek_row(words: &[u32], i: usize, word: u32, lo: usize, forth: &[u16]) -> usize
+    requires { ⌜ Readable i (now words) (now forth) ⌝ }
+    ensures { λ q. ⌜ SoughtInRow i (now (words .entry)) word lo (now (forth .entry)) q ⌝ }
 {
-    let end = ends[i] as usize;
-    let mut e = starts[i] as usize;
+    let end = web::row_end(forth, i);
+    let mut e = web::row_start(forth, i);
     while e < end {
-        let j = cells[e] as usize;
+        let j = web::cell(forth, e);
         if stands(words, j, lo, word) {
             return j + 1;
         }
@@ -105,22 +99,19 @@ fn seek_from(
     i: usize,
     word: u32,
     lo: usize,
-    stored: bool,
-    starts: &[u16],
-    ends: &[u16],
-    cells: &[u16],
+    forth: &[u16],
     clauses: &mut [u32],
 ) -> usize
     requires { ⌜ Told (now book) (now table) r × (r ≤ length (now words)) × (i < r) × (length (now clauses) ≡ gatherSize)
-        × (stored ≡ true → Forth (now book) (now table) r (now starts) (now ends) (now cells)) ⌝ }
+        × Onward (now book) (now table) r (now forth) ⌝ }
     ensures { λ q. ⌜ Sought (now (book .entry)) (now (table .entry)) (now (words .entry)) word r (getD (now (table .entry)) i 0) lo q
         × (length (now (clauses .exit)) ≡ gatherSize) ⌝ }
 {
-    if stored {
-        return seek_row(words, i, word, lo, starts, ends, cells);
+    if forth.len() == 0 {
+        let s = table[i];
+        return seek(book, s, table, words, r, word, lo, clauses);
     }
-    let s = table[i];
-    seek(book, s, table, words, r, word, lo, clauses)
+    seek_row(words, i, word, lo, forth)
 }
 
 // Whether the place that a pointer names still counts.
@@ -157,36 +148,19 @@ fn dead_ends(
     scratch: &mut [u32],
     r: usize,
     word: u32,
-    stored: bool,
-    starts: &[u16],
-    ends: &[u16],
-    cells: &[u16],
-    clauses: &mut [u32],
+    forth: &[u16],
 ) -> usize
-    requires { ⌜ Striking (now book) (now table) (now words) (now scratch) r word × (length (now clauses) ≡ gatherSize)
-        × (stored ≡ true → Forth (now book) (now table) r (now starts) (now ends) (now cells)) ⌝ }
+    requires { ⌜ Striking (now book) (now table) (now words) (now scratch) r word × Onward (now book) (now table) r (now forth) ⌝ }
     ensures { λ n. ⌜ PhaseDone (now (book .entry)) (now (table .entry)) r 0 word (now (words .entry)) (now (words .exit)) (now (scratch .entry))
-        (now (scratch .exit)) n × (length (now (clauses .exit)) ≡ gatherSize) ⌝ }
+        (now (scratch .exit)) n ⌝ }
 {
+    let mut clauses = [0u32; 510];
     let mut n: usize = 0;
     let mut i: usize = 0;
     while i < r {
         let lo = scratch[i] as usize;
         if pending(words, i, lo, word) {
-            let q = seek_from(
-                book,
-                table,
-                words,
-                r,
-                i,
-                word,
-                lo,
-                stored,
-                starts,
-                ends,
-                cells,
-                clauses,
-            );
+            let q = seek_from(book, table, words, r, i, word, lo, forth, &mut clauses);
             if q == 0 {
                 words[i] = word;
                 n += 1;
@@ -210,7 +184,7 @@ fn fall(words: &mut [u32], dist: &[u16], r: usize, word: u32) -> usize
     let mut n: usize = 0;
     let mut i: usize = 0;
     while i < r {
-        if dist[i] == 65535 {
+        if dist[i] == distances::FAR {
             words[i] = word;
             n += 1;
             i += 1;
@@ -221,6 +195,12 @@ fn fall(words: &mut [u32], dist: &[u16], r: usize, word: u32) -> usize
     n
 }
 
+// A phase: its reason, and the word that it gives.
+pub struct Turn {
+    pub reason: usize,
+    pub word: u32,
+}
+
 // One phase: strikes together, for one reason, the states that it does not save; how many fall.
 fn phase(
     book: &[u32],
@@ -228,56 +208,25 @@ fn phase(
     words: &mut [u32],
     scratch: &mut [u32],
     r: usize,
-    reason: usize,
-    word: u32,
-    stored: bool,
-    starts: &[u16],
-    ends: &[u16],
-    cells: &[u16],
-    starts_back: &[u16],
-    ends_back: &[u16],
-    cells_back: &[u16],
+    turn: Turn,
+    forth: &[u16],
+    back: &[u16],
     queue: &mut [u16],
-    clauses: &mut [u32],
     dist: &mut [u16],
 ) -> usize
-    requires { ⌜ Striking (now book) (now table) (now words) (now scratch) r word × (length (now clauses) ≡ gatherSize)
-        × (r ≤ length (now dist)) × (reason ≤ promisesOf (now book))
-        × Stored (now book) (now table) r stored (now starts) (now ends) (now cells) (now «starts_back») (now «ends_back») (now «cells_back») (now queue) ⌝ }
-    ensures { λ n. ⌜ PhaseDone (now (book .entry)) (now (table .entry)) r reason word (now (words .entry)) (now (words .exit)) (now (scratch .entry))
-        (now (scratch .exit)) n × (length (now (clauses .exit)) ≡ gatherSize) × (length (now (dist .exit)) ≡ length (now (dist .entry)))
+    requires { ⌜ Striking (now book) (now table) (now words) (now scratch) r (turn .word) × (r ≤ length (now dist))
+        × (turn .reason ≤ promisesOf (now book)) × Stored (now book) (now table) r (now forth) (now back) (now queue) ⌝ }
+    ensures { λ n. ⌜ PhaseDone (now (book .entry)) (now (table .entry)) r (turn .reason) (turn .word) (now (words .entry)) (now (words .exit))
+        (now (scratch .entry)) (now (scratch .exit)) n × (length (now (dist .exit)) ≡ length (now (dist .entry)))
         × (length (now (queue .exit)) ≡ length (now (queue .entry))) ⌝ }
 {
+    let reason = turn.reason;
+    let word = turn.word;
     if reason == 0 {
-        return dead_ends(
-            book,
-            table,
-            words,
-            scratch,
-            r,
-            word,
-            stored,
-            starts,
-            ends,
-            cells,
-            clauses,
-        );
+        return dead_ends(book, table, words, scratch, r, word, forth);
     }
     let k = reason - 1;
-    distances::distances(
-        book,
-        k,
-        table,
-        words,
-        r,
-        stored,
-        starts_back,
-        ends_back,
-        cells_back,
-        queue,
-        dist,
-        0,
-    );
+    distances::distances(book, k, table, words, r, back, queue, dist, 0);
     fall(words, dist, r, word)
 }
 
@@ -334,20 +283,13 @@ fn rounds(
     words: &mut [u32],
     scratch: &mut [u32],
     r: usize,
-    stored: bool,
-    starts: &[u16],
-    ends: &[u16],
-    cells: &[u16],
-    starts_back: &[u16],
-    ends_back: &[u16],
-    cells_back: &[u16],
+    forth: &[u16],
+    back: &[u16],
     queue: &mut [u16],
-    clauses: &mut [u32],
     dist: &mut [u16],
 ) -> usize
     requires { ⌜ Strikable (now book) (now table) (now words) (now scratch) r × Zeros (now words) r × Zeros (now scratch) r
-        × (length (now clauses) ≡ gatherSize) × (r ≤ length (now dist))
-        × Stored (now book) (now table) r stored (now starts) (now ends) (now cells) (now «starts_back») (now «ends_back») (now «cells_back») (now queue) ⌝ }
+        × (r ≤ length (now dist)) × Stored (now book) (now table) r (now forth) (now back) (now queue) ⌝ }
     ensures { λ left. ⌜ Stricken (now (book .entry)) (now (table .entry)) r (now (words .entry)) (now (words .exit)) (now (scratch .entry))
         (now (scratch .exit)) left ⌝ }
 {
@@ -358,23 +300,17 @@ fn rounds(
     let mut quiet: usize = 0;
     while quiet <= p {
         let word = base + (reason as u32);
+        let turn = Turn { reason, word };
         let n = phase(
             book,
             table,
             words,
             scratch,
             r,
-            reason,
-            word,
-            stored,
-            starts,
-            ends,
-            cells,
-            starts_back,
-            ends_back,
-            cells_back,
+            turn,
+            forth,
+            back,
             queue,
-            clauses,
             dist,
         );
         left -= n;
@@ -385,7 +321,7 @@ fn rounds(
     left
 }
 
-// Strikes few states, from words and pointers that are all 0: storing their moves would cost more than it saves.
+// Strikes few states, from words and pointers that are all 0, by tests of pairs.
 fn strike_few(
     book: &[u32],
     table: &[u32],
@@ -393,30 +329,23 @@ fn strike_few(
     scratch: &mut [u32],
     r: usize,
 ) -> usize
-    requires { ⌜ Strikable (now book) (now table) (now words) (now scratch) r × Zeros (now words) r × Zeros (now scratch) r × (r < 512) ⌝ }
+    requires { ⌜ Strikable (now book) (now table) (now words) (now scratch) r × Zeros (now words) r × Zeros (now scratch) r × (r < fewStates) ⌝ }
     ensures { λ left. ⌜ Stricken (now (book .entry)) (now (table .entry)) r (now (words .entry)) (now (words .exit)) (now (scratch .entry))
         (now (scratch .exit)) left ⌝ }
 {
     let none = [0u16; 1];
     let empty = &none[..0];
     let mut queue = [0u16; 1];
-    let mut clauses = [0u32; 510];
-    let mut dist = [0u16; 512];
+    let mut dist = [0u16; FEW_STATES];
     rounds(
         book,
         table,
         words,
         scratch,
         r,
-        false,
-        empty,
-        empty,
-        empty,
-        empty,
         empty,
         empty,
         &mut queue,
-        &mut clauses,
         &mut dist,
     )
 }
@@ -433,41 +362,20 @@ fn strike_many(
     ensures { λ left. ⌜ Stricken (now (book .entry)) (now (table .entry)) r (now (words .entry)) (now (words .exit)) (now (scratch .entry))
         (now (scratch .exit)) left ⌝ }
 {
-    let mut starts = [0u16; 16384];
-    let mut ends = [0u16; 16384];
-    let mut cells = [0u16; 32768];
-    let mut starts_back = [0u16; 16384];
-    let mut ends_back = [0u16; 16384];
-    let mut cells_back = [0u16; 32768];
-    let mut queue = [0u16; 16384];
-    let mut clauses = [0u32; 510];
-    let mut dist = [0u16; 16384];
-    let stored = web::store(
-        book,
-        table,
-        r,
-        &mut starts,
-        &mut ends,
-        &mut cells,
-        &mut starts_back,
-        &mut ends_back,
-        &mut cells_back,
-    );
+    let mut forth = [0u16; web::SIZE];
+    let mut back = [0u16; web::SIZE];
+    let mut queue = [0u16; web::MOST_PLACES];
+    let mut dist = [0u16; web::MOST_PLACES];
+    let kept = web::store(book, table, r, &mut forth, &mut back);
     rounds(
         book,
         table,
         words,
         scratch,
         r,
-        stored,
-        &starts,
-        &ends,
-        &cells,
-        &starts_back,
-        &ends_back,
-        &cells_back,
+        &forth[..kept],
+        &back[..kept],
         &mut queue,
-        &mut clauses,
         &mut dist,
     )
 }
@@ -487,7 +395,7 @@ pub fn strike(
 {
     wipe(words, r);
     wipe(scratch, r);
-    if r < 512 {
+    if r < FEW_STATES {
         return strike_few(book, table, words, scratch, r);
     }
     strike_many(book, table, words, scratch, r)

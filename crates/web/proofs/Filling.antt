@@ -1,15 +1,17 @@
 -- Rows of moves forth, written one after the other. Assumes nothing.
-use mathlib.Core.Path.{_≡_, refl, sym, subst, _∙_}
+use mathlib.Core.Path.{_≡_, refl, sym, ap, subst, _∙_}
 use mathlib.Core.Logic.{_⊎_, inl, inr}
 use mathlib.Core.List.{List}
-use Prim.Native.Nat.{ℕ, suc, _+_, _≤_, _<_}
+use Prim.Native.Nat.{ℕ, suc, _+_, _-_, _≤_, _<_}
 use native.Mathlib.Decide.{ℕ-discrete}
 use native.Mathlib.Omega.{arith}
-use lib.ListN.{length, getD, set, length-set}
+use lib.ListN.{length, getD, set, take, drop, length-set}
 use lib.Seq.{getD-set-same, getD-set-other}
 use Rattle.rules.proofs.FreerLaws.{freer-moves}
+use Rattle.web.specs.Layout.{mostPlaces, mostCells, movesSize, startsOf, endsOf, cellsOf, startAt, endAt, HasRow, CellsOnly, RowSet}
 use Rattle.web.specs.Web.{Forth, Storable}
 use Rattle.web.specs.Storing.{Row, Nexts, SameMoves, Filled}
+use Rattle.web.proofs.Layouts.{starts-long, ends-long, cells-long, cells-part, cellsBack, cells-back, cells-only}
 
 -- ---- one row
 
@@ -130,12 +132,28 @@ pub filled-same : (P Q : ℕ → Type 0) {at to : ℕ} {old new : List ℕ} → 
     → Filled Q at old new to
 filled-same P Q there back w = record { long = w .long; keeps = w .keeps; row = λ h. row-same P Q there back (w .row h) }
 
+-- A row that was filled in the lent cells is filled in the list, where nothing else has changed.
+pub filled-back : (P : ℕ → Type 0) (at to : ℕ) (moves cells : List ℕ) → length moves ≡ movesSize
+    → Filled P at (take (length moves - 32768) (drop 32768 moves)) cells to
+    → Filled P at (cellsOf moves) (cellsOf (cellsBack moves cells)) to × CellsOnly moves (cellsBack moves cells)
+filled-back P at to moves cells long f = (
+  subst (λ (l : List ℕ). Filled P at (cellsOf moves) l to) (sym (cells-back moves cells long (there .long))) there,
+  cells-only moves cells long (there .long),
+)
+  where
+    there : Filled P at (cellsOf moves) cells to
+    there = subst (λ (l : List ℕ). Filled P at l cells to) (cells-part moves long) f
+
 -- ---- row after row
 
 -- the rows of the first i places stand below `at`
 pub record Stored (book table : List ℕ) (r i at : ℕ) (starts ends cells : List ℕ) : Type 0 where
   pub below : (k : ℕ) → k < i → getD ends k 0 ≤ at
   pub rows : (k : ℕ) → k < i → Row (Nexts book table r (getD table k 0)) (getD starts k 0) (getD ends k 0) cells
+
+-- the same in one list
+abbrev pub StoredIn : (book table : List ℕ) (r i at : ℕ) (moves : List ℕ) → Type 0
+StoredIn book table r i at moves = Stored book table r i at (startsOf moves) (endsOf moves) (cellsOf moves)
 
 module _ (book table : List ℕ) (r : ℕ) where
   -- Before the first place there is no row.
@@ -183,6 +201,14 @@ module _ (book table : List ℕ) (r : ℕ) where
   stored-more i at to starts ends cells cells′ in-starts in-ends room s f =
       stored-row i at to at to starts ends cells cells′ in-starts in-ends (f .row room .forwards) (omega arith) (f .keeps) s (f .row room)
 
+  -- What three lists store, one list with these parts stores.
+  stored-as : (i at : ℕ) (starts ends cells moves : List ℕ) → startsOf moves ≡ starts → endsOf moves ≡ ends → cellsOf moves ≡ cells
+      → Stored book table r (i + 1) at starts ends cells → StoredIn book table r (i + 1) at moves
+  stored-as i at starts ends cells moves p q u s =
+      subst (λ (l : List ℕ). Stored book table r (i + 1) at l (endsOf moves) (cellsOf moves)) (sym p)
+      (subst (λ (l : List ℕ). Stored book table r (i + 1) at starts l (cellsOf moves)) (sym q)
+      (subst (λ (l : List ℕ). Stored book table r (i + 1) at starts ends l) (sym u) s))
+
   -- A place whose state moves where an earlier one's does has that one's row.
   pub stored-again : (i k at : ℕ) (starts ends cells : List ℕ) → i < length starts → i < length ends → Storable book table r → i < r
       → SameMoves book table k i → Stored book table r i at starts ends cells
@@ -194,14 +220,41 @@ module _ (book table : List ℕ) (r : ℕ) where
       (λ j p. (p .0, freer-moves book _ _ (able .lawful k (let a = same .before in omega arith)) (same .freer) _ (p .1)))
       (s .rows k (same .before)))
 
+  -- A stored row can be read.
+  pub stored-has : (i k at : ℕ) (moves : List ℕ) → length moves ≡ movesSize → i ≤ mostPlaces → at ≤ mostCells → StoredIn book table r i at moves → k < i
+      → HasRow moves k × (startAt moves k ≤ mostCells)
+  stored-has i k at moves long few room s h = (
+    record { long = long; place = omega arith; within = omega (arith, s .below k h) },
+    omega (arith, s .below k h, s .rows k h .forwards),
+  )
+
+  -- The same in one list: a filled row is set,
+  pub set-more : (i at to : ℕ) (old mid new : List ℕ) → length old ≡ movesSize → i < mostPlaces → to ≤ mostCells → StoredIn book table r i at old
+      → Filled (Nexts book table r (getD table i 0)) at (cellsOf old) (cellsOf mid) to → CellsOnly old mid → RowSet i at to mid new
+      → StoredIn book table r (i + 1) to new
+  set-more i at to old mid new long inside room s f c w =
+      stored-as i to _ _ _ new (w .starts ∙ ap (λ (l : List ℕ). set l i at) (c .starts)) (w .ends ∙ ap (λ (l : List ℕ). set l i to) (c .ends)) (w .cells)
+      (stored-more i at to (startsOf old) (endsOf old) (cellsOf old) (cellsOf mid) (omega (arith, starts-long old long))
+      (omega (arith, ends-long old long)) (omega (arith, cells-long old long)) s f)
+
+  -- and a row is shared.
+  pub set-again : (i k at : ℕ) (old new : List ℕ) → length old ≡ movesSize → i < mostPlaces → Storable book table r → i < r
+      → SameMoves book table k i → StoredIn book table r i at old → RowSet i (startAt old k) (endAt old k) old new
+      → StoredIn book table r (i + 1) at new
+  set-again i k at old new long inside able h same s w =
+      stored-as i at _ _ _ new (w .starts) (w .ends) (w .cells)
+      (stored-again i k at (startsOf old) (endsOf old) (cellsOf old) (omega (arith, starts-long old long)) (omega (arith, ends-long old long)) able h
+      same s)
+
   -- All rows are the moves forth.
-  pub stored-forth : (i at : ℕ) (starts ends cells : List ℕ) → i ≡ r → r ≤ length starts → r ≤ length ends → at ≤ length cells
-      → Stored book table r i at starts ends cells → Forth book table r starts ends cells
-  stored-forth i at starts ends cells q in-starts in-ends room s = record {
+  pub stored-forth : (i at : ℕ) (moves : List ℕ) → i ≡ r → r ≤ mostPlaces → length moves ≡ movesSize → at ≤ mostCells
+      → StoredIn book table r i at moves → Forth book table r moves
+  stored-forth i at moves q few long room s = record {
+    long = long;
     rows = record {
-      in-starts = in-starts;
-      in-ends = in-ends;
-      in-cells = λ k h. let a = s .below k (omega arith) in omega arith;
+      in-starts = omega (arith, starts-long moves long);
+      in-ends = omega (arith, ends-long moves long);
+      in-cells = λ k h. let a = s .below k (omega arith) in omega (arith, cells-long moves long);
       sound = λ k e h a b. s .rows k (omega arith) .sound e a b;
       whole = λ k j h l m. s .rows k (omega arith) .whole j (l, m);
     };

@@ -1,3 +1,4 @@
+pub mod Layouts
 pub mod Filling
 pub mod Lookups
 pub mod Turns

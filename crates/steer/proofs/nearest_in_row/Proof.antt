@@ -1,107 +1,61 @@
--- `steer::nearest_in_row` meets its contract. The loop's invariant: `best` stands in the first of the nearest among the cells before e.
--- Assumes nothing.
-use mathlib.Core.Path.{subst}
-use Prim.Native.Nat.{ℕ, _-_, _≤_}
+-- `steer::nearest_in_row` meets its contract. The loop's invariant: `best` stands in the first of the nearest among the cells before e. Assumes nothing.
+use Prim.Native.Nat.{ℕ, _+_, _-_, _≤_, _<_}
 use native.Mathlib.Omega.{arith}
-use lib.ListN.{getD}
-use Rattle.steer.specs.Stored.{Looked, NearestCell, cellAt}
+use lib.ListN.{length}
+use Rattle.web.specs.Layout.{startAt, endAt, cellAt}
+use Rattle.steer.specs.Stored.{Looked}
 use Rattle.steer.specs.Walk.{rowAt}
-use Rattle.steer.proofs.Stored.{looked-all, looked-nearer, looked-none, looked-not}
+use Rattle.steer.proofs.Stored.{looked-all, looked-nearer, looked-start, looked-not}
 use Rattle.steer.proofs.nearest_in_row.Statement.{statement}
 use Rattle.steer.proofs.nearest_in_row.Tie as tie
 
 abbrev Inv-loop : tie.InvT-loop
-Inv-loop dist from starts ends cells place start end best₀ least₀ e₀ best least e =
-    (start ≤ e) × Looked (cellAt cells) (rowAt dist from) start end e best least
+Inv-loop dist from forth place end best₀ least₀ e₀ best least e =
+    (startAt forth place ≤ e) × Looked (cellAt forth) (rowAt dist from) (startAt forth place) (endAt forth place) e best least
 
 abbrev μ-loop : tie.MeasureT-loop
-μ-loop dist from starts ends cells place start end best₀ least₀ e₀ best least e = end - e
+μ-loop dist from forth place end best₀ least₀ e₀ best least e = end - e
 
-mul-wide : tie.Need-mul-wide Inv-loop μ-loop
-mul-wide c = omega (arith, c .before .before .before .before .pre .in-starts)
+-- within the loop's body: e is a cell of the row,
+inside : (c : tie.In-loop Inv-loop μ-loop) → c .before .loop .e < endAt (c .before .before .before .before .before .before .args .forth .now) (c .before .before .before .before .before .before .args .place)
+inside c = omega (arith, c .loop-test .taken, c .before .before .before .row-end .ensures .0)
 
-shared-slice-read-wide : tie.Need-shared-slice-read-wide Inv-loop μ-loop
-shared-slice-read-wide c = omega (arith, c .before .before .before .before .before .pre .in-starts)
-
-wide-requires : tie.Need-wide-requires Inv-loop μ-loop
-wide-requires c κs = tt
-
-mul-end : tie.Need-mul-end Inv-loop μ-loop
-mul-end c = omega (arith, c .before .before .before .before .before .before .pre .in-ends)
-
-shared-slice-read-end : tie.Need-shared-slice-read-end Inv-loop μ-loop
-shared-slice-read-end c = omega (arith, c .before .before .before .before .before .before .before .pre .in-ends)
-
-cast-end : tie.Need-cast-end Inv-loop μ-loop
-cast-end c = omega (arith, c .before .before .before .before .before .before .before .pre .in-cells)
-
-loop-holds : tie.Need-loop-holds Inv-loop μ-loop
-loop-holds c = (omega arith, looked-none _ _)
-
-mul-x : tie.Need-mul-x Inv-loop μ-loop
-mul-x c = omega (arith, c .before .before .before .before .before .before .before .before .before .pre .in-cells)
-
-shared-slice-read-x : tie.Need-shared-slice-read-x Inv-loop μ-loop
-shared-slice-read-x c = omega (arith, c .before .before .before .before .before .before .before .before .before .before .pre .in-cells)
-
-cast-x : tie.Need-cast-x Inv-loop μ-loop
-cast-x c =
+-- and its place has a number
+in-dist : (c : tie.After-cell Inv-loop μ-loop) → c .before .before .before .before .before .before .before .args .from + c .cell .result < length (c .before .before .before .before .before .before .before .args .dist .now)
+in-dist c =
     let head = c .before .before in
-    let start = head .before .before .before .before .before .before .before .before in
-    omega (arith, start .pre .in-dist (head .loop .e) (omega (arith, head .before .before .wide .ensures)) (c .before .loop-test .taken))
+    omega (arith, c .cell .ensures, head .before .before .before .before .before .pre .in-dist (head .loop .e) (head .loop .inv .0) (inside (c .before)))
 
-add-at : tie.Need-add-at Inv-loop μ-loop
-add-at c =
-    let head = c .before .before in
-    let start = head .before .before .before .before .before .before .before .before in
-    omega (arith, start .pre .in-dist (head .loop .e) (omega (arith, head .before .before .wide .ensures)) (c .before .loop-test .taken))
-
-mul-near : tie.Need-mul-near Inv-loop μ-loop
-mul-near c =
-    let head = c .before .before in
-    let start = head .before .before .before .before .before .before .before .before in
-    omega (arith, start .pre .in-dist (head .loop .e) (omega (arith, head .before .before .wide .ensures)) (c .before .loop-test .taken))
-
-shared-slice-read-near : tie.Need-shared-slice-read-near Inv-loop μ-loop
-shared-slice-read-near c =
-    let head = c .before .before .before in
-    let start = head .before .before .before .before .before .before .before .before in
-    omega (arith, start .pre .in-dist (head .loop .e) (omega (arith, head .before .before .wide .ensures)) (c .before .before .loop-test .taken))
+cell-requires : tie.Need-cell-requires Inv-loop μ-loop
+cell-requires c κs = let row = c .before .before .before .before .before .before .pre .row in (row .long, omega (arith, inside c, row .within))
 
 add-e : tie.Need-add-e Inv-loop μ-loop
-add-e c = omega arith
-
-loop-less : tie.Need-loop-less Inv-loop μ-loop
-loop-less c = omega arith
+add-e c = omega (arith, inside (c .before .before .before), c .before .before .before .before .before .before .before .before .before .pre .row .within)
 
 loop-again : tie.Need-loop-again Inv-loop μ-loop
 loop-again c =
-    let head = c .before .before .before .before in (
-      omega arith,
-      looked-nearer _ _ _ _ (head .loop .e) (head .loop .best) (head .loop .least) (head .loop .inv .0) (omega arith) (head .loop .inv .1) (c .if1 .taken),
+    let at-cell = c .before .before in
+    let head = at-cell .before .before in (
+      omega (arith, head .loop .inv .0),
+      looked-nearer _ _ _ _ (head .loop .e) (head .loop .best) (head .loop .least) _ (at-cell .cell .ensures) (head .loop .inv .0) (inside (at-cell .before))
+          (head .loop .inv .1) (c .if1 .taken),
     )
 
 add-e-2 : tie.Need-add-e-2 Inv-loop μ-loop
-add-e-2 c = omega arith
-
-loop-less-2 : tie.Need-loop-less-2 Inv-loop μ-loop
-loop-less-2 c = omega arith
+add-e-2 c = omega (arith, inside (c .before .before .before), c .before .before .before .before .before .before .before .before .before .pre .row .within)
 
 loop-again-2 : tie.Need-loop-again-2 Inv-loop μ-loop
 loop-again-2 c =
-    let head = c .before .before .before .before in (
-      omega arith,
-      looked-not _ _ _ _ (head .loop .e) (head .loop .best) (head .loop .least) (head .loop .inv .1) (omega arith),
+    let at-cell = c .before .before in
+    let head = at-cell .before .before in (
+      omega (arith, head .loop .inv .0),
+      looked-not _ _ _ _ (head .loop .e) (head .loop .best) (head .loop .least) _ (at-cell .cell .ensures) (head .loop .inv .1) (omega (arith, c .if1 .left)),
     )
 
 returns : tie.Need-returns Inv-loop μ-loop
 returns c =
     let head = c .before in
-    let start = head .before .before .before .before .before .before .before .before in
-    subst
-    (λ (y : ℕ). NearestCell (cellAt (start .args .cells .now)) (rowAt (start .args .dist .now) (start .args .from)) y
-    (getD (start .args .ends .now) (start .args .place) 0) (head .loop .best))
-    (head .before .before .wide .ensures) (looked-all (head .loop .e) (omega arith) (head .loop .inv .1))
+    looked-all (head .loop .e) (omega (arith, c .loop-test .left, head .before .before .row-end .ensures .0)) (head .loop .inv .1)
 
 pub nearest-in-row-spec : {M : Type 1} → statement M
 nearest-in-row-spec =
@@ -109,23 +63,17 @@ nearest-in-row-spec =
     (tie.spec
     Inv-loop
     μ-loop
-    mul-wide
-    shared-slice-read-wide
-    wide-requires
-    mul-end
-    shared-slice-read-end
-    cast-end
-    loop-holds
-    mul-x
-    shared-slice-read-x
-    cast-x
-    add-at
-    mul-near
-    shared-slice-read-near
+    (λ c κs. (c .before .before .pre .row .long, c .before .before .pre .row .place))
+    (λ c κs. (c .before .before .before .pre .row .long, c .before .before .before .pre .row .place))
+    (λ c. (omega (arith, c .row-start .ensures), looked-start _ _ _ (c .row-start .ensures)))
+    cell-requires
+    (λ c. omega (arith, in-dist c))
+    (λ c. omega (arith, in-dist c))
+    (λ c. in-dist (c .before))
     add-e
-    loop-less
+    (λ c. omega arith)
     loop-again
     add-e-2
-    loop-less-2
+    (λ c. omega arith)
     loop-again-2
     returns)

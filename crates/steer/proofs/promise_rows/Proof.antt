@@ -11,23 +11,23 @@ use Rattle.steer.proofs.promise_rows.Statement.{statement}
 use Rattle.steer.proofs.promise_rows.Tie as tie
 
 abbrev Inv-loop : tie.InvT-loop
-Inv-loop book table words dist₀ k p stored starts ends cells queue₀ q₀ dist queue q =
+Inv-loop book table words dist₀ k p back queue₀ q₀ dist queue q =
     (q ≤ p) × (length dist ≡ length dist₀) × RowsTo (bookSystem book) table k q dist × (length queue ≡ length queue₀)
 
 abbrev μ-loop : tie.MeasureT-loop
-μ-loop book table words dist₀ k p stored starts ends cells queue₀ q₀ dist queue q = p - q
+μ-loop book table words dist₀ k p back queue₀ q₀ dist queue q = p - q
 
 loop-holds : tie.Need-loop-holds Inv-loop μ-loop
 loop-holds c = (omega arith, refl, λ q x h. absurd (omega arith), refl)
 
 mul-from : tie.Need-mul-from Inv-loop μ-loop
 mul-from c =
-    let start = c .before .before .before .before .before .before .before .before .before .before in
+    let start = c .before .before .before .before .before .before .before .before in
     omega (arith, row-room (c .before .loop .q) (start .args .p) (start .args .k) (c .loop-test .taken))
 
 distances-requires : tie.Need-distances-requires Inv-loop μ-loop
 distances-requires c κs =
-    let start = c .before .before .before .before .before .before .before .before .before .before .before .before in (
+    let start = c .before .before .before .before .before .before .before .before .before .before in (
       record {
         shaped = start .pre .0 .shaped;
         promise = omega arith;
@@ -50,10 +50,10 @@ loop-again : tie.Need-loop-again Inv-loop μ-loop
 loop-again c =
     let at-distances = c .before .before .before .before in
     let head = at-distances .before .before .before .before in
-    let start = head .before .before .before .before .before .before .before .before .before in (
+    let start = head .before .before .before .before .before .before .before in (
       omega arith,
       at-distances .distances .ensures .0 .long ∙ head .loop .inv .1,
-      one-more-row (start .pre .0) (head .loop .q) (head .loop .dist) (at-distances .distances .last .1 .1 .1 .1 .1 .1 .1 .1 .1 .1 .0) (omega arith)
+      one-more-row (start .pre .0) (head .loop .q) (head .loop .dist) (at-distances .distances .last .1 .1 .1 .1 .1 .1 .1 .0) (omega arith)
           (at-distances .distances .ensures .0) (head .loop .inv .2),
       at-distances .distances .ensures .1 ∙ head .loop .inv .3,
     )
@@ -67,7 +67,7 @@ same-length-2 c = c .before .loop .inv .3
 returns : tie.Need-returns Inv-loop μ-loop
 returns c =
     let head = c .before in
-    let start = head .before .before .before .before .before .before .before .before .before in
+    let start = head .before .before .before .before .before .before .before in
     record {
       rowed = rowed-of-rows (head .loop .q) (omega (arith, promises-are (start .args .book .now))) (omega arith) (head .loop .inv .2);
       long = head .loop .inv .1;

@@ -17,7 +17,7 @@ no-distances-requires c κs = search needs
 
 promise-rows-requires : tie.Need-promise-rows-requires
 promise-rows-requires c κs =
-    let start = c .before .before .before .before .before .before .before .before .before .before .before .before in (
+    let start = c .before .before .before .before .before .before .before .before .before .before in (
       start .pre .0,
       c .before .before .before .promises .ensures,
       omega arith,
@@ -31,7 +31,7 @@ same-length c = search needs
 returns : tie.Need-returns
 returns c =
     let at-no-distances = c .before .before in
-    let start = at-no-distances .before .before .before .before .before .before .before .before .before .before .before .before in
+    let start = at-no-distances .before .before .before .before .before .before .before .before .before .before in
     record {
       rowed = rowed-of-none (start .pre .0 .livables) (omega (arith, promises-are (start .args .book .now)))
           (at-no-distances .no-distances .ensures .zero-below);

@@ -12,14 +12,14 @@ wipe-requires c κs = search needs
 rows-requires : tie.Need-rows-requires
 rows-requires c κs =
     let at-wipe = c .before .before .before .before .before in
-    let start = at-wipe .before .before .before .before .before .before .before .before .before .before .before .before .before .before in
+    let start = at-wipe .before .before .before .before .before .before .before .before .before .before in
     (ground-of (start .pre .0) (at-wipe .wipe .ensures), start .pre .1, start .pre .3)
 
 find-end-requires : tie.Need-find-end-requires
 find-end-requires c κs =
     let at-rows = c .before .before .before .before .before .before in
     let at-wipe = at-rows .before .before .before .before .before .before in
-    let start = at-wipe .before .before .before .before .before .before .before .before .before .before .before .before .before .before in (
+    let start = at-wipe .before .before .before .before .before .before .before .before .before .before in (
       laid-of (start .args .dist .now) (at-rows .rows .last .1 .1 .1 .0) (start .pre .0) (start .pre .1) (at-rows .rows .ensures),
       ground-of (start .pre .0) (at-wipe .wipe .ensures) .in-words,
       at-wipe .wipe .ensures .zero-below,
@@ -34,7 +34,7 @@ write-run-requires c κs =
     let at-find-end = c .before .before .before .before .before in
     let at-rows = at-find-end .before .before .before .before .before .before .before in
     let at-wipe = at-rows .before .before .before .before .before .before in
-    let start = at-wipe .before .before .before .before .before .before .before .before .before .before .before .before .before .before in (
+    let start = at-wipe .before .before .before .before .before .before .before .before .before .before in (
       record {
         laid = laid-of (start .args .dist .now) (at-rows .rows .last .1 .1 .1 .0) (start .pre .0) (start .pre .1) (at-rows .rows .ensures);
         cut = at-find-end .find-end .ensures .cut;
@@ -67,7 +67,7 @@ returns c =
     let at-if1 = at-write-run .before .before .before in
     let at-find-end = at-if1 .before .before .before in
     let at-wipe = at-find-end .before .before .before .before .before .before .before .before .before .before .before .before .before in
-    let start = at-wipe .before .before .before .before .before .before .before .before .before .before .before .before .before .before in
+    let start = at-wipe .before .before .before .before .before .before .before .before .before .before in
     record {
       steered = steered-written (start .args .run .now) (at-write-run .write-run .last .1 .1 .0) (at-write-run .write-run .result)
           (at-write-run .write-run .ensures) (omega (arith, at-if1 .if1 .taken));
@@ -87,7 +87,7 @@ returns-2 : tie.Need-returns-2
 returns-2 c =
     let at-find-end = c .before .before .before in
     let at-wipe = at-find-end .before .before .before .before .before .before .before .before .before .before .before .before .before in
-    let start = at-wipe .before .before .before .before .before .before .before .before .before .before .before .before .before .before in
+    let start = at-wipe .before .before .before .before .before .before .before .before .before .before in
     record {
       steered = steered-short (start .args .run .now) 0 (at-find-end .find-end .ensures .cut) (omega (arith, c .if1 .left));
       long = at-find-end .find-end .ensures .long ∙ at-wipe .wipe .ensures .long;

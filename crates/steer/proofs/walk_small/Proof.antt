@@ -1,7 +1,5 @@
 -- `steer::walk_small` meets its contract: the rows of distances have room, and no moves are stored. Assumes nothing.
-use mathlib.Core.Path.{_≡_}
-use Prim.Native.Nat.{ℕ}
-use native.Mathlib.Omega.{arith}
+use mathlib.Core.Path.{refl}
 use borrow.Author.Needs.{needs}
 use Rattle.steer.proofs.walk_small.Statement.{statement}
 use Rattle.steer.proofs.walk_small.Tie as tie
@@ -9,8 +7,8 @@ use Rattle.steer.proofs.walk_small.Tie as tie
 array-share-prefix-none : tie.Need-array-share-prefix-none
 array-share-prefix-none c = search needs
 
-slice-aggregate-row : tie.Need-slice-aggregate-row
-slice-aggregate-row c = search needs
+slice-aggregate-empty : tie.Need-slice-aggregate-empty
+slice-aggregate-empty c = search needs
 
 slice-aggregate-walk : tie.Need-slice-aggregate-walk
 slice-aggregate-walk c = search needs
@@ -23,8 +21,8 @@ walk-requires c κs =
     let start = c .before .before .before .before .before .before .before .before .before in (
       start .pre .0,
       start .pre .1,
-      λ e. let z : _≡_ {A = ℕ} 0 1 = cc in absurd (omega arith),
-      λ e. let z : _≡_ {A = ℕ} 0 1 = cc in absurd (omega arith),
+      λ some. absurd (some refl),
+      λ some. absurd (some refl),
     )
 
 same-length : tie.Need-same-length
@@ -41,7 +39,7 @@ walk-small-spec =
     tie.close
     (tie.spec
     array-share-prefix-none
-    slice-aggregate-row
+    slice-aggregate-empty
     slice-aggregate-walk
     slice-aggregate-walk-2
     walk-requires

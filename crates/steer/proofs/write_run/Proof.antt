@@ -7,37 +7,37 @@ use Rattle.steer.proofs.write_run.Statement.{statement}
 use Rattle.steer.proofs.write_run.Tie as tie
 
 abbrev Inv-loop : tie.InvT-loop
-Inv-loop book table run₀ dist k b last goal stored starts ends cells place₀ aim₀ a₀ i₀ run place aim a i =
+Inv-loop book table run₀ dist k b last goal forth place₀ aim₀ a₀ i₀ run place aim a i =
     (i ≤ b) × Writing (bookSystem book) table b last goal run₀ run k i place aim a
 
 abbrev μ-loop : tie.MeasureT-loop
-μ-loop book table run₀ dist k b last goal stored starts ends cells place₀ aim₀ a₀ i₀ run place aim a i = b - i
+μ-loop book table run₀ dist k b last goal forth place₀ aim₀ a₀ i₀ run place aim a i = b - i
 
 first-place-requires : tie.Need-first-place-requires Inv-loop μ-loop
-first-place-requires c κs = (c .before .before .before .before .before .before .before .pre .0 .laid .shaped, c .before .before .before .before .before .before .before .pre .0 .laid .in-table)
+first-place-requires c κs = (c .before .before .before .before .before .pre .0 .laid .shaped, c .before .before .before .before .before .pre .0 .laid .in-table)
 
 loop-holds : tie.Need-loop-holds Inv-loop μ-loop
 loop-holds c =
-    let start = c .before .before .before .before .before .before .before .before in (
+    let start = c .before .before .before .before .before .before in (
       omega arith,
       writing-starts (start .args .run .now) (start .pre .0 .laid .livables) (start .pre .0 .laid .some) (c .first-place .result)
           (c .first-place .ensures) (start .pre .0 .cut),
     )
 
 mul-run : tie.Need-mul-run Inv-loop μ-loop
-mul-run c = omega (arith, c .before .loop .inv .1 .inside, c .before .before .before .before .before .before .before .before .before .before .pre .0 .laid .few)
+mul-run c = omega (arith, c .before .loop .inv .1 .inside, c .before .before .before .before .before .before .before .before .pre .0 .laid .few)
 
 shared-slice-read-run : tie.Need-shared-slice-read-run Inv-loop μ-loop
 shared-slice-read-run c =
-    let start = c .before .before .before .before .before .before .before .before .before .before .before in
+    let start = c .before .before .before .before .before .before .before .before .before in
     omega (arith, c .before .before .loop .inv .1 .inside, start .pre .0 .laid .in-table)
 
 mul-run-2 : tie.Need-mul-run-2 Inv-loop μ-loop
-mul-run-2 c = omega (arith, c .before .before .before .before .before .before .before .before .before .before .before .pre .0 .cut .few)
+mul-run-2 c = omega (arith, c .before .before .before .before .before .before .before .before .before .pre .0 .cut .few)
 
 slice-write-run : tie.Need-slice-write-run Inv-loop μ-loop
 slice-write-run c =
-    let start = c .before .before .before .before .before .before .before .before .before .before .before in
+    let start = c .before .before .before .before .before .before .before .before .before in
     omega (arith, c .before .before .loop .inv .1 .long, start .pre .0 .fits, c .before .loop-test .taken)
 
 back-from-requires : tie.Need-back-from-requires Inv-loop μ-loop
@@ -46,7 +46,7 @@ back-from-requires c κs = tt
 step-requires : tie.Need-step-requires Inv-loop μ-loop
 step-requires c κs =
     let head = c .before .before .before in
-    let start = head .before .before .before .before .before .before .before .before .before in
+    let start = head .before .before .before .before .before .before .before in
     (start .pre .0 .laid, head .loop .inv .1 .inside, writing-aimed (start .pre .0 .laid .livables) (head .loop .inv .1), start .pre .1)
 
 add-i : tie.Need-add-i Inv-loop μ-loop
@@ -59,7 +59,7 @@ loop-again : tie.Need-loop-again Inv-loop μ-loop
 loop-again c =
     let at-loop-test = c .before .before .before in
     let head = at-loop-test .before in
-    let start = head .before .before .before .before .before .before .before .before .before in (
+    let start = head .before .before .before .before .before .before .before in (
       omega arith,
       writing-goes (start .pre .0 .laid .livables) (head .loop .inv .1) (start .pre .0 .inside)
           (omega (arith, head .loop .inv .1 .long, start .pre .0 .fits, at-loop-test .loop-test .taken))
@@ -70,7 +70,7 @@ same-length : tie.Need-same-length Inv-loop μ-loop
 same-length c = c .before .loop .inv .1 .long
 
 returns : tie.Need-returns Inv-loop μ-loop
-returns c = writing-ends (c .before .before .before .before .before .before .before .before .before .before .pre .0 .laid .livables) (c .before .loop .inv .1) (omega arith)
+returns c = writing-ends (c .before .before .before .before .before .before .before .before .pre .0 .laid .livables) (c .before .loop .inv .1) (omega arith)
 
 pub write-run-spec : {M : Type 1} → statement M
 write-run-spec =

@@ -1,6 +1,6 @@
 -- `strike::dead_ends` meets its contract. The loop's invariant: the first i places are judged, and the pointers are right. Assumes nothing.
 use mathlib.Core.Path.{_≡_, _∙_, sym, refl}
-use Prim.Native.Nat.{_-_, _≤_}
+use Prim.Native.Nat.{_-_, _≤_, _<_}
 use native.Mathlib.Omega.{arith}
 use lib.ListN.{length, length-set}
 use Rattle.rules.specs.Book.{gatherSize}
@@ -18,155 +18,99 @@ use Rattle.strike.proofs.dead_ends.Statement.{statement}
 use Rattle.strike.proofs.dead_ends.Tie as tie
 
 abbrev Inv-loop : tie.InvT-loop
-Inv-loop book table words₀ scratch₀ r word stored starts ends cells clauses₀ n₀ i₀ words scratch clauses n i =
+Inv-loop book table words₀ scratch₀ r word forth clauses₀ n₀ i₀ words scratch clauses n i =
     (i ≤ r) × Passing book table r word words₀ i n words scratch × (length scratch ≡ length scratch₀) × (length clauses ≡ gatherSize)
 
 abbrev μ-loop : tie.MeasureT-loop
-μ-loop book table words₀ scratch₀ r word stored starts ends cells clauses₀ n₀ i₀ words scratch clauses n i = r - i
+μ-loop book table words₀ scratch₀ r word forth clauses₀ n₀ i₀ words scratch clauses n i = r - i
+
+-- within the loop's body: i is a place of the words, and of the scratch
+in-words : (c : tie.In-loop Inv-loop μ-loop) → c .before .loop .i < length (c .before .loop .words)
+in-words c = omega (arith, c .loop-test .taken, c .before .loop .inv .1 .long, c .before .before .before .before .before .before .before .pre .0 .unphased .in-words)
+
+in-scratch : (c : tie.In-loop Inv-loop μ-loop) → c .before .loop .i < length (c .before .loop .scratch)
+in-scratch c = omega (arith, c .loop-test .taken, c .before .loop .inv .2, c .before .before .before .before .before .before .before .pre .0 .in-scratch)
 
 loop-holds : tie.Need-loop-holds Inv-loop μ-loop
-loop-holds c =
-    let entry = c .before .before .before .before .before .before .before .before in
-    (omega arith, passing-none _ _ _ _ _ _ (entry .pre .0 .pointers), refl, entry .pre .1)
+loop-holds c = (omega arith, passing-none _ _ _ _ _ _ (c .before .before .before .before .before .pre .0 .pointers), refl, refl)
 
 mul-lo : tie.Need-mul-lo Inv-loop μ-loop
-mul-lo c = let a = c .before .loop .inv .2 in let b = c .before .before .before .before .before .before .before .before .before .before .pre .0 .in-scratch in omega arith
-
-slice-read-lo : tie.Need-slice-read-lo Inv-loop μ-loop
-slice-read-lo c =
-    let at-loop = c .before .before in
-    let entry = at-loop .before .before .before .before .before .before .before .before .before in
-    let a = at-loop .loop .inv .2 in let b = entry .pre .0 .in-scratch in omega arith
-
-cast-lo : tie.Need-cast-lo Inv-loop μ-loop
-cast-lo c = omega (arith, c .slice-known4 .given (c .before .before .loop .i))
+mul-lo c = omega (arith, c .loop-test .taken, c .before .before .before .before .before .before .before .pre .0 .told .few)
 
 pending-requires : tie.Need-pending-requires Inv-loop μ-loop
 pending-requires c κs =
-    let at-loop = c .before .before .before in
-    let entry = at-loop .before .before .before .before .before .before .before .before .before in
-    let a = at-loop .loop .inv .1 .long in
-    let b = entry .pre .0 .unphased .in-words in
-    (omega arith, λ z. let w = pointer-within _ _ _ _ _ (entry .pre .0 .unphased) _ _ _ _ (at-loop .loop .inv .1) (omega arith) z in omega arith)
+    let at-loop-test = c .before .before in
+    let at-loop = at-loop-test .before in (
+      in-words at-loop-test,
+      λ z. omega (
+        arith,
+        pointer-within _ _ _ _ _ (at-loop .before .before .before .before .before .before .pre .0 .unphased) _ _ _ _ (at-loop .loop .inv .1) (at-loop-test .loop-test .taken) z,
+        in-words at-loop-test,
+      ),
+    )
 
 seek-from-requires : tie.Need-seek-from-requires Inv-loop μ-loop
 seek-from-requires c κs =
-    let at-loop = c .before .before .before .before .before .before .before in
-    let entry = at-loop .before .before .before .before .before .before .before .before .before in
-    let a = at-loop .loop .inv .1 .long in
-    let b = entry .pre .0 .unphased .in-words in
-    (entry .pre .0 .told, omega arith, omega arith, at-loop .loop .inv .3, entry .pre .2)
+    let at-loop-test = c .before .before .before .before .before .before in
+    let at-loop = at-loop-test .before in
+    let pre = at-loop .before .before .before .before .before .before .pre in
+    (pre .0 .told, omega (arith, pre .0 .unphased .in-words, at-loop .loop .inv .1 .long), at-loop-test .loop-test .taken, at-loop .loop .inv .3, pre .1)
 
 mul-words : tie.Need-mul-words Inv-loop μ-loop
-mul-words c =
-    let at-loop = c .before .before .before .before .before .before .before .before .before .before .before in
-    let entry = at-loop .before .before .before .before .before .before .before .before .before in
-    let a = at-loop .loop .inv .1 .long in let b = entry .pre .0 .unphased .in-words in omega arith
-
-slice-write-words : tie.Need-slice-write-words Inv-loop μ-loop
-slice-write-words c =
-    let at-loop-test = c .before .before .before .before .before .before .before .before .before .before in
-    let at-loop = at-loop-test .before in
-    let entry = at-loop .before .before .before .before .before .before .before .before .before in
-    let t = at-loop-test .loop-test .taken in let a = at-loop .loop .inv .1 .long in let b = entry .pre .0 .unphased .in-words in omega arith
+mul-words c = omega (arith, c .before .before .before .before .before .before .before .before .before .loop-test .taken, c .before .before .before .before .before .before .before .before .before .before .before .before .before .before .before .before .pre .0 .told .few)
 
 add-n : tie.Need-add-n Inv-loop μ-loop
-add-n c = let a = c .before .before .before .before .before .before .before .before .before .before .before .loop .inv .1 .few in omega arith
-
-add-i : tie.Need-add-i Inv-loop μ-loop
-add-i c = omega arith
-
-loop-less : tie.Need-loop-less Inv-loop μ-loop
-loop-less c = omega arith
+add-n c = omega (arith, c .before .before .before .before .before .before .before .before .before .before .loop .inv .1 .few)
 
 loop-again : tie.Need-loop-again Inv-loop μ-loop
 loop-again c =
-    let at-seek = c .before .before .before in
+    let at-seek = c .before .before in
     let at-if1 = at-seek .before .before .before in
-    let at-pending = at-if1 .before in
-    let at-loop = at-pending .before .before .before .before in
-    let entry = at-loop .before .before .before .before .before .before .before .before .before in (
+    let at-loop-test = at-if1 .before .before .before .before in
+    let at-loop = at-loop-test .before in (
       omega arith,
-      passing-fell _ _ _ _ _ (entry .pre .0 .unphased) _ _ _ _ (at-loop .loop .inv .1) (omega arith) _ (at-pending .pending .ensures)
-          (at-if1 .if1 .taken) (at-seek .seek-from .ensures .0) (c .if2 .taken),
+      passing-fell _ _ _ _ _ (at-loop .before .before .before .before .before .before .pre .0 .unphased) _ _ _ _ (at-loop .loop .inv .1) (at-loop-test .loop-test .taken) _
+          (at-if1 .before .pending .ensures) (at-if1 .if1 .taken) (at-seek .seek-from .ensures .0) (c .if2 .taken),
       at-loop .loop .inv .2,
       at-seek .seek-from .ensures .1,
     )
 
 cast-scratch : tie.Need-cast-scratch Inv-loop μ-loop
 cast-scratch c =
-    let at-seek = c .before .before .before in
+    let at-seek = c .before .before in
     let at-loop = at-seek .before .before .before .before .before .before .before .before in
-    let entry = at-loop .before .before .before .before .before .before .before .before .before in
-    let w = sought-within _ _ _ _ _ (entry .pre .0 .unphased) _ _ _ _ (at-loop .loop .inv .1)
-    (at-seek .seek-from .ensures .0) in let b = entry .pre .0 .told .few in omega arith
+    let pre = at-loop .before .before .before .before .before .before .pre in
+    omega (arith, sought-within _ _ _ _ _ (pre .0 .unphased) _ _ _ _ (at-loop .loop .inv .1) (at-seek .seek-from .ensures .0), pre .0 .told .few)
 
 mul-scratch : tie.Need-mul-scratch Inv-loop μ-loop
-mul-scratch c =
-    let at-loop = c .before .before .before .before .before .before .before .before .before .before .before in
-    let entry = at-loop .before .before .before .before .before .before .before .before .before in
-    let a = at-loop .loop .inv .2 in let b = entry .pre .0 .in-scratch in omega arith
-
-slice-write-scratch : tie.Need-slice-write-scratch Inv-loop μ-loop
-slice-write-scratch c =
-    let at-loop-test = c .before .before .before .before .before .before .before .before .before .before in
-    let at-loop = at-loop-test .before in
-    let entry = at-loop .before .before .before .before .before .before .before .before .before in
-    let t = at-loop-test .loop-test .taken in let a = at-loop .loop .inv .2 in let b = entry .pre .0 .in-scratch in omega arith
-
-add-i-2 : tie.Need-add-i-2 Inv-loop μ-loop
-add-i-2 c = omega arith
-
-loop-less-2 : tie.Need-loop-less-2 Inv-loop μ-loop
-loop-less-2 c = omega arith
+mul-scratch c = omega (arith, c .before .before .before .before .before .before .before .before .before .loop-test .taken, c .before .before .before .before .before .before .before .before .before .before .before .before .before .before .before .before .pre .0 .told .few)
 
 loop-again-2 : tie.Need-loop-again-2 Inv-loop μ-loop
 loop-again-2 c =
-    let at-seek = c .before .before .before in
+    let at-seek = c .before .before in
     let at-if1 = at-seek .before .before .before in
-    let at-pending = at-if1 .before in
-    let at-loop = at-pending .before .before .before .before in
-    let entry = at-loop .before .before .before .before .before .before .before .before .before in (
+    let at-loop-test = at-if1 .before .before .before .before in
+    let at-loop = at-loop-test .before in (
       omega arith,
-      passing-moved _ _ _ _ _ (entry .pre .0 .unphased) _ _ _ _ (at-loop .loop .inv .1) (omega arith)
-          (let a = at-loop .loop .inv .2 in let b = entry .pre .0 .in-scratch in omega arith) _ (at-pending .pending .ensures) (at-if1 .if1 .taken)
-          (at-seek .seek-from .ensures .0) (c .if2 .left),
+      passing-moved _ _ _ _ _ (at-loop .before .before .before .before .before .before .pre .0 .unphased) _ _ _ _ (at-loop .loop .inv .1) (at-loop-test .loop-test .taken) (in-scratch at-loop-test) _
+          (at-if1 .before .pending .ensures) (at-if1 .if1 .taken) (at-seek .seek-from .ensures .0) (c .if2 .left),
       length-set (at-loop .loop .scratch) _ _ ∙ at-loop .loop .inv .2,
       at-seek .seek-from .ensures .1,
     )
 
-add-i-3 : tie.Need-add-i-3 Inv-loop μ-loop
-add-i-3 c = omega arith
-
-loop-less-3 : tie.Need-loop-less-3 Inv-loop μ-loop
-loop-less-3 c = omega arith
-
 loop-again-3 : tie.Need-loop-again-3 Inv-loop μ-loop
 loop-again-3 c =
-    let at-loop = c .before .before .before .before .before in
-    let entry = at-loop .before .before .before .before .before .before .before .before .before in (
+    let at-loop-test = c .before .before .before .before in
+    let at-loop = at-loop-test .before in (
       omega arith,
-      passing-past _ _ _ _ _ (entry .pre .0 .unphased) _ _ _ _ (at-loop .loop .inv .1) (omega arith) (c .before .pending .ensures)
+      passing-past _ _ _ _ _ (at-loop .before .before .before .before .before .before .pre .0 .unphased) _ _ _ _ (at-loop .loop .inv .1) (at-loop-test .loop-test .taken) (c .before .pending .ensures)
           (c .if1 .left),
       at-loop .loop .inv .2,
       at-loop .loop .inv .3,
     )
 
-same-length : tie.Need-same-length Inv-loop μ-loop
-same-length c = c .before .loop .inv .1 .long
-
-same-length-2 : tie.Need-same-length-2 Inv-loop μ-loop
-same-length-2 c = c .before .loop .inv .2
-
-same-length-3 : tie.Need-same-length-3 Inv-loop μ-loop
-same-length-3 c = c .before .loop .inv .3 ∙ sym (c .before .before .before .before .before .before .before .before .before .before .pre .1)
-
 returns : tie.Need-returns Inv-loop μ-loop
-returns c =
-    let entry = c .before .before .before .before .before .before .before .before .before .before in (
-      passing-done _ _ _ _ _ (entry .pre .0 .unphased) _ _ _ _ (c .before .loop .inv .1) (omega arith) _ (c .before .loop .inv .2),
-      c .before .loop .inv .3,
-    )
+returns c = passing-done _ _ _ _ _ (c .before .before .before .before .before .before .before .pre .0 .unphased) _ _ _ _ (c .before .loop .inv .1) (omega arith) _ (c .before .loop .inv .2)
 
 pub dead-ends-spec : {M : Type 1} → statement M
 dead-ends-spec =
@@ -176,26 +120,26 @@ dead-ends-spec =
     μ-loop
     loop-holds
     mul-lo
-    slice-read-lo
-    cast-lo
+    (λ c. in-scratch (c .before))
+    (λ c. omega (arith, c .slice-known3 .given (c .before .before .loop .i)))
     pending-requires
+    (λ c. sym (c .before .before .before .before .before .before .before .loop .inv .3))
     seek-from-requires
     mul-words
-    slice-write-words
+    (λ c. in-words (c .before .before .before .before .before .before .before .before .before))
     add-n
-    add-i
-    loop-less
+    (λ c. omega arith)
+    (λ c. omega arith)
     loop-again
     cast-scratch
     mul-scratch
-    slice-write-scratch
-    add-i-2
-    loop-less-2
+    (λ c. in-scratch (c .before .before .before .before .before .before .before .before .before))
+    (λ c. omega arith)
+    (λ c. omega arith)
     loop-again-2
-    add-i-3
-    loop-less-3
+    (λ c. omega arith)
+    (λ c. omega arith)
     loop-again-3
-    same-length
-    same-length-2
-    same-length-3
+    (λ c. c .before .loop .inv .1 .long)
+    (λ c. c .before .loop .inv .2)
     returns)

@@ -1,0 +1,166 @@
+-- Stored moves in one list: how long its parts are, what is read from them, and what a write does to each. Assumes nothing.
+use mathlib.Core.Path.{_≡_, refl, sym, ap, subst, _∙_}
+use mathlib.Core.List.{List, _++_, append-nil}
+use Prim.Native.Nat.{ℕ, _+_, _-_, _≤_, _<_}
+use native.Mathlib.Omega.{arith}
+use lib.ListN.{length, getD, set, take, drop, length-set, length-drop, length-append, drop-of-length-le}
+use lib.Seq.{
+  length-take-le,
+  take-all,
+  take-add,
+  take-take,
+  take-append-le,
+  drop-append-le,
+  drop-at,
+  take-set-le,
+  take-set-lt,
+  drop-set-lt,
+  drop-set-add,
+  getD-take,
+  getD-drop,
+}
+use Rattle.web.specs.Layout.{mostPlaces, mostCells, movesSize, startsOf, endsOf, cellsOf, startAt, endAt, cellAt, CellsOnly, RowSet, Appended}
+
+-- ---- lengths and reads
+
+pub starts-long : (moves : List ℕ) → length moves ≡ movesSize → length (startsOf moves) ≡ mostPlaces
+unfolding startsOf
+starts-long moves long = length-take-le 16384 moves (omega arith)
+
+pub ends-long : (moves : List ℕ) → length moves ≡ movesSize → length (endsOf moves) ≡ mostPlaces
+unfolding endsOf
+ends-long moves long = length-take-le 16384 (drop 16384 moves) (omega (arith, length-drop 16384 moves))
+
+pub cells-long : (moves : List ℕ) → length moves ≡ movesSize → length (cellsOf moves) ≡ mostCells
+unfolding cellsOf
+cells-long moves long = omega (arith, length-drop 32768 moves)
+
+pub start-read : (moves : List ℕ) (i : ℕ) → i < mostPlaces → getD moves i 0 ≡ startAt moves i
+unfolding startsOf
+start-read moves i h = sym (getD-take 16384 moves i 0 h)
+
+pub end-read : (moves : List ℕ) (i : ℕ) → i < mostPlaces → getD moves (16384 + i) 0 ≡ endAt moves i
+unfolding endsOf
+end-read moves i h = sym (getD-take 16384 (drop 16384 moves) i 0 h ∙ getD-drop 16384 moves i 0)
+
+pub cell-read : (moves : List ℕ) (e : ℕ) → getD moves (32768 + e) 0 ≡ cellAt moves e
+unfolding cellsOf
+cell-read moves e = sym (getD-drop 32768 moves e 0)
+
+-- ---- one number is written
+
+-- into the starts,
+starts-set : (moves : List ℕ) (i v : ℕ) → i < mostPlaces → startsOf (set moves i v) ≡ set (startsOf moves) i v
+unfolding startsOf
+starts-set moves i v h = take-set-lt 16384 moves i v h
+
+ends-kept : (moves : List ℕ) (i v : ℕ) → i < mostPlaces → endsOf (set moves i v) ≡ endsOf moves
+unfolding endsOf
+ends-kept moves i v h = ap (λ (l : List ℕ). take 16384 l) (drop-set-lt 16384 moves i v h)
+
+-- into the ends,
+ends-set : (moves : List ℕ) (i v : ℕ) → i < mostPlaces → endsOf (set moves (16384 + i) v) ≡ set (endsOf moves) i v
+unfolding endsOf
+ends-set moves i v h =
+    ap (λ (l : List ℕ). take 16384 l) (drop-set-add 16384 moves i v) ∙ take-set-lt 16384 (drop 16384 moves) i v h
+
+-- before the cells,
+cells-kept : (moves : List ℕ) (i v : ℕ) → i < 32768 → cellsOf (set moves i v) ≡ cellsOf moves
+unfolding cellsOf
+cells-kept moves i v h = drop-set-lt 32768 moves i v h
+
+-- behind the starts,
+starts-kept : (moves : List ℕ) (i v : ℕ) → 16384 ≤ i → startsOf (set moves i v) ≡ startsOf moves
+unfolding startsOf
+starts-kept moves i v h = take-set-le 16384 moves i v h
+
+-- or into the cells.
+cells-set : (moves : List ℕ) (e v : ℕ) → cellsOf (set moves (32768 + e) v) ≡ set (cellsOf moves) e v
+unfolding cellsOf
+cells-set moves e v = drop-set-add 32768 moves e v
+
+ends-under : (moves : List ℕ) (e v : ℕ) → endsOf (set moves (32768 + e) v) ≡ endsOf moves
+unfolding endsOf
+ends-under moves e v =
+    let a : 32768 + e ≡ 16384 + (16384 + e) = omega arith in
+    ap (λ (k : ℕ). take 16384 (drop 16384 (set moves k v))) a
+    ∙ ap (λ (l : List ℕ). take 16384 l) (drop-set-add 16384 moves (16384 + e) v)
+    ∙ take-set-le 16384 (drop 16384 moves) (16384 + e) v (omega arith)
+
+-- A start and an end are written.
+pub row-set : (moves : List ℕ) (i start end : ℕ) → i < mostPlaces → RowSet i start end moves (set (set moves i start) (16384 + i) end)
+row-set moves i start end h = record {
+  starts = starts-kept (set moves i start) (16384 + i) end (omega arith) ∙ starts-set moves i start h;
+  ends = ends-set (set moves i start) i end h ∙ ap (λ (l : List ℕ). set l i end) (ends-kept moves i start h);
+  cells = cells-kept (set moves i start) (16384 + i) end (omega arith) ∙ cells-kept moves i start (omega arith);
+  long = length-set (set moves i start) (16384 + i) end ∙ length-set moves i start;
+}
+
+-- The same, where the numbers are known by equations.
+pub row-set-as : (i start end first last : ℕ) (old new : List ℕ) → start ≡ first → end ≡ last → RowSet i start end old new → RowSet i first last old new
+row-set-as i start end first last old new p q w =
+    subst (λ (x : ℕ). RowSet i first x old new) q (subst (λ (x : ℕ). RowSet i x end old new) p w)
+
+-- A cell and an end are written.
+pub appended : (moves : List ℕ) (i j e : ℕ) → i < mostPlaces → e ≡ endAt moves i → Appended i j moves (set (set moves (32768 + e) j) (16384 + i) (e + 1))
+appended moves i j e h q =
+    subst (λ (x : ℕ). Appended i j moves (set (set moves (32768 + x) j) (16384 + i) (x + 1))) (sym q) (record {
+      starts = starts-kept (set moves to j) (16384 + i) (endAt moves i + 1) (omega arith) ∙ starts-kept moves to j (omega arith);
+      ends =
+          ends-set (set moves to j) i (endAt moves i + 1) h
+          ∙ ap (λ (l : List ℕ). set l i (endAt moves i + 1)) (ends-under moves (endAt moves i) j);
+      cells = cells-kept (set moves to j) (16384 + i) (endAt moves i + 1) (omega arith) ∙ cells-set moves (endAt moves i) j;
+      long = length-set (set moves to j) (16384 + i) (endAt moves i + 1) ∙ length-set moves to j;
+    })
+  where
+    to : ℕ
+    to = 32768 + endAt moves i
+
+-- ---- a part is lent
+
+-- A part that is lent and comes back as long leaves the length as it was.
+pub lent-long : (moves part : List ℕ) (from to : ℕ) → from ≤ to → to ≤ length moves → length part ≡ to - from
+    → length (take from moves ++ (part ++ drop (to - from) (drop from moves))) ≡ length moves
+lent-long moves part from to order within same =
+    length-append (take from moves) _ ∙ ap (λ (x : ℕ). length (take from moves) + x) (length-append part _)
+    ∙ omega (arith, length-take-le from moves (omega arith), length-drop (to - from) (drop from moves), length-drop from moves)
+
+-- what the list is after its cells were lent and came back as new ones
+abbrev pub cellsBack : (moves cells : List ℕ) → List ℕ
+cellsBack moves cells = take 32768 moves ++ (cells ++ drop (length moves - 32768) (drop 32768 moves))
+
+module _ (moves cells : List ℕ) (long : length moves ≡ movesSize) (same : length cells ≡ length (cellsOf moves)) where
+  head : length (take 32768 moves) ≡ 32768
+  head = length-take-le 32768 moves (omega arith)
+
+  -- The new ones are its cells now,
+  pub cells-back : cellsOf (cellsBack moves cells) ≡ cells
+  unfolding cellsOf
+  cells-back =
+      drop-at (take 32768 moves) _ 32768 head
+      ∙ ap (λ (l : List ℕ). cells ++ l) (drop-of-length-le (drop 32768 moves) {i = length moves - 32768} (omega (arith, length-drop 32768 moves)))
+      ∙ append-nil cells
+
+  middle : drop 16384 (take 32768 moves) ≡ take 16384 (drop 16384 moves)
+  middle = ap (λ (l : List ℕ). drop 16384 l) (take-add 16384 16384 moves) ∙ drop-at (take 16384 moves) _ 16384 (length-take-le 16384 moves (omega arith))
+
+  -- and nothing else has changed.
+  pub cells-only : CellsOnly moves (cellsBack moves cells)
+  unfolding startsOf endsOf cellsOf
+  cells-only = record {
+    starts = take-append-le 16384 (take 32768 moves) _ (omega (arith, head)) ∙ take-take 16384 32768 moves (omega arith);
+    ends =
+        ap (λ (l : List ℕ). take 16384 l) (drop-append-le 16384 (take 32768 moves) _ (omega (arith, head)))
+        ∙ take-append-le 16384 (drop 16384 (take 32768 moves)) _ (omega (arith, head, length-drop 16384 (take 32768 moves)))
+        ∙ ap (λ (l : List ℕ). take 16384 l) middle ∙ take-take 16384 16384 (drop 16384 moves) (omega arith);
+    long = lent-long moves cells 32768 (length moves) (omega arith) (omega arith) (let a = same in omega (arith, length-drop 32768 moves));
+  }
+
+-- The cells that are lent.
+pub cells-part : (moves : List ℕ) → length moves ≡ movesSize → take (length moves - 32768) (drop 32768 moves) ≡ cellsOf moves
+unfolding cellsOf
+cells-part moves long = take-all (length moves - 32768) (drop 32768 moves) (omega (arith, length-drop 32768 moves))
+
+-- The ends, lent as room for counts, have a number for each place.
+pub ends-part : (moves : List ℕ) → length moves ≡ movesSize → length (take 16384 (drop 16384 moves)) ≡ mostPlaces
+ends-part moves long = length-take-le 16384 (drop 16384 moves) (omega (arith, length-drop 16384 moves))

@@ -1,0 +1,30 @@
+-- `web::layout::append` meets its contract. Assumes nothing.
+use Prim.Native.Nat.{_+_}
+use borrow.Author.Needs.{needs}
+use native.Mathlib.Omega.{arith}
+use lib.ListN.{length-set}
+use Rattle.web.proofs.Layouts.{appended}
+use Rattle.web.proofs.layout.append.Statement.{statement}
+use Rattle.web.proofs.layout.append.Tie as tie
+
+slice-write-moves-2 : tie.Need-slice-write-moves-2
+slice-write-moves-2 c =
+    let entry = c .before .before .before in
+    omega (arith, length-set (entry .args .moves .now) (32768 + c .row-end .result) (entry .args .j))
+
+pub append-spec : {M : Type 1} → statement M
+append-spec =
+    tie.close
+    (tie.spec
+    (λ c κs. search needs)
+    (λ c. search needs)
+    (λ c. search needs)
+    (λ c. search needs)
+    (λ c. search needs)
+    (λ c. search needs)
+    (λ c. search needs)
+    (λ c. search needs)
+    (λ c. search needs)
+    slice-write-moves-2
+    (λ c. search needs)
+    (λ c. appended _ _ _ _ (c .before .before .before .pre .1) (c .row-end .ensures .0)))
