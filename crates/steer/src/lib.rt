@@ -473,7 +473,7 @@ fn walk_large(book: &[u32], table: &[u32], words: &mut [u32], run: &mut [u32], k
     let mut forth = [0u16; web::SIZE];
     let mut back = [0u16; web::SIZE];
     let mut queue = [0u16; web::MOST_PLACES];
-    let kept = web::store(book, table, k, &mut forth, &mut back);
+    let filled = web::store(book, table, k, &mut forth, &mut back);
     walk(
         book,
         table,
@@ -481,8 +481,8 @@ fn walk_large(book: &[u32], table: &[u32], words: &mut [u32], run: &mut [u32], k
         run,
         &mut dist,
         k,
-        &forth[..kept],
-        &back[..kept],
+        &forth[..filled],
+        &back[..filled],
         &mut queue,
     )
 }

@@ -12,17 +12,9 @@ use Rattle.meaning.specs.Strike.{SavedBy}
 use Rattle.rules.specs.Book.{bookSystem, promisesOf}
 use Rattle.distances.specs.Far.{Live, far, Place, near, never, struck, Measured}
 use Rattle.distances.specs.Layers.{Measurable}
-use Rattle.distances.proofs.Totals.{total-set}
-use Rattle.strike.specs.Phases.{free, Unphased, FarFree, Fell, Falls, was, stays, falls, Phased, Told, Points, fresh, target}
-use Rattle.strike.specs.Phases.{Pointers, Wiped, Striking, PhaseDone}
-
--- Setting an unstruck place's word takes one from the unstruck.
-pub free-set : (words : List ℕ) (i v r : ℕ) → i < r → i < length words → getD words i 0 ≡ 0 → 0 < v → suc (free (set words i v) r) ≡ free words r
-free-set words i v r h k z s =
-    let a : free (set words i v) r + (1 - getD words i 0) ≡ free words r + (1 - v) = total-set (λ x. 1 - x) words i v r h k in
-    let b : 1 - getD words i 0 ≡ 1 = ap (λ (x : ℕ). 1 - x) z in
-    let c : 1 - v ≡ 0 = omega arith in
-    omega arith
+use Rattle.deadends.specs.Phases.{free, Unphased, Falls, was, stays, falls, Phased, Told, Striking, PhaseDone}
+use Rattle.deadends.proofs.Fewer.{free-set, phased-free, pointers-fewer}
+use Rattle.strike.specs.Phases.{FarFree, Fell, Wiped}
 
 -- ---- the loop
 
@@ -101,30 +93,6 @@ module _ (S : System) (table words : List ℕ) (r k : ℕ) (before dist : List �
       by i h (near z d w l) = stays z (f .missed i h (λ e. omega arith) ∙ z) (getD dist i 0, w)
       by i h (never z d w) = falls z (f .fell i h d) (λ s. w (s .0) (s .1))
       by i h (struck n g) = was n (f .missed i h (λ e. omega arith))
-
--- ---- pointers
-
--- What is unstruck after a phase was unstruck before it.
-pub phased-free : {S : System} {table : List ℕ} {r reason v : ℕ} {old new : List ℕ} {n : ℕ} → Phased S table r reason v old new n → 0 < v
-    → (i : ℕ) → i < r → getD new i 0 ≡ 0 → getD old i 0 ≡ 0
-phased-free {S} {table} {r} {reason} {v} {old} {new} p s i h z = by (p .each i h)
-  where
-    by : Falls (SavedBy S (Live table old r) reason (getD table i 0)) v (getD old i 0) (getD new i 0) → getD old i 0 ≡ 0
-    by (was a e) = sym e ∙ z
-    by (stays a b c) = a
-    by (falls a b c) = a
-
--- A pointer stays right where fewer places are unstruck.
-pub points-fewer : (book table old new : List ℕ) (r i q : ℕ) → ((m : ℕ) → m < r → getD new m 0 ≡ 0 → getD old m 0 ≡ 0)
-    → Points book table old r i q → Points book table new r i q
-points-fewer book table old new r i q fewer (fresh e) = fresh e
-points-fewer book table old new r i q fewer (target j e h t low) = target j e h t (λ m l z. low m l (fewer m (omega arith) z))
-
--- So do all pointers.
-pub pointers-fewer : (book table old new scratch : List ℕ) (r : ℕ) → ((m : ℕ) → m < r → getD new m 0 ≡ 0 → getD old m 0 ≡ 0)
-    → Pointers book table old scratch r → Pointers book table new scratch r
-pointers-fewer book table old new scratch r fewer p i h z =
-    points-fewer book table old new r i (getD scratch i 0) fewer (p i h (fewer i h z))
 
 -- what `distances` asks
 pub told-measurable : (book table words : List ℕ) (r v k : ℕ) → Told book table r → Unphased words r v → k < promisesOf book

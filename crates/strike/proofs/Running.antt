@@ -19,7 +19,8 @@ use Rattle.rules.specs.Book.{bookSystem, promisesOf}
 use Rattle.rules.proofs.Facts.{promises-are, reached-lawful}
 use Rattle.web.specs.Web.{Storable}
 use Rattle.strike.specs.Marked.{Word, unstruck, Marked}
-use Rattle.strike.specs.Phases.{Strikable, free, fresh, Pointers, Phased, Told, Unphased, Striking, Stricken}
+use Rattle.deadends.specs.Phases.{free, fresh, Pointers, Phased, Told, Unphased, Striking}
+use Rattle.strike.specs.Phases.{Strikable, Stricken}
 use Rattle.strike.proofs.Marks.{Mark, Standing, place-reachable, marks-unphased, standing-more, standing-livable}
 
 -- ---- phase numbers: phase round * (p + 1) + reason

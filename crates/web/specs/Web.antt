@@ -54,6 +54,6 @@ abbrev pub Turned : (r : ℕ) (forth back : List ℕ) (b : Bool) → Type 0
 Turned r forth back b = b ≡ true → (book table : List ℕ) → RowsIn (To book table) r forth → Back book table r back
 
 -- what storing tells: so many numbers of both lists hold the moves forth and the moves back; none where there was no room
-pub data Kept (book table : List ℕ) (r : ℕ) (forth back : List ℕ) (n : ℕ) : Type 0 where
-  none : n ≡ 0 → Kept book table r forth back n
-  both : n ≡ movesSize → Forth book table r forth → Back book table r back → Kept book table r forth back n
+pub data StoredRows (book table : List ℕ) (r : ℕ) (forth back : List ℕ) (n : ℕ) : Type 0 where
+  none : n ≡ 0 → StoredRows book table r forth back n
+  both : n ≡ movesSize → Forth book table r forth → Back book table r back → StoredRows book table r forth back n

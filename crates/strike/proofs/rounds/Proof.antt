@@ -5,7 +5,7 @@ use Prim.Native.Nat.{suc, _+_, _-_, _*_, _<_, _≤_}
 use native.Mathlib.Omega.{arith}
 use lib.ListN.{length}
 use Rattle.rules.specs.Book.{promisesOf}
-use Rattle.strike.specs.Phases.{Pointers}
+use Rattle.deadends.specs.Phases.{Pointers}
 use Rattle.strike.proofs.Running.{
   Running,
   running-none,

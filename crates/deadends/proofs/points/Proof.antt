@@ -1,9 +1,9 @@
--- `strike::points` meets its contract. Assumes nothing.
+-- `deadends::points` meets its contract. Assumes nothing.
 use native.Mathlib.Omega.{arith}
 use borrow.Author.Needs.{needs}
-use Rattle.strike.proofs.Answers.{says-no, says-same}
-use Rattle.strike.proofs.points.Statement.{statement}
-use Rattle.strike.proofs.points.Tie as tie
+use Rattle.deadends.proofs.Answers.{says-no, says-same}
+use Rattle.deadends.proofs.points.Statement.{statement}
+use Rattle.deadends.proofs.points.Tie as tie
 
 returns : tie.Need-returns
 returns c = says-no (λ p. let a = p .0 in let e = c .if1 .taken in omega arith)

@@ -1,8 +1,8 @@
--- `strike::seek_from` meets its contract. Along the row or along all places the same is found. Assumes nothing.
+-- `deadends::seek_from` meets its contract. Along the row or along all places the same is found. Assumes nothing.
 use borrow.Author.Needs.{needs}
-use Rattle.strike.proofs.Rows.{forth-readable}
-use Rattle.strike.proofs.seek_from.Statement.{statement}
-use Rattle.strike.proofs.seek_from.Tie as tie
+use Rattle.deadends.proofs.Rows.{forth-readable}
+use Rattle.deadends.proofs.seek_from.Statement.{statement}
+use Rattle.deadends.proofs.seek_from.Tie as tie
 
 seek-requires : tie.Need-seek-requires
 seek-requires c κs =

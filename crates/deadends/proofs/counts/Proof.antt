@@ -1,8 +1,8 @@
--- `strike::counts` meets its contract. Assumes nothing.
+-- `deadends::counts` meets its contract. Assumes nothing.
 use mathlib.Core.Logic.{inl}
-use Rattle.strike.proofs.Answers.{says-yes, counts-equal}
-use Rattle.strike.proofs.counts.Statement.{statement}
-use Rattle.strike.proofs.counts.Tie as tie
+use Rattle.deadends.proofs.Answers.{says-yes, counts-equal}
+use Rattle.deadends.proofs.counts.Statement.{statement}
+use Rattle.deadends.proofs.counts.Tie as tie
 
 returns : tie.Need-returns
 returns c = says-yes (inl (c .if1 .taken))

@@ -14,7 +14,7 @@ use Rattle.rules.specs.Book.{bookSystem}
 use Rattle.rules.proofs.Facts.{passes}
 use Rattle.web.specs.Web.{To}
 use Rattle.distances.specs.Far.{Live}
-use Rattle.strike.specs.Phases.{
+use Rattle.deadends.specs.Phases.{
   free,
   Counts,
   Points,
@@ -37,7 +37,7 @@ use Rattle.strike.specs.Phases.{
   PhaseDone,
   Unphased,
 }
-use Rattle.strike.proofs.Fallen.{free-set, points-fewer, phased-free}
+use Rattle.deadends.proofs.Fewer.{free-set, points-fewer, phased-free}
 
 module _ (book table : List ℕ) (r v : ℕ) (old : List ℕ) where
   -- reason 0 saves place i

@@ -1,10 +1,10 @@
--- `strike::seek_row` meets its contract. The loop's invariant: no cell of the row before e will do. Assumes nothing.
+-- `deadends::seek_row` meets its contract. The loop's invariant: no cell of the row before e will do. Assumes nothing.
 use Prim.Native.Nat.{_-_, _<_}
 use native.Mathlib.Omega.{arith}
 use Rattle.web.specs.Layout.{endAt}
-use Rattle.strike.proofs.Rows.{RowPassed, row-passed-none, row-passed-more, row-found, row-none}
-use Rattle.strike.proofs.seek_row.Statement.{statement}
-use Rattle.strike.proofs.seek_row.Tie as tie
+use Rattle.deadends.proofs.Rows.{RowPassed, row-passed-none, row-passed-more, row-found, row-none}
+use Rattle.deadends.proofs.seek_row.Statement.{statement}
+use Rattle.deadends.proofs.seek_row.Tie as tie
 
 abbrev Inv-loop : tie.InvT-loop
 Inv-loop words i word lo forth end e₀ e = RowPassed i word lo words forth e

@@ -1,9 +1,9 @@
--- `strike::goes` meets its contract. Assumes nothing.
+-- `deadends::goes` meets its contract. Assumes nothing.
 use mathlib.Core.Path.{_∙_, sym}
 use borrow.Author.Needs.{needs}
-use Rattle.strike.proofs.Answers.{says-no, says-is}
-use Rattle.strike.proofs.goes.Statement.{statement}
-use Rattle.strike.proofs.goes.Tie as tie
+use Rattle.deadends.proofs.Answers.{says-no, says-is}
+use Rattle.deadends.proofs.goes.Statement.{statement}
+use Rattle.deadends.proofs.goes.Tie as tie
 
 counts-requires : tie.Need-counts-requires
 counts-requires c κs = search needs

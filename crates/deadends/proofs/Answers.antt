@@ -12,7 +12,7 @@ use borrow.Author.Tests.{eqb-true, eqb-false}
 use lib.ListN.{getD}
 use Rattle.rules.specs.Book.{NextClauses, bookLawful, bookSystem, clausesOk}
 use Rattle.rules.proofs.Facts.{passes, move-steps, steps-move}
-use Rattle.strike.specs.Phases.{Says, Counts, Sought, none, found, Told}
+use Rattle.deadends.specs.Phases.{Says, Counts, Sought, none, found, Told}
 
 -- A test that holds may say yes, and one that does not may say no.
 pub says-yes : {P : Type 0} → P → Says P true

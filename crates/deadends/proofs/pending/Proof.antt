@@ -1,9 +1,9 @@
--- `strike::pending` meets its contract. Assumes nothing.
+-- `deadends::pending` meets its contract. Assumes nothing.
 use mathlib.Core.Path.{refl}
 use native.Mathlib.Omega.{arith}
-use Rattle.strike.specs.Phases.{hit, settled, open-yet}
-use Rattle.strike.proofs.pending.Statement.{statement}
-use Rattle.strike.proofs.pending.Tie as tie
+use Rattle.deadends.specs.Phases.{hit, settled, open-yet}
+use Rattle.deadends.proofs.pending.Statement.{statement}
+use Rattle.deadends.proofs.pending.Tie as tie
 
 mul-if1 : tie.Need-mul-if1
 mul-if1 c = omega arith

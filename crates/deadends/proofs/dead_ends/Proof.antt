@@ -1,10 +1,10 @@
--- `strike::dead_ends` meets its contract. The loop's invariant: the first i places are judged, and the pointers are right. Assumes nothing.
+-- `deadends::dead_ends` meets its contract. The loop's invariant: the first i places are judged, and the pointers are right. Assumes nothing.
 use mathlib.Core.Path.{_≡_, _∙_, sym, refl}
 use Prim.Native.Nat.{_-_, _≤_, _<_}
 use native.Mathlib.Omega.{arith}
 use lib.ListN.{length, length-set}
 use Rattle.rules.specs.Book.{gatherSize}
-use Rattle.strike.proofs.Passes.{
+use Rattle.deadends.proofs.Passes.{
   Passing,
   passing-none,
   passing-past,
@@ -14,8 +14,8 @@ use Rattle.strike.proofs.Passes.{
   sought-within,
   passing-done,
 }
-use Rattle.strike.proofs.dead_ends.Statement.{statement}
-use Rattle.strike.proofs.dead_ends.Tie as tie
+use Rattle.deadends.proofs.dead_ends.Statement.{statement}
+use Rattle.deadends.proofs.dead_ends.Tie as tie
 
 abbrev Inv-loop : tie.InvT-loop
 Inv-loop book table words₀ scratch₀ r word forth clauses₀ n₀ i₀ words scratch clauses n i =

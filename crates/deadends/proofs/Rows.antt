@@ -9,8 +9,8 @@ use lib.ListN.{length, getD}
 use Rattle.web.specs.Layout.{mostPlaces, startAt, endAt, cellAt}
 use Rattle.web.specs.Web.{To, Forth}
 use Rattle.web.proofs.Both.{rows-has}
-use Rattle.strike.specs.Phases.{Counts, none, found}
-use Rattle.strike.specs.Stored.{Readable, SoughtInRow}
+use Rattle.deadends.specs.Phases.{Counts, none, found}
+use Rattle.deadends.specs.Onward.{Readable, SoughtInRow}
 
 -- place j is `lo` or above and counts; so does the place in cell e
 abbrev pub Stands : (v lo : ℕ) (words : List ℕ) (j : ℕ) → Type 0

@@ -1,9 +1,9 @@
--- `strike::stands` meets its contract. Assumes nothing.
+-- `deadends::stands` meets its contract. Assumes nothing.
 use borrow.Author.Needs.{needs}
 use native.Mathlib.Omega.{arith}
-use Rattle.strike.proofs.Answers.{says-no, says-same}
-use Rattle.strike.proofs.stands.Statement.{statement}
-use Rattle.strike.proofs.stands.Tie as tie
+use Rattle.deadends.proofs.Answers.{says-no, says-same}
+use Rattle.deadends.proofs.stands.Statement.{statement}
+use Rattle.deadends.proofs.stands.Tie as tie
 
 returns : tie.Need-returns
 returns c = says-no (λ p. let a = p .0 in omega arith)

@@ -1,10 +1,10 @@
--- `strike::seek` meets its contract. The loop's invariant: no place from `lo` on and below j will do. Assumes nothing.
+-- `deadends::seek` meets its contract. The loop's invariant: no place from `lo` on and below j will do. Assumes nothing.
 use mathlib.Core.Path.{_∙_, sym}
 use Prim.Native.Nat.{_-_}
 use native.Mathlib.Omega.{arith}
-use Rattle.strike.proofs.Answers.{Passed, passed-none, passed-more, sought-found, sought-none}
-use Rattle.strike.proofs.seek.Statement.{statement}
-use Rattle.strike.proofs.seek.Tie as tie
+use Rattle.deadends.proofs.Answers.{Passed, passed-none, passed-more, sought-found, sought-none}
+use Rattle.deadends.proofs.seek.Statement.{statement}
+use Rattle.deadends.proofs.seek.Tie as tie
 
 abbrev Inv-loop : tie.InvT-loop
 Inv-loop book s table words r word lo clauses count j₀ j = Passed book table words word r s lo j

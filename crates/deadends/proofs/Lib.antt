@@ -1,0 +1,4 @@
+pub mod Fewer
+pub mod Answers
+pub mod Rows
+pub mod Passes
