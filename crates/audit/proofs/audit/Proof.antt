@@ -12,28 +12,13 @@ use Rattle.audit.proofs.audit_good.Reads as audit-good-reads
 use Rattle.reader.proofs.number.Reads as number-reads
 use Rattle.reader.proofs.read.Reads as read-reads
 
-read-requires : tie.Need-read-requires
-read-requires c κs = search needs
-
 enum-told : tie.Need-enum-told
 enum-told c = search needs
-
-audit-good-requires : tie.Need-audit-good-requires
-audit-good-requires c κs = told _ (c .before .before .read .ensures) (c .enum-told .given .1)
-
-enum-known-f : tie.Need-enum-known-f
-enum-known-f c = search needs
 
 cast-place : tie.Need-cast-place
 cast-place c =
     let bad = told _ (c .before .before .before .before .read .ensures) (c .before .before .f .given .1) in
     omega (arith, bad .small)
-
-number-requires : tie.Need-number-requires
-number-requires c κs = search needs
-
-returns : tie.Need-returns
-returns c = search needs
 
 returns-2 : tie.Need-returns-2
 returns-2 c =
@@ -44,11 +29,11 @@ pub audit-spec : {M : Type 1} → statement M
 audit-spec =
     tie.close
     (tie.spec
-    read-requires
+    (λ c κs. search needs)
     enum-told
-    audit-good-requires
-    enum-known-f
+    (λ c κs. told _ (c .before .before .read .ensures) (c .enum-told .given .1))
+    (λ c. search needs)
     cast-place
-    number-requires
-    returns
+    (λ c κs. search needs)
+    (λ c. search needs)
     returns-2)

@@ -12,21 +12,6 @@ use Rattle.audit.proofs.carry.carry.Reads as carry-reads
 use Rattle.audit.proofs.past.Reads as past-reads
 use Rattle.rules.proofs.compile.Reads as compile-reads
 
-past-requires : tie.Need-past-requires
-past-requires c κs = search needs
-
-returns : tie.Need-returns
-returns c = past (c .before .before .before .before .pre) (c .before .past .ensures .0 (c .if1 .taken)) refl refl refl
-
-slice-aggregate-compile : tie.Need-slice-aggregate-compile
-slice-aggregate-compile c = search needs
-
-compile-requires : tie.Need-compile-requires
-compile-requires c κs = search needs
-
-slice-aggregate-carry : tie.Need-slice-aggregate-carry
-slice-aggregate-carry c = search needs
-
 carry-requires : tie.Need-carry-requires
 carry-requires c κs =
     (c .before .before .compile .ensures .shaped, carriable _ _ (c .before .before .before .before .before .past .ensures .1 (c .before .before .before .before .if1 .left)))
@@ -41,10 +26,10 @@ pub audit-good-spec : {M : Type 1} → statement M
 audit-good-spec =
     tie.close
     (tie.spec
-    past-requires
-    returns
-    slice-aggregate-compile
-    compile-requires
-    slice-aggregate-carry
+    (λ c κs. search needs)
+    (λ c. past (c .before .before .before .before .pre) (c .before .past .ensures .0 (c .if1 .taken)) refl refl refl)
+    (λ c. search needs)
+    (λ c κs. search needs)
+    (λ c. search needs)
     carry-requires
     returns-2)

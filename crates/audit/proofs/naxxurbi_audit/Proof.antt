@@ -10,21 +10,17 @@ use Rattle.audit.proofs.numbers.account_of.Reads as account-of-reads
 use Rattle.audit.proofs.numbers.numbers_of.Reads as numbers-of-reads
 
 -- src/lib.rt:144:9
-account-of-requires : tie.Need-account-of-requires
-account-of-requires c κs = search needs
-
 -- src/lib.rt:145:9
-audit-requires : tie.Need-audit-requires
-audit-requires c κs = search needs
-
 -- src/lib.rt:147:16
-numbers-of-requires : tie.Need-numbers-of-requires
-numbers-of-requires c κs = search needs
-
 -- src/lib.rt:140:1
 returns : tie.Need-returns
 returns c = audited-out (c .before .before .before .account-of .ensures) (c .before .before .audit .ensures) (c .numbers-of .ensures)
 
 pub naxxurbi-audit-spec : {M : Type 1} → statement M
 naxxurbi-audit-spec =
-    tie.close (tie.spec account-of-requires audit-requires numbers-of-requires returns)
+    tie.close
+    (tie.spec
+    (λ c κs. search needs)
+    (λ c κs. search needs)
+    (λ c κs. search needs)
+    returns)

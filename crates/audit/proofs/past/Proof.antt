@@ -11,21 +11,6 @@ use Rattle.audit.proofs.past.Lts as lts
 use Rattle.audit.proofs.count_past.Reads as count-past-reads
 use Rattle.audit.proofs.some_past.Reads as some-past-reads
 
-count-past-requires : tie.Need-count-past-requires
-count-past-requires c κs = search needs
-
-returns : tie.Need-returns
-returns c = (λ _. inl (c .before .count-past .ensures .0 (c .if1 .taken)), λ e. true-not-false e)
-
-some-past-requires : tie.Need-some-past-requires
-some-past-requires c κs = search needs
-
-returns-2 : tie.Need-returns-2
-returns-2 c = (λ _. inr (inl (c .before .some-past .ensures .0 (c .if2 .taken))), λ e. true-not-false e)
-
-some-past-requires-2 : tie.Need-some-past-requires-2
-some-past-requires-2 c κs = search needs
-
 returns-3 : tie.Need-returns-3
 returns-3 c =
     let kept = c .before .before .before .before in
@@ -37,9 +22,9 @@ pub past-spec : {M : Type 1} → statement M
 past-spec =
     tie.close
     (tie.spec
-    count-past-requires
-    returns
-    some-past-requires
-    returns-2
-    some-past-requires-2
+    (λ c κs. search needs)
+    (λ c. (λ _. inl (c .before .count-past .ensures .0 (c .if1 .taken)), λ e. true-not-false e))
+    (λ c κs. search needs)
+    (λ c. (λ _. inr (inl (c .before .some-past .ensures .0 (c .if2 .taken))), λ e. true-not-false e))
+    (λ c κs. search needs)
     returns-3)

@@ -6,9 +6,6 @@ use Rattle.choice.proofs.Writes.{rule-left-out, rule-written}
 use Rattle.choice.proofs.write_rule.Statement.{statement}
 use Rattle.choice.proofs.write_rule.Tie as tie
 
-returns : tie.Need-returns
-returns c = rule-left-out _ _ (c .if1 .taken) (c .before .next .ensures)
-
 sub-rule : tie.Need-sub-rule
 unfolding nextAt
 sub-rule c = omega (arith, c .before .next .ensures)
@@ -27,7 +24,7 @@ write-rule-spec =
     tie.close
     (tie.spec
     (λ c κs. search needs)
-    returns
+    (λ c. rule-left-out _ _ (c .if1 .taken) (c .before .next .ensures))
     sub-rule
     part-rule-start
     (λ c. search needs)

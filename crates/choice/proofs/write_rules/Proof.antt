@@ -14,22 +14,10 @@ Inv-loop sheet marks buffer₀ count at p₀ most i₀ buffer p i =
 abbrev μ-loop : tie.MeasureT-loop
 μ-loop sheet marks buffer₀ count at p₀ most i₀ buffer p i = count - i
 
-loop-holds : tie.Need-loop-holds Inv-loop μ-loop
-loop-holds c = (omega arith, added-none (c .before .args .sheet .now) (c .before .args .marks .now) _ _)
-
-element-copy-out-write-rule : tie.Need-element-copy-out-write-rule Inv-loop μ-loop
-element-copy-out-write-rule c = omega arith
-
 write-rule-requires : tie.Need-write-rule-requires Inv-loop μ-loop
 write-rule-requires c κs =
     let turn = c .before .before .before in
     rule-asked _ _ _ _ _ (turn .before .before .pre) (c .before .before .loop-test .taken) (omega arith) (turn .loop .inv .1)
-
-add-i : tie.Need-add-i Inv-loop μ-loop
-add-i c = omega arith
-
-loop-less : tie.Need-loop-less Inv-loop μ-loop
-loop-less c = omega arith
 
 loop-again : tie.Need-loop-again Inv-loop μ-loop
 loop-again c =
@@ -48,10 +36,10 @@ write-rules-spec =
     (tie.spec
     Inv-loop
     μ-loop
-    loop-holds
-    element-copy-out-write-rule
+    (λ c. (omega arith, added-none (c .before .args .sheet .now) (c .before .args .marks .now) _ _))
+    (λ c. omega arith)
     write-rule-requires
-    add-i
-    loop-less
+    (λ c. omega arith)
+    (λ c. omega arith)
     loop-again
     returns)

@@ -12,31 +12,10 @@ shared-slice-read-count c =
     let start = c .before .before .before .before .before .before in
     has-count (start .args .sheet .now) (start .pre)
 
-cast-count : tie.Need-cast-count
-cast-count c = omega (arith, c .shared-slice-known3 .given 6)
-
-is-proposal-requires : tie.Need-is-proposal-requires
-is-proposal-requires c κs = search needs
-
 mark-requires : tie.Need-mark-requires
 mark-requires c κs =
     let tested = c .before in
     proposal-wider (omega (arith, tested .before .shared-slice-known3 .given 6)) (tested .is-proposal .ensures .yes (c .if1 .taken))
-
-weigh-requires : tie.Need-weigh-requires
-weigh-requires c κs = search needs
-
-clear-requires : tie.Need-clear-requires
-clear-requires c κs = search needs
-
-same-length : tie.Need-same-length
-same-length c = search needs
-
-same-length-2 : tie.Need-same-length-2
-same-length-2 c = search needs
-
-same-length-3 : tie.Need-same-length-3
-same-length-3 c = search needs
 
 returns : tie.Need-returns
 returns c =
@@ -60,13 +39,13 @@ check-good-spec =
     tie.close
     (tie.spec
     shared-slice-read-count
-    cast-count
-    is-proposal-requires
+    (λ c. omega (arith, c .shared-slice-known3 .given 6))
+    (λ c κs. search needs)
     mark-requires
-    weigh-requires
-    clear-requires
-    same-length
-    same-length-2
-    same-length-3
+    (λ c κs. search needs)
+    (λ c κs. search needs)
+    (λ c. search needs)
+    (λ c. search needs)
+    (λ c. search needs)
     returns
     returns-2)

@@ -7,9 +7,6 @@ use borrow.Author.Needs.{needs}
 use Rattle.clash.proofs.clash.Statement.{statement}
 use Rattle.clash.proofs.clash.Tie as tie
 
-read-requires : tie.Need-read-requires
-read-requires c κs = search needs
-
 enum-told : tie.Need-enum-told
 enum-told c = search needs
 
@@ -20,12 +17,6 @@ plan-good-requires c κs =
     let start = read .before .before .before .before .before in
     told (start .args .sheet .now) (read .read .ensures) (known .enum-told .given .1)
 
-enum-known-f : tie.Need-enum-known-f
-enum-known-f c = search needs
-
-number-requires : tie.Need-number-requires
-number-requires c κs = search needs
-
 cast-place : tie.Need-cast-place
 cast-place c =
     let fault = c .before .before .before in
@@ -33,18 +24,6 @@ cast-place c =
     let start = read .before .before .before .before .before in
     let bad = told (start .args .sheet .now) (read .read .ensures) (fault .f .given .1) in
     omega (arith, bad .small)
-
-same-length : tie.Need-same-length
-same-length c = search needs
-
-same-length-2 : tie.Need-same-length-2
-same-length-2 c = search needs
-
-same-length-3 : tie.Need-same-length-3
-same-length-3 c = search needs
-
-returns : tie.Need-returns
-returns c = search needs
 
 returns-2 : tie.Need-returns-2
 returns-2 c =
@@ -60,14 +39,14 @@ pub clash-spec : {M : Type 1} → statement M
 clash-spec =
     tie.close
     (tie.spec
-    read-requires
+    (λ c κs. search needs)
     enum-told
     plan-good-requires
-    enum-known-f
-    number-requires
+    (λ c. search needs)
+    (λ c κs. search needs)
     cast-place
-    same-length
-    same-length-2
-    same-length-3
-    returns
+    (λ c. search needs)
+    (λ c. search needs)
+    (λ c. search needs)
+    (λ c. search needs)
     returns-2)

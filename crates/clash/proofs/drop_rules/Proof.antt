@@ -13,12 +13,6 @@ Inv-loop sheet marks₀ count table₀ words₀ scratch₀ i₀ marks table word
 abbrev μ-loop : tie.MeasureT-loop
 μ-loop sheet marks₀ count table₀ words₀ scratch₀ i₀ marks table words scratch i = i
 
-loop-holds : tie.Need-loop-holds Inv-loop μ-loop
-loop-holds c = drop-start
-
-sub-i : tie.Need-sub-i Inv-loop μ-loop
-sub-i c = omega arith
-
 left-out-requires : tie.Need-left-out-requires Inv-loop μ-loop
 left-out-requires c κs =
     let head = c .before .before .before .before .before in
@@ -53,17 +47,11 @@ element-write-marks c =
     let head = c .before .before .before .before .before .before .before .before .before .before .before .before .before .before in
     omega (arith, head .loop .inv .left .inside)
 
-loop-less : tie.Need-loop-less Inv-loop μ-loop
-loop-less c = omega arith
-
 loop-again : tie.Need-loop-again Inv-loop μ-loop
 loop-again c =
     let tried = c .before .before .before .before .before .before .before .before in
     let head = tried .before .before .before .before .before .before in
     drop-13 (head .loop .inv) (omega arith) (tried .left-out .ensures) (omega arith)
-
-loop-less-2 : tie.Need-loop-less-2 Inv-loop μ-loop
-loop-less-2 c = omega arith
 
 loop-again-2 : tie.Need-loop-again-2 Inv-loop μ-loop
 loop-again-2 c =
@@ -72,37 +60,25 @@ loop-again-2 c =
     let start = head .before .before .before .before .before in
     drop-12 (start .pre .0) (head .loop .inv) (omega arith) (tried .left-out .ensures) (λ e. omega arith) (λ e. omega arith)
 
-same-length-4 : tie.Need-same-length-4 Inv-loop μ-loop
-same-length-4 c = c .before .loop .inv .lengths .table
-
-same-length-5 : tie.Need-same-length-5 Inv-loop μ-loop
-same-length-5 c = c .before .loop .inv .lengths .words
-
-same-length-6 : tie.Need-same-length-6 Inv-loop μ-loop
-same-length-6 c = c .before .loop .inv .lengths .scratch
-
-returns-2 : tie.Need-returns-2 Inv-loop μ-loop
-returns-2 c = drop-all (c .before .loop .inv) (omega arith)
-
 pub drop-rules-spec : {M : Type 1} → statement M
 drop-rules-spec =
     tie.close
     (tie.spec
     Inv-loop
     μ-loop
-    loop-holds
-    sub-i
+    (λ c. drop-start)
+    (λ c. omega arith)
     left-out-requires
     same-length
     same-length-2
     same-length-3
     returns
     element-write-marks
-    loop-less
+    (λ c. omega arith)
     loop-again
-    loop-less-2
+    (λ c. omega arith)
     loop-again-2
-    same-length-4
-    same-length-5
-    same-length-6
-    returns-2)
+    (λ c. c .before .loop .inv .lengths .table)
+    (λ c. c .before .loop .inv .lengths .words)
+    (λ c. c .before .loop .inv .lengths .scratch)
+    (λ c. drop-all (c .before .loop .inv) (omega arith)))

@@ -14,15 +14,6 @@ Inv-loop sheet marks₀ table₀ words₀ scratch₀ worst₀ next₀ marks tabl
 abbrev μ-loop : tie.MeasureT-loop
 μ-loop sheet marks₀ table₀ words₀ scratch₀ worst₀ next₀ marks table words scratch worst next = 255 - next
 
-loop-holds : tie.Need-loop-holds Inv-loop μ-loop
-loop-holds c = each-start
-
-add-next : tie.Need-add-next Inv-loop μ-loop
-add-next c = omega arith
-
-element-copy-out-if1 : tie.Need-element-copy-out-if1 Inv-loop μ-loop
-element-copy-out-if1 c = omega arith
-
 left-out-requires : tie.Need-left-out-requires Inv-loop μ-loop
 left-out-requires c κs =
     let head = c .before .before .before .before .before .before .before in
@@ -52,17 +43,11 @@ returns c =
     let head = tried .before .before .before .before .before .before .before .before in
     each-11 (head .loop .inv) (λ e. omega arith) (tried .left-out .ensures) (omega arith)
 
-loop-less : tie.Need-loop-less Inv-loop μ-loop
-loop-less c = omega arith
-
 loop-again : tie.Need-loop-again Inv-loop μ-loop
 loop-again c =
     let tried = c .before .before .before .before .before .before .before .before in
     let head = tried .before .before .before .before .before .before .before .before in
     each-13 (head .loop .inv) (omega arith) (λ e. omega arith) (tried .left-out .ensures) (omega arith)
-
-loop-less-2 : tie.Need-loop-less-2 Inv-loop μ-loop
-loop-less-2 c = omega arith
 
 loop-again-2 : tie.Need-loop-again-2 Inv-loop μ-loop
 loop-again-2 c =
@@ -71,45 +56,27 @@ loop-again-2 c =
     let start = head .before .before .before .before .before in
     each-12 (start .pre .0) (head .loop .inv) (omega arith) (tried .left-out .ensures) (λ e. omega arith) (λ e. omega arith)
 
-loop-less-3 : tie.Need-loop-less-3 Inv-loop μ-loop
-loop-less-3 c = omega arith
-
-loop-again-3 : tie.Need-loop-again-3 Inv-loop μ-loop
-loop-again-3 c = each-unchosen (c .before .before .before .loop .inv) (omega arith) (omega arith)
-
-same-length-4 : tie.Need-same-length-4 Inv-loop μ-loop
-same-length-4 c = c .before .loop .inv .lengths .table
-
-same-length-5 : tie.Need-same-length-5 Inv-loop μ-loop
-same-length-5 c = c .before .loop .inv .lengths .words
-
-same-length-6 : tie.Need-same-length-6 Inv-loop μ-loop
-same-length-6 c = c .before .loop .inv .lengths .scratch
-
-returns-2 : tie.Need-returns-2 Inv-loop μ-loop
-returns-2 c = each-all (c .before .loop .inv) (c .before .before .before .before .before .before .pre .1) (omega arith)
-
 pub each-left-out-spec : {M : Type 1} → statement M
 each-left-out-spec =
     tie.close
     (tie.spec
     Inv-loop
     μ-loop
-    loop-holds
-    add-next
-    element-copy-out-if1
+    (λ c. each-start)
+    (λ c. omega arith)
+    (λ c. omega arith)
     left-out-requires
     same-length
     same-length-2
     same-length-3
     returns
-    loop-less
+    (λ c. omega arith)
     loop-again
-    loop-less-2
+    (λ c. omega arith)
     loop-again-2
-    loop-less-3
-    loop-again-3
-    same-length-4
-    same-length-5
-    same-length-6
-    returns-2)
+    (λ c. omega arith)
+    (λ c. each-unchosen (c .before .before .before .loop .inv) (omega arith) (omega arith))
+    (λ c. c .before .loop .inv .lengths .table)
+    (λ c. c .before .loop .inv .lengths .words)
+    (λ c. c .before .loop .inv .lengths .scratch)
+    (λ c. each-all (c .before .loop .inv) (c .before .before .before .before .before .before .pre .1) (omega arith)))

@@ -12,15 +12,6 @@ Inv-loop rules count above₀ i₀ above i = ProposedUpTo count rules i above
 abbrev μ-loop : tie.MeasureT-loop
 μ-loop rules count above₀ i₀ above i = length rules - i
 
-loop-holds : tie.Need-loop-holds Inv-loop μ-loop
-loop-holds c = proposed-none (c .args .count) (c .args .rules .now)
-
-mul-number : tie.Need-mul-number Inv-loop μ-loop
-mul-number c = omega arith
-
-shared-slice-read-number : tie.Need-shared-slice-read-number Inv-loop μ-loop
-shared-slice-read-number c = omega arith
-
 returns : tie.Need-returns Inv-loop μ-loop
 returns c =
     let l = c .before .before .before .loop in
@@ -30,12 +21,6 @@ returns-2 : tie.Need-returns-2 Inv-loop μ-loop
 returns-2 c =
     let l = c .before .before .before .before .loop in
     proposed-past {i = l .i} (omega arith) (omega arith)
-
-add-i : tie.Need-add-i Inv-loop μ-loop
-add-i c = omega arith
-
-loop-less : tie.Need-loop-less Inv-loop μ-loop
-loop-less c = omega arith
 
 loop-again : tie.Need-loop-again Inv-loop μ-loop
 loop-again c =
@@ -53,12 +38,12 @@ is-proposal-spec =
     (tie.spec
     Inv-loop
     μ-loop
-    loop-holds
-    mul-number
-    shared-slice-read-number
+    (λ c. proposed-none (c .args .count) (c .args .rules .now))
+    (λ c. omega arith)
+    (λ c. omega arith)
     returns
     returns-2
-    add-i
-    loop-less
+    (λ c. omega arith)
+    (λ c. omega arith)
     loop-again
     returns-3)

@@ -4,27 +4,6 @@ use Rattle.clash.proofs.Marks.{put-back}
 use Rattle.clash.proofs.left_out.Statement.{statement}
 use Rattle.clash.proofs.left_out.Tie as tie
 
-element-copy-out-mark : tie.Need-element-copy-out-mark
-element-copy-out-mark c = search needs
-
-element-write-marks : tie.Need-element-write-marks
-element-write-marks c = search needs
-
-trial-requires : tie.Need-trial-requires
-trial-requires c κs = search needs
-
-element-write-marks-2 : tie.Need-element-write-marks-2
-element-write-marks-2 c = search needs
-
-same-length : tie.Need-same-length
-same-length c = search needs
-
-same-length-2 : tie.Need-same-length-2
-same-length-2 c = search needs
-
-same-length-3 : tie.Need-same-length-3
-same-length-3 c = search needs
-
 returns : tie.Need-returns
 returns c =
     let tried = c .before .before .before .before .before .before in
@@ -35,11 +14,11 @@ pub left-out-spec : {M : Type 1} → statement M
 left-out-spec =
     tie.close
     (tie.spec
-    element-copy-out-mark
-    element-write-marks
-    trial-requires
-    element-write-marks-2
-    same-length
-    same-length-2
-    same-length-3
+    (λ c. search needs)
+    (λ c. search needs)
+    (λ c κs. search needs)
+    (λ c. search needs)
+    (λ c. search needs)
+    (λ c. search needs)
+    (λ c. search needs)
     returns)

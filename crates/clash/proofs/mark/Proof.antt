@@ -15,18 +15,6 @@ Inv-loop rules marks₀ i₀ marks i = (i ≤ length rules) × (marks ≡ marksO
 abbrev μ-loop : tie.MeasureT-loop
 μ-loop rules marks₀ i₀ marks i = i
 
-loop-holds : tie.Need-loop-holds Inv-loop μ-loop
-loop-holds c = (omega arith, marks-none (c .args .rules .now))
-
-sub-i : tie.Need-sub-i Inv-loop μ-loop
-sub-i c = omega arith
-
-mul-number : tie.Need-mul-number Inv-loop μ-loop
-mul-number c = omega arith
-
-shared-slice-read-number : tie.Need-shared-slice-read-number Inv-loop μ-loop
-shared-slice-read-number c = omega arith
-
 cast-number : tie.Need-cast-number Inv-loop μ-loop
 cast-number c =
     let l = c .before .before .loop in
@@ -44,9 +32,6 @@ array-write-marks c =
     let l = c .before .before .loop in
     let start = c .before .before .before in
     omega (arith, start .pre .most (l .i - 1) (omega arith), start .pre .least (l .i - 1) (omega arith))
-
-loop-less : tie.Need-loop-less Inv-loop μ-loop
-loop-less c = omega arith
 
 loop-again : tie.Need-loop-again Inv-loop μ-loop
 loop-again c =
@@ -66,13 +51,13 @@ mark-spec =
     (tie.spec
     Inv-loop
     μ-loop
-    loop-holds
-    sub-i
-    mul-number
-    shared-slice-read-number
+    (λ c. (omega arith, marks-none (c .args .rules .now)))
+    (λ c. omega arith)
+    (λ c. omega arith)
+    (λ c. omega arith)
     cast-number
     sub-marks
     array-write-marks
-    loop-less
+    (λ c. omega arith)
     loop-again
     returns)

@@ -3,18 +3,6 @@ use borrow.Author.Needs.{needs}
 use Rattle.clash.proofs.naxxurbi_check_clash.Statement.{statement}
 use Rattle.clash.proofs.naxxurbi_check_clash.Tie as tie
 
-check-clash-requires : tie.Need-check-clash-requires
-check-clash-requires c κs = search needs
-
-same-length : tie.Need-same-length
-same-length c = search needs
-
-same-length-2 : tie.Need-same-length-2
-same-length-2 c = search needs
-
-same-length-3 : tie.Need-same-length-3
-same-length-3 c = search needs
-
 returns : tie.Need-returns
 returns c =
     let called = c .before .before .before .before .before .before in
@@ -22,4 +10,10 @@ returns c =
 
 pub naxxurbi-check-clash-spec : {M : Type 1} → statement M
 naxxurbi-check-clash-spec =
-    tie.close (tie.spec check-clash-requires same-length same-length-2 same-length-3 returns)
+    tie.close
+    (tie.spec
+    (λ c κs. search needs)
+    (λ c. search needs)
+    (λ c. search needs)
+    (λ c. search needs)
+    returns)

@@ -12,40 +12,16 @@ shared-slice-read-count c =
     let start = c .before .before .before .before .before in
     has-count (start .args .sheet .now) (start .pre .0)
 
-cast-count : tie.Need-cast-count
-cast-count c = omega (arith, c .shared-slice-known2 .given 6)
-
 mark-first-requires : tie.Need-mark-first-requires
 mark-first-requires c κs =
     let start = c .before .before .before .before .before .before in
     (omega (arith, c .before .shared-slice-known2 .given 6), start .pre .1)
-
-trial-requires : tie.Need-trial-requires
-trial-requires c κs = search needs
-
-same-length : tie.Need-same-length
-same-length c = search needs
-
-same-length-2 : tie.Need-same-length-2
-same-length-2 c = search needs
-
-same-length-3 : tie.Need-same-length-3
-same-length-3 c = search needs
 
 returns : tie.Need-returns
 returns c =
     let tried = c .before .before .before .before .before .before .before in
     let marked = tried .before .before .before .before .before in
     works-at-once _ (marked .mark-first .ensures) (tried .trial .ensures) (omega arith)
-
-same-length-4 : tie.Need-same-length-4
-same-length-4 c = search needs
-
-same-length-5 : tie.Need-same-length-5
-same-length-5 c = search needs
-
-same-length-6 : tie.Need-same-length-6
-same-length-6 c = search needs
 
 returns-2 : tie.Need-returns-2
 returns-2 c =
@@ -71,15 +47,6 @@ each-left-out-requires c κs =
           (omega (arith, marked .before .before .shared-slice-known2 .given 6)),
     )
 
-same-length-7 : tie.Need-same-length-7
-same-length-7 c = search needs
-
-same-length-8 : tie.Need-same-length-8
-same-length-8 c = search needs
-
-same-length-9 : tie.Need-same-length-9
-same-length-9 c = search needs
-
 returns-3 : tie.Need-returns-3
 returns-3 c =
     let each = c .before .before .before .before .before .before .before in
@@ -95,15 +62,6 @@ returns-3 c =
     let lengths = lengths-then (tried .trial .ensures .lengths) (dropped .drop-rules .ensures .lengths) in
     works-at-last reduced (each .before .before .before .before .before .if3 .taken) lengths (each .each-left-out .ensures) (omega arith)
 
-same-length-10 : tie.Need-same-length-10
-same-length-10 c = search needs
-
-same-length-11 : tie.Need-same-length-11
-same-length-11 c = search needs
-
-same-length-12 : tie.Need-same-length-12
-same-length-12 c = search needs
-
 returns-4 : tie.Need-returns-4
 returns-4 c =
     let each = c .before .before .before .before .before .before .before in
@@ -118,15 +76,6 @@ returns-4 c =
     (dropped .drop-rules .ensures) in
     let lengths = lengths-then (tried .trial .ensures .lengths) (dropped .drop-rules .ensures .lengths) in
     works-found reduced (each .before .before .before .before .before .if3 .taken) lengths (each .each-left-out .ensures) (λ e. omega arith)
-
-same-length-13 : tie.Need-same-length-13
-same-length-13 c = search needs
-
-same-length-14 : tie.Need-same-length-14
-same-length-14 c = search needs
-
-same-length-15 : tie.Need-same-length-15
-same-length-15 c = search needs
 
 returns-5 : tie.Need-returns-5
 returns-5 c =
@@ -145,28 +94,28 @@ work-spec =
     tie.close
     (tie.spec
     shared-slice-read-count
-    cast-count
+    (λ c. omega (arith, c .shared-slice-known2 .given 6))
     mark-first-requires
-    trial-requires
-    same-length
-    same-length-2
-    same-length-3
+    (λ c κs. search needs)
+    (λ c. search needs)
+    (λ c. search needs)
+    (λ c. search needs)
     returns
-    same-length-4
-    same-length-5
-    same-length-6
+    (λ c. search needs)
+    (λ c. search needs)
+    (λ c. search needs)
     returns-2
     drop-rules-requires
     each-left-out-requires
-    same-length-7
-    same-length-8
-    same-length-9
+    (λ c. search needs)
+    (λ c. search needs)
+    (λ c. search needs)
     returns-3
-    same-length-10
-    same-length-11
-    same-length-12
+    (λ c. search needs)
+    (λ c. search needs)
+    (λ c. search needs)
     returns-4
-    same-length-13
-    same-length-14
-    same-length-15
+    (λ c. search needs)
+    (λ c. search needs)
+    (λ c. search needs)
     returns-5)

@@ -13,18 +13,6 @@ Inv-loop size ends start₀ i₀ start i = CutUpTo size ends i start
 abbrev μ-loop : tie.MeasureT-loop
 μ-loop size ends start₀ i₀ start i = length ends - i
 
-loop-holds : tie.Need-loop-holds Inv-loop μ-loop
-loop-holds c = cut-none (c .args .size) (c .args .ends .now)
-
-mul-end : tie.Need-mul-end Inv-loop μ-loop
-mul-end c = omega arith
-
-shared-slice-read-end : tie.Need-shared-slice-read-end Inv-loop μ-loop
-shared-slice-read-end c = omega arith
-
-cast-end : tie.Need-cast-end Inv-loop μ-loop
-cast-end c = omega (arith, c .shared-slice-known .given (c .before .before .loop .i))
-
 returns : tie.Need-returns Inv-loop μ-loop
 returns c =
     let l = c .before .before .before .loop in
@@ -34,12 +22,6 @@ returns-2 : tie.Need-returns-2 Inv-loop μ-loop
 returns-2 c =
     let l = c .before .before .before .before .loop in
     cut-refused (λ room. passes (l .i) (omega arith) (omega arith))
-
-add-i : tie.Need-add-i Inv-loop μ-loop
-add-i c = omega arith
-
-loop-less : tie.Need-loop-less Inv-loop μ-loop
-loop-less c = omega arith
 
 loop-again : tie.Need-loop-again Inv-loop μ-loop
 loop-again c =
@@ -57,13 +39,13 @@ cut-spec =
     (tie.spec
     Inv-loop
     μ-loop
-    loop-holds
-    mul-end
-    shared-slice-read-end
-    cast-end
+    (λ c. cut-none (c .args .size) (c .args .ends .now))
+    (λ c. omega arith)
+    (λ c. omega arith)
+    (λ c. omega (arith, c .shared-slice-known .given (c .before .before .loop .i)))
     returns
     returns-2
-    add-i
-    loop-less
+    (λ c. omega arith)
+    (λ c. omega arith)
     loop-again
     returns-3)

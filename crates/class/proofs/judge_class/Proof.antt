@@ -17,9 +17,6 @@ returns c =
     let taken = judged .before .before .before .before .before .before in
     in-turn (fair-not-refused (taken .before .fair .ensures .yes (taken .if1 .taken))) refl (judged .judge-all .ensures)
 
-returns-2 : tie.Need-returns-2
-returns-2 c = turned-away (c .before .fair .ensures .never (c .if1 .left)) refl refl
-
 pub judge-class-spec : {M : Type 1} → statement M
 judge-class-spec =
     tie.close
@@ -32,4 +29,4 @@ judge-class-spec =
     (λ c. search needs)
     (λ c. search needs)
     returns
-    returns-2)
+    (λ c. turned-away (c .before .fair .ensures .never (c .if1 .left)) refl refl))

@@ -7,15 +7,6 @@ use Rattle.class.specs.Class.{stored}
 use Rattle.class.proofs.note.Statement.{statement}
 use Rattle.class.proofs.note.Tie as tie
 
-slice-write-numbers-2 : tie.Need-slice-write-numbers-2
-slice-write-numbers-2 c = simp length-set (omega arith)
-
-slice-write-numbers-3 : tie.Need-slice-write-numbers-3
-slice-write-numbers-3 c = simp length-set (omega arith)
-
-slice-write-numbers-4 : tie.Need-slice-write-numbers-4
-slice-write-numbers-4 c = simp length-set (omega arith)
-
 returns : tie.Need-returns
 unfolding stored
 returns c = refl
@@ -28,12 +19,12 @@ note-spec =
     (λ c. search needs)
     (λ c. search needs)
     (λ c. search needs)
-    slice-write-numbers-2
+    (λ c. simp length-set (omega arith))
     (λ c. search needs)
     (λ c. search needs)
-    slice-write-numbers-3
+    (λ c. simp length-set (omega arith))
     (λ c. search needs)
     (λ c. search needs)
-    slice-write-numbers-4
+    (λ c. simp length-set (omega arith))
     (λ c. search needs)
     returns)

@@ -31,12 +31,6 @@ in-words c = omega (arith, c .loop-test .taken, c .before .loop .inv .1 .long, c
 in-scratch : (c : tie.In-loop Inv-loop μ-loop) → c .before .loop .i < length (c .before .loop .scratch)
 in-scratch c = omega (arith, c .loop-test .taken, c .before .loop .inv .2, c .before .before .before .before .before .before .before .pre .0 .in-scratch)
 
-loop-holds : tie.Need-loop-holds Inv-loop μ-loop
-loop-holds c = (omega arith, passing-none _ _ _ _ _ _ (c .before .before .before .before .before .pre .0 .pointers), refl, refl)
-
-mul-lo : tie.Need-mul-lo Inv-loop μ-loop
-mul-lo c = omega (arith, c .loop-test .taken, c .before .before .before .before .before .before .before .pre .0 .told .few)
-
 pending-requires : tie.Need-pending-requires Inv-loop μ-loop
 pending-requires c κs =
     let at-loop-test = c .before .before in
@@ -58,9 +52,6 @@ seek-from-requires c κs =
 
 mul-words : tie.Need-mul-words Inv-loop μ-loop
 mul-words c = omega (arith, c .before .before .before .before .before .before .before .before .before .loop-test .taken, c .before .before .before .before .before .before .before .before .before .before .before .before .before .before .before .before .pre .0 .told .few)
-
-add-n : tie.Need-add-n Inv-loop μ-loop
-add-n c = omega (arith, c .before .before .before .before .before .before .before .before .before .before .loop .inv .1 .few)
 
 loop-again : tie.Need-loop-again Inv-loop μ-loop
 loop-again c =
@@ -118,8 +109,8 @@ dead-ends-spec =
     (tie.spec
     Inv-loop
     μ-loop
-    loop-holds
-    mul-lo
+    (λ c. (omega arith, passing-none _ _ _ _ _ _ (c .before .before .before .before .before .pre .0 .pointers), refl, refl))
+    (λ c. omega (arith, c .loop-test .taken, c .before .before .before .before .before .before .before .pre .0 .told .few))
     (λ c. in-scratch (c .before))
     (λ c. omega (arith, c .slice-known3 .given (c .before .before .loop .i)))
     pending-requires
@@ -127,7 +118,7 @@ dead-ends-spec =
     seek-from-requires
     mul-words
     (λ c. in-words (c .before .before .before .before .before .before .before .before .before))
-    add-n
+    (λ c. omega (arith, c .before .before .before .before .before .before .before .before .before .before .loop .inv .1 .few))
     (λ c. omega arith)
     (λ c. omega arith)
     loop-again

@@ -12,12 +12,6 @@ Inv-loop book s table words r word lo clauses count j₀ j = Passed book table w
 abbrev μ-loop : tie.MeasureT-loop
 μ-loop book s table words r word lo clauses count j₀ j = r - j
 
-gather-next-requires : tie.Need-gather-next-requires Inv-loop μ-loop
-gather-next-requires c κs = (c .before .before .before .before .before .pre .0 .shaped, c .before .before .before .before .before .pre .3)
-
-loop-holds : tie.Need-loop-holds Inv-loop μ-loop
-loop-holds c = passed-none _ _ _ _ _ _ _
-
 mul-goes : tie.Need-mul-goes Inv-loop μ-loop
 mul-goes c = let a = c .before .before .before .before .before .before .before .before .before .before .before .pre .0 .in-table in omega arith
 
@@ -37,9 +31,6 @@ goes-requires c κs =
     let at-gather-next = c .before .before .before .before .before .before .before in
     (at-gather-next .gather-next .ensures .1, at-gather-next .gather-next .ensures .0 .gathered .few)
 
-add-result : tie.Need-add-result Inv-loop μ-loop
-add-result c = omega arith
-
 same-length : tie.Need-same-length Inv-loop μ-loop
 same-length c =
     let at-gather-next = c .before .before .before .before .before .before .before .before .before in
@@ -55,12 +46,6 @@ returns c =
           (c .before .goes .ensures .yes-so (c .if1 .taken)),
       at-gather-next .gather-next .ensures .1,
     )
-
-add-j : tie.Need-add-j Inv-loop μ-loop
-add-j c = omega arith
-
-loop-less : tie.Need-loop-less Inv-loop μ-loop
-loop-less c = omega arith
 
 loop-again : tie.Need-loop-again Inv-loop μ-loop
 loop-again c =
@@ -85,18 +70,18 @@ seek-spec =
     (tie.spec
     Inv-loop
     μ-loop
-    gather-next-requires
-    loop-holds
+    (λ c κs. (c .before .before .before .before .before .pre .0 .shaped, c .before .before .before .before .before .pre .3))
+    (λ c. passed-none _ _ _ _ _ _ _)
     mul-goes
     shared-slice-read-goes
     mul-goes-2
     shared-slice-read-goes-2
     goes-requires
-    add-result
+    (λ c. omega arith)
     same-length
     returns
-    add-j
-    loop-less
+    (λ c. omega arith)
+    (λ c. omega arith)
     loop-again
     same-length-2
     returns-2)

@@ -43,9 +43,6 @@ loop-holds c =
 cell-requires : tie.Need-cell-requires Inv-loop μ-loop
 cell-requires c κs = (c .before .before .before .before .before .before .before .pre .0 .long, omega (arith, inside c, c .before .before .before .before .before .before .before .pre .0 .within))
 
-mul-if1 : tie.Need-mul-if1 Inv-loop μ-loop
-mul-if1 c = omega (arith, place c, c .before .before .before .before .before .before .before .before .pre .1 .few)
-
 slice-read-if1 : tie.Need-slice-read-if1 Inv-loop μ-loop
 slice-read-if1 c =
     let at-loop = c .before .before .before in
@@ -112,7 +109,7 @@ follow-row-spec =
     (λ c κs. (c .before .before .before .before .pre .0 .long, c .before .before .before .before .pre .0 .place))
     loop-holds
     cell-requires
-    mul-if1
+    (λ c. omega (arith, place c, c .before .before .before .before .before .before .before .before .pre .1 .few))
     slice-read-if1
     add-at
     mul-near

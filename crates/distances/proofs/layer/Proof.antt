@@ -14,32 +14,14 @@ Inv-loop book table r d left near₀ pack₀ next got₀ j₀ near pack got j = 
 abbrev μ-loop : tie.MeasureT-loop
 μ-loop book table r d left near₀ pack₀ next got₀ j₀ near pack got j = r - j
 
-add-next : tie.Need-add-next Inv-loop μ-loop
-add-next c = let l = c .before .before .before .before .pre .0 .small in omega arith
-
 loop-holds : tie.Need-loop-holds Inv-loop μ-loop
 loop-holds c = (omega arith, spreading-none _ _ _ _ _ _ (c .before .before .before .before .pre .0), c .before .before .before .before .pre .1)
-
-same-length : tie.Need-same-length Inv-loop μ-loop
-same-length c = c .before .before .loop .inv .1 .long ∙ sym (c .before .before .before .before .before .before .before .pre .0 .long)
-
-same-length-2 : tie.Need-same-length-2 Inv-loop μ-loop
-same-length-2 c = c .before .before .loop .inv .2 ∙ sym (c .before .before .before .before .before .before .before .pre .1)
 
 returns : tie.Need-returns Inv-loop μ-loop
 returns c =
     let at-loop = c .before .before in
     let entry = at-loop .before .before .before .before .before in
     (spreading-full _ _ _ _ _ _ (entry .pre .0) _ _ _ (at-loop .loop .inv .1) (c .if1 .taken), at-loop .loop .inv .2)
-
-mul-if2 : tie.Need-mul-if2 Inv-loop μ-loop
-mul-if2 c = let l = c .before .before .loop .inv .1 .long in omega arith
-
-slice-read-if2 : tie.Need-slice-read-if2 Inv-loop μ-loop
-slice-read-if2 c = let l = c .before .before .before .loop .inv .1 .long in omega arith
-
-mul-gather-before : tie.Need-mul-gather-before Inv-loop μ-loop
-mul-gather-before c = let l = c .before .before .before .before .before .before .before .before .before .pre .0 .in-table in omega arith
 
 shared-slice-read-gather-before : tie.Need-shared-slice-read-gather-before Inv-loop μ-loop
 shared-slice-read-gather-before c = let l = c .before .before .before .before .before .before .before .before .before .before .pre .0 .in-table in omega arith
@@ -76,12 +58,6 @@ add-got c =
     let l = spreading-bound _ _ _ _ _ _ (entry .pre .0) _ _ _ s in
     omega arith
 
-add-j : tie.Need-add-j Inv-loop μ-loop
-add-j c = omega arith
-
-loop-less : tie.Need-loop-less Inv-loop μ-loop
-loop-less c = omega arith
-
 loop-again : tie.Need-loop-again Inv-loop μ-loop
 loop-again c =
     let at-spread = c .before .before in
@@ -95,23 +71,11 @@ loop-again c =
       at-gather-before .gather-before .ensures .1,
     )
 
-add-j-2 : tie.Need-add-j-2 Inv-loop μ-loop
-add-j-2 c = omega arith
-
-loop-less-2 : tie.Need-loop-less-2 Inv-loop μ-loop
-loop-less-2 c = omega arith
-
 loop-again-2 : tie.Need-loop-again-2 Inv-loop μ-loop
 loop-again-2 c =
     let at-loop = c .before .before .before .before in
     let entry = at-loop .before .before .before .before .before in
     (omega arith, spreading-past _ _ _ _ _ _ (entry .pre .0) _ _ _ (at-loop .loop .inv .1) (c .if2 .left), at-loop .loop .inv .2)
-
-same-length-3 : tie.Need-same-length-3 Inv-loop μ-loop
-same-length-3 c = c .before .loop .inv .1 .long ∙ sym (c .before .before .before .before .before .before .pre .0 .long)
-
-same-length-4 : tie.Need-same-length-4 Inv-loop μ-loop
-same-length-4 c = c .before .loop .inv .2 ∙ sym (c .before .before .before .before .before .before .pre .1)
 
 returns-2 : tie.Need-returns-2 Inv-loop μ-loop
 returns-2 c =
@@ -124,24 +88,24 @@ layer-spec =
     (tie.spec
     Inv-loop
     μ-loop
-    add-next
+    (λ c. let l = c .before .before .before .before .pre .0 .small in omega arith)
     loop-holds
-    same-length
-    same-length-2
+    (λ c. c .before .before .loop .inv .1 .long ∙ sym (c .before .before .before .before .before .before .before .pre .0 .long))
+    (λ c. c .before .before .loop .inv .2 ∙ sym (c .before .before .before .before .before .before .before .pre .1))
     returns
-    mul-if2
-    slice-read-if2
-    mul-gather-before
+    (λ c. let l = c .before .before .loop .inv .1 .long in omega arith)
+    (λ c. let l = c .before .before .before .loop .inv .1 .long in omega arith)
+    (λ c. let l = c .before .before .before .before .before .before .before .before .before .pre .0 .in-table in omega arith)
     shared-slice-read-gather-before
     gather-before-requires
     spread-requires
     add-got
-    add-j
-    loop-less
+    (λ c. omega arith)
+    (λ c. omega arith)
     loop-again
-    add-j-2
-    loop-less-2
+    (λ c. omega arith)
+    (λ c. omega arith)
     loop-again-2
-    same-length-3
-    same-length-4
+    (λ c. c .before .loop .inv .1 .long ∙ sym (c .before .before .before .before .before .before .pre .0 .long))
+    (λ c. c .before .loop .inv .2 ∙ sym (c .before .before .before .before .before .before .pre .1))
     returns-2)

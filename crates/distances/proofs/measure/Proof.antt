@@ -22,15 +22,6 @@ Inv-loop book k table words r near₀ pack₀ left₀ d₀ near pack left d = Me
 abbrev μ-loop : tie.MeasureT-loop
 μ-loop book k table words r near₀ pack₀ left₀ d₀ near pack left d = left
 
-begin-requires : tie.Need-begin-requires Inv-loop μ-loop
-begin-requires c κs = c .before .before .before .before .before .pre
-
-loop-holds : tie.Need-loop-holds Inv-loop μ-loop
-loop-holds c = (measuring-none _ _ _ _ _ _ _ (c .before .before .begin .ensures), refl)
-
-slice-aggregate-layer : tie.Need-slice-aggregate-layer Inv-loop μ-loop
-slice-aggregate-layer c = sym (c .before .before .before .loop .inv .1)
-
 layer-requires : tie.Need-layer-requires Inv-loop μ-loop
 layer-requires c κs =
     let at-loop = c .before .before .before in
@@ -95,9 +86,9 @@ measure-spec =
     (tie.spec
     Inv-loop
     μ-loop
-    begin-requires
-    loop-holds
-    slice-aggregate-layer
+    (λ c κs. c .before .before .before .before .before .pre)
+    (λ c. (measuring-none _ _ _ _ _ _ _ (c .before .before .begin .ensures), refl))
+    (λ c. sym (c .before .before .before .loop .inv .1))
     layer-requires
     same-length
     returns

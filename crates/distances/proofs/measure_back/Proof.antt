@@ -60,9 +60,6 @@ add-tail c =
 add-head : tie.Need-add-head Inv-loop μ-loop
 add-head c = omega (arith, next (c .before .before .before .before .before .before .before .before .before) .early, c .before .before .before .before .before .before .before .before .before .before .loop .inv .few)
 
-loop-less : tie.Need-loop-less Inv-loop μ-loop
-loop-less c = omega (arith, next (c .before .before .before .before .before .before .before .before .before) .early)
-
 loop-again : tie.Need-loop-again Inv-loop μ-loop
 loop-again c =
     let at-row = c .before .before .before .before in
@@ -95,7 +92,7 @@ measure-back-spec =
     follow-row-requires
     add-tail
     add-head
-    loop-less
+    (λ c. omega (arith, next (c .before .before .before .before .before .before .before .before .before) .early))
     loop-again
     (λ c. c .before .loop .inv .same ∙ c .before .before .before .before .line-up .ensures .1)
     same-length-2

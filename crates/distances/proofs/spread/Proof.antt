@@ -14,38 +14,8 @@ Inv-loop table pack count d r near₀ got₀ i₀ near got i = (i ≤ r) × (got
 abbrev μ-loop : tie.MeasureT-loop
 μ-loop table pack count d r near₀ got₀ i₀ near got i = r - i
 
-loop-holds : tie.Need-loop-holds Inv-loop μ-loop
-loop-holds c = (omega arith, omega arith, spread-none _ _ _)
-
-mul-opens : tie.Need-mul-opens Inv-loop μ-loop
-mul-opens c = omega arith
-
-shared-slice-read-opens : tie.Need-shared-slice-read-opens Inv-loop μ-loop
-shared-slice-read-opens c = omega arith
-
-mul-opens-2 : tie.Need-mul-opens-2 Inv-loop μ-loop
-mul-opens-2 c = let l = c .before .before .loop .inv .2 .long in omega arith
-
-slice-read-opens : tie.Need-slice-read-opens Inv-loop μ-loop
-slice-read-opens c = let l = c .before .before .before .loop .inv .2 .long in omega arith
-
 opens-requires : tie.Need-opens-requires Inv-loop μ-loop
 opens-requires c κs = (c .before .before .before .before .before .before .before .pre .2, c .before .before .before .before .before .before .before .pre .3)
-
-mul-near : tie.Need-mul-near Inv-loop μ-loop
-mul-near c = let l = c .before .before .before .before .before .loop .inv .2 .long in omega arith
-
-slice-write-near : tie.Need-slice-write-near Inv-loop μ-loop
-slice-write-near c = let l = c .before .before .before .before .before .loop .inv .2 .long in omega arith
-
-add-got : tie.Need-add-got Inv-loop μ-loop
-add-got c = omega arith
-
-add-i : tie.Need-add-i Inv-loop μ-loop
-add-i c = omega arith
-
-loop-less : tie.Need-loop-less Inv-loop μ-loop
-loop-less c = omega arith
 
 loop-again : tie.Need-loop-again Inv-loop μ-loop
 loop-again c =
@@ -59,22 +29,10 @@ loop-again c =
           (c .if1 .taken) ∙ c .before .opens .ensures)),
     )
 
-add-i-2 : tie.Need-add-i-2 Inv-loop μ-loop
-add-i-2 c = omega arith
-
-loop-less-2 : tie.Need-loop-less-2 Inv-loop μ-loop
-loop-less-2 c = omega arith
-
 loop-again-2 : tie.Need-loop-again-2 Inv-loop μ-loop
 loop-again-2 c =
     let at-loop = c .before .before .before .before .before in
     (omega arith, omega arith, spread-past _ _ _ _ _ _ (at-loop .loop .inv .2) (shut-passes _ _ (sym (c .if1 .left) ∙ c .before .opens .ensures)))
-
-same-length : tie.Need-same-length Inv-loop μ-loop
-same-length c = c .before .loop .inv .2 .long
-
-returns : tie.Need-returns Inv-loop μ-loop
-returns c = spread-all _ _ _ _ _ _ _ (omega arith) (c .before .loop .inv .2)
 
 pub spread-spec : {M : Type 1} → statement M
 spread-spec =
@@ -82,20 +40,20 @@ spread-spec =
     (tie.spec
     Inv-loop
     μ-loop
-    loop-holds
-    mul-opens
-    shared-slice-read-opens
-    mul-opens-2
-    slice-read-opens
+    (λ c. (omega arith, omega arith, spread-none _ _ _))
+    (λ c. omega arith)
+    (λ c. omega arith)
+    (λ c. let l = c .before .before .loop .inv .2 .long in omega arith)
+    (λ c. let l = c .before .before .before .loop .inv .2 .long in omega arith)
     opens-requires
-    mul-near
-    slice-write-near
-    add-got
-    add-i
-    loop-less
+    (λ c. let l = c .before .before .before .before .before .loop .inv .2 .long in omega arith)
+    (λ c. let l = c .before .before .before .before .before .loop .inv .2 .long in omega arith)
+    (λ c. omega arith)
+    (λ c. omega arith)
+    (λ c. omega arith)
     loop-again
-    add-i-2
-    loop-less-2
+    (λ c. omega arith)
+    (λ c. omega arith)
     loop-again-2
-    same-length
-    returns)
+    (λ c. c .before .loop .inv .2 .long)
+    (λ c. spread-all _ _ _ _ _ _ _ (omega arith) (c .before .loop .inv .2)))

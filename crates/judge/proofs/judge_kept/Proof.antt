@@ -13,27 +13,6 @@ steer-requires c κs =
     let start = c .before .before .before .before .before .before .before .before in
     kept-ready (start .pre)
 
-cast-needed : tie.Need-cast-needed
-cast-needed c = search needs
-
-leave-requires : tie.Need-leave-requires
-leave-requires c κs = search needs
-
-refusal-requires : tie.Need-refusal-requires
-refusal-requires c κs = search needs
-
-same-length : tie.Need-same-length
-same-length c = search needs
-
-same-length-2 : tie.Need-same-length-2
-same-length-2 c = search needs
-
-same-length-3 : tie.Need-same-length-3
-same-length-3 c = search needs
-
-same-length-4 : tie.Need-same-length-4
-same-length-4 c = search needs
-
 returns : tie.Need-returns
 returns c =
     let left = c .before .before .before .before .before .before .before in
@@ -58,18 +37,6 @@ cast-kept c =
     let start = test .before .before .before .before .before .before .before .before .before .before .before .before .before .before in
     omega (arith, kept-small (start .pre))
 
-same-length-5 : tie.Need-same-length-5
-same-length-5 c = search needs
-
-same-length-6 : tie.Need-same-length-6
-same-length-6 c = search needs
-
-same-length-7 : tie.Need-same-length-7
-same-length-7 c = search needs
-
-same-length-8 : tie.Need-same-length-8
-same-length-8 c = search needs
-
 returns-2 : tie.Need-returns-2
 returns-2 c =
     let left = c .before .before .before .before .before .before in
@@ -87,18 +54,18 @@ judge-kept-spec =
     tie.close
     (tie.spec
     steer-requires
-    cast-needed
-    leave-requires
-    refusal-requires
-    same-length
-    same-length-2
-    same-length-3
-    same-length-4
+    (λ c. search needs)
+    (λ c κs. search needs)
+    (λ c κs. search needs)
+    (λ c. search needs)
+    (λ c. search needs)
+    (λ c. search needs)
+    (λ c. search needs)
     returns
     leave-requires-2
     cast-kept
-    same-length-5
-    same-length-6
-    same-length-7
-    same-length-8
+    (λ c. search needs)
+    (λ c. search needs)
+    (λ c. search needs)
+    (λ c. search needs)
     returns-2)

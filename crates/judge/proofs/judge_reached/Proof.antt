@@ -30,15 +30,6 @@ cast-reached c =
     let start = struck .before .before .before .before .before .before .before .before .before in
     omega (arith, reached-small (start .pre))
 
-same-length : tie.Need-same-length
-same-length c = search needs
-
-same-length-2 : tie.Need-same-length-2
-same-length-2 c = search needs
-
-same-length-3 : tie.Need-same-length-3
-same-length-3 c = search needs
-
 returns : tie.Need-returns
 returns c =
     let written = c .before .before .before .before .before .before in
@@ -68,18 +59,6 @@ judge-kept-requires c κs =
     let told = struck .strike .ensures in
     reached-kept (start .pre) (told .marked) (told .words-long) (told .scratch-long) (test .if1 .left) (kept .keep .ensures)
 
-same-length-4 : tie.Need-same-length-4
-same-length-4 c = search needs
-
-same-length-5 : tie.Need-same-length-5
-same-length-5 c = search needs
-
-same-length-6 : tie.Need-same-length-6
-same-length-6 c = search needs
-
-same-length-7 : tie.Need-same-length-7
-same-length-7 c = search needs
-
 returns-2 : tie.Need-returns-2
 returns-2 c =
     let judged = c .before .before .before .before .before .before .before .before in
@@ -95,14 +74,14 @@ judge-reached-spec =
     strike-requires
     write-strikes-requires
     cast-reached
-    same-length
-    same-length-2
-    same-length-3
+    (λ c. search needs)
+    (λ c. search needs)
+    (λ c. search needs)
     returns
     keep-requires
     judge-kept-requires
-    same-length-4
-    same-length-5
-    same-length-6
-    same-length-7
+    (λ c. search needs)
+    (λ c. search needs)
+    (λ c. search needs)
+    (λ c. search needs)
     returns-2)

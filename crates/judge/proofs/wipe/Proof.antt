@@ -12,29 +12,11 @@ Inv-loop s₀ from i₀ s i = WipedUpTo s₀ from i s
 abbrev μ-loop : tie.MeasureT-loop
 μ-loop s₀ from i₀ s i = length s - i
 
-loop-holds : tie.Need-loop-holds Inv-loop μ-loop
-loop-holds c = wiped-none (c .args .s .now) (c .args .from)
-
-mul-s : tie.Need-mul-s Inv-loop μ-loop
-mul-s c = omega arith
-
-slice-write-s : tie.Need-slice-write-s Inv-loop μ-loop
-slice-write-s c = omega arith
-
-add-i : tie.Need-add-i Inv-loop μ-loop
-add-i c = omega arith
-
-loop-less : tie.Need-loop-less Inv-loop μ-loop
-loop-less c = simp length-set (omega arith)
-
 loop-again : tie.Need-loop-again Inv-loop μ-loop
 loop-again c =
     let l = c .before .loop in
     let a = c .before .before .args in
     wiped-more (a .s .now) (a .from) (l .i) (l .s) (l .inv) (omega arith)
-
-same-length : tie.Need-same-length Inv-loop μ-loop
-same-length c = c .before .loop .inv .long
 
 returns : tie.Need-returns Inv-loop μ-loop
 returns c =
@@ -48,11 +30,11 @@ wipe-spec =
     (tie.spec
     Inv-loop
     μ-loop
-    loop-holds
-    mul-s
-    slice-write-s
-    add-i
-    loop-less
+    (λ c. wiped-none (c .args .s .now) (c .args .from))
+    (λ c. omega arith)
+    (λ c. omega arith)
+    (λ c. omega arith)
+    (λ c. simp length-set (omega arith))
     loop-again
-    same-length
+    (λ c. c .before .loop .inv .long)
     returns)

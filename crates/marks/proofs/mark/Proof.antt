@@ -6,14 +6,10 @@ use Rattle.marks.proofs.Marks.{mark-fits}
 use Rattle.marks.proofs.mark.Statement.{statement}
 use Rattle.marks.proofs.mark.Tie as tie
 
-cast-result : tie.Need-cast-result
-cast-result c = search needs
-
-shl-result : tie.Need-shl-result
-shl-result c = search needs
-
-returns : tie.Need-returns
-returns c = ap (bitOr (c .args .word)) (mark-fits (c .args .k) (c .pre))
-
 pub mark-spec : {M : Type 1} → statement M
-mark-spec = tie.close (tie.spec cast-result shl-result returns)
+mark-spec =
+    tie.close
+    (tie.spec
+    (λ c. search needs)
+    (λ c. search needs)
+    (λ c. ap (bitOr (c .args .word)) (mark-fits (c .args .k) (c .pre))))

@@ -7,14 +7,10 @@ use Rattle.marks.proofs.Marks.{bit-shifted}
 use Rattle.marks.proofs.met.Statement.{statement}
 use Rattle.marks.proofs.met.Tie as tie
 
-cast-result : tie.Need-cast-result
-cast-result c = search needs
-
-shr-result : tie.Need-shr-result
-shr-result c = search needs
-
-returns : tie.Need-returns
-returns c = ap (λ (y : ℕ). eqb y 1) (bit-shifted (c .args .k) (c .args .word))
-
 pub met-spec : {M : Type 1} → statement M
-met-spec = tie.close (tie.spec cast-result shr-result returns)
+met-spec =
+    tie.close
+    (tie.spec
+    (λ c. search needs)
+    (λ c. search needs)
+    (λ c. ap (λ (y : ℕ). eqb y 1) (bit-shifted (c .args .k) (c .args .word))))

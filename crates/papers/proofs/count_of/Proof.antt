@@ -5,11 +5,9 @@ use Rattle.papers.proofs.Numbers.{numbers-length}
 use Rattle.papers.proofs.count_of.Statement.{statement}
 use Rattle.papers.proofs.count_of.Tie as tie
 
-add-result : tie.Need-add-result
-add-result c = search needs
-
-returns : tie.Need-returns
-returns c = sym (numbers-length (c .args .bytes .now) (c .args .numbers .now))
-
 pub count-of-spec : {M : Type 1} → statement M
-count-of-spec = tie.close (tie.spec add-result returns)
+count-of-spec =
+    tie.close
+    (tie.spec
+    (λ c. search needs)
+    (λ c. sym (numbers-length (c .args .bytes .now) (c .args .numbers .now))))

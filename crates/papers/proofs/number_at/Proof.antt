@@ -6,33 +6,6 @@ use Rattle.papers.proofs.Numbers.{numbers-length, number-in-bytes, numb
 use Rattle.papers.proofs.number_at.Statement.{statement}
 use Rattle.papers.proofs.number_at.Tie as tie
 
-mul-at : tie.Need-mul-at
-mul-at c = search needs
-
-add-second : tie.Need-add-second
-add-second c = search needs
-
-add-third : tie.Need-add-third
-add-third c = search needs
-
-add-fourth : tie.Need-add-fourth
-add-fourth c = search needs
-
-shared-slice-read-big-endian : tie.Need-shared-slice-read-big-endian
-shared-slice-read-big-endian c = search needs
-
-shared-slice-read-big-endian-2 : tie.Need-shared-slice-read-big-endian-2
-shared-slice-read-big-endian-2 c = search needs
-
-shared-slice-read-big-endian-3 : tie.Need-shared-slice-read-big-endian-3
-shared-slice-read-big-endian-3 c = search needs
-
-shared-slice-read-big-endian-4 : tie.Need-shared-slice-read-big-endian-4
-shared-slice-read-big-endian-4 c = search needs
-
-big-endian-requires : tie.Need-big-endian-requires
-big-endian-requires c κs = search needs
-
 mul-result : tie.Need-mul-result
 mul-result c = omega (arith, numbers-length (c .before .before .before .args .bytes .now) (c .before .before .before .args .numbers .now))
 
@@ -54,15 +27,15 @@ pub number-at-spec : {M : Type 1} → statement M
 number-at-spec =
     tie.close
     (tie.spec
-    mul-at
-    add-second
-    add-third
-    add-fourth
-    shared-slice-read-big-endian
-    shared-slice-read-big-endian-2
-    shared-slice-read-big-endian-3
-    shared-slice-read-big-endian-4
-    big-endian-requires
+    (λ c. search needs)
+    (λ c. search needs)
+    (λ c. search needs)
+    (λ c. search needs)
+    (λ c. search needs)
+    (λ c. search needs)
+    (λ c. search needs)
+    (λ c. search needs)
+    (λ c κs. search needs)
     mul-result
     shared-slice-read-result
     returns

@@ -8,18 +8,6 @@ use Rattle.runcheck.proofs.Running.{promises-decide}
 use Rattle.runcheck.proofs.accepted.Statement.{statement}
 use Rattle.runcheck.proofs.accepted.Tie as tie
 
-count-of-requires : tie.Need-count-of-requires
-count-of-requires c κs = search needs
-
-returns : tie.Need-returns
-returns c = says-no (λ h. omega (arith, h .back, c .before .count-of .ensures))
-
-number-at-requires : tie.Need-number-at-requires
-number-at-requires c κs = omega (arith, c .before .count-of .ensures)
-
-first-state-requires : tie.Need-first-state-requires
-first-state-requires c κs = c .before .before .before .before .before .before .pre
-
 returns-2 : tie.Need-returns-2
 returns-2 c =
     says-no (λ h. first-says _ (c .before .before .number-at .ensures) (c .before .first-state .ensures) .never (not-true _ (c .if2 .taken)) (h .first))
@@ -27,21 +15,6 @@ returns-2 c =
 moves-on-requires : tie.Need-moves-on-requires
 moves-on-requires c κs =
     (c .before .before .before .before .before .before .before .before .pre, omega (arith, c .before .before .before .before .count-of .ensures))
-
-returns-3 : tie.Need-returns-3
-returns-3 c = says-no (λ h. c .before .moves-on .ensures .never (not-true _ (c .if3 .taken)) (h .moves))
-
-sub-end : tie.Need-sub-end
-sub-end c = omega (arith, c .before .before .before .before .before .before .count-of .ensures)
-
-number-at-requires-2 : tie.Need-number-at-requires-2
-number-at-requires-2 c κs = omega (arith, c .before .before .before .before .before .before .count-of .ensures)
-
-number-at-requires-3 : tie.Need-number-at-requires-3
-number-at-requires-3 c κs = omega (arith, c .before .before .before .before .before .before .before .count-of .ensures)
-
-moves-requires : tie.Need-moves-requires
-moves-requires c κs = c .before .before .before .before .before .before .before .before .before .before .before .before .pre
 
 returns-4 : tie.Need-returns-4
 returns-4 c =
@@ -72,17 +45,17 @@ pub accepted-spec : {M : Type 1} → statement M
 accepted-spec =
     tie.close
     (tie.spec
-    count-of-requires
-    returns
-    number-at-requires
-    first-state-requires
+    (λ c κs. search needs)
+    (λ c. says-no (λ h. omega (arith, h .back, c .before .count-of .ensures)))
+    (λ c κs. omega (arith, c .before .count-of .ensures))
+    (λ c κs. c .before .before .before .before .before .before .pre)
     returns-2
     moves-on-requires
-    returns-3
-    sub-end
-    number-at-requires-2
-    number-at-requires-3
-    moves-requires
+    (λ c. says-no (λ h. c .before .moves-on .ensures .never (not-true _ (c .if3 .taken)) (h .moves)))
+    (λ c. omega (arith, c .before .before .before .before .before .before .count-of .ensures))
+    (λ c κs. omega (arith, c .before .before .before .before .before .before .count-of .ensures))
+    (λ c κs. omega (arith, c .before .before .before .before .before .before .before .count-of .ensures))
+    (λ c κs. c .before .before .before .before .before .before .before .before .before .before .before .before .pre)
     returns-4
     keeps-all-requires
     returns-5)

@@ -4,18 +4,11 @@ use Rattle.runcheck.proofs.Answers.{run-bytes-checked}
 use Rattle.runcheck.proofs.check_run_bytes.Statement.{statement}
 use Rattle.runcheck.proofs.check_run_bytes.Tie as tie
 
-array-share-prefix-none : tie.Need-array-share-prefix-none
-array-share-prefix-none c = search needs
-
-slice-aggregate-check : tie.Need-slice-aggregate-check
-slice-aggregate-check c = search needs
-
-check-requires : tie.Need-check-requires
-check-requires c κs = search needs
-
-returns : tie.Need-returns
-returns c = run-bytes-checked _ _ _ _ (c .check .ensures .number)
-
 pub check-run-bytes-spec : {M : Type 1} → statement M
 check-run-bytes-spec =
-    tie.close (tie.spec array-share-prefix-none slice-aggregate-check check-requires returns)
+    tie.close
+    (tie.spec
+    (λ c. search needs)
+    (λ c. search needs)
+    (λ c κs. search needs)
+    (λ c. run-bytes-checked _ _ _ _ (c .check .ensures .number)))

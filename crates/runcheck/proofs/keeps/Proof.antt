@@ -16,18 +16,6 @@ Inv-loop book bytes numbers a k count i₀ i = Missed (bookSystem book) (paper b
 abbrev μ-loop : tie.MeasureT-loop
 μ-loop book bytes numbers a k count i₀ i = count - i
 
-count-of-requires : tie.Need-count-of-requires Inv-loop μ-loop
-count-of-requires c κs = search needs
-
-loop-holds : tie.Need-loop-holds Inv-loop μ-loop
-loop-holds c = missed-begins (c .count-of .ensures) (c .before .before .before .before .pre .1)
-
-number-at-requires : tie.Need-number-at-requires Inv-loop μ-loop
-number-at-requires c κs = omega (arith, c .before .loop .inv .counted)
-
-kept-requires : tie.Need-kept-requires Inv-loop μ-loop
-kept-requires c κs = c .before .before .before .before .before .before .before .pre .0
-
 returns : tie.Need-returns Inv-loop μ-loop
 returns c =
     let i = c .before .before .before .before .loop .i in
@@ -39,19 +27,10 @@ returns c =
           (c .before .kept .ensures) .yes (c .if1 .taken),
     )
 
-add-i : tie.Need-add-i Inv-loop μ-loop
-add-i c = omega arith
-
-loop-less : tie.Need-loop-less Inv-loop μ-loop
-loop-less c = omega arith
-
 loop-again : tie.Need-loop-again Inv-loop μ-loop
 loop-again c =
     missed-more (c .before .before .before .before .loop .inv) (c .before .before .before .loop-test .taken)
     (kept-says _ _ (c .before .before .number-at .ensures) (c .before .kept .ensures) .never (c .if1 .left))
-
-returns-2 : tie.Need-returns-2 Inv-loop μ-loop
-returns-2 c = says-no (missed-all (c .before .loop .inv) (c .loop-test .left))
 
 pub keeps-spec : {M : Type 1} → statement M
 keeps-spec =
@@ -59,12 +38,12 @@ keeps-spec =
     (tie.spec
     Inv-loop
     μ-loop
-    count-of-requires
-    loop-holds
-    number-at-requires
-    kept-requires
+    (λ c κs. search needs)
+    (λ c. missed-begins (c .count-of .ensures) (c .before .before .before .before .pre .1))
+    (λ c κs. omega (arith, c .before .loop .inv .counted))
+    (λ c κs. c .before .before .before .before .before .before .before .pre .0)
     returns
-    add-i
-    loop-less
+    (λ c. omega arith)
+    (λ c. omega arith)
     loop-again
-    returns-2)
+    (λ c. says-no (missed-all (c .before .loop .inv) (c .loop-test .left))))

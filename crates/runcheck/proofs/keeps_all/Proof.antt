@@ -16,33 +16,18 @@ Inv-loop book bytes numbers a promises k₀ k = Passed (KeptFrom (bookSystem boo
 abbrev μ-loop : tie.MeasureT-loop
 μ-loop book bytes numbers a promises k₀ k = promises - k
 
-promises-requires : tie.Need-promises-requires Inv-loop μ-loop
-promises-requires c κs = c .before .before .before .pre .0
-
 loop-holds : tie.Need-loop-holds Inv-loop μ-loop
 unfolding bookSystem
 loop-holds c = passed-none (c .promises .ensures)
-
-keeps-requires : tie.Need-keeps-requires Inv-loop μ-loop
-keeps-requires c κs = c .before .before .before .before .before .before .pre
 
 returns : tie.Need-returns Inv-loop μ-loop
 returns c =
     says-no (failed-not-all (c .before .before .before .loop .inv) (c .before .before .loop-test .taken)
     (c .before .keeps .ensures .never (not-true _ (c .if1 .taken))))
 
-add-k : tie.Need-add-k Inv-loop μ-loop
-add-k c = omega arith
-
-loop-less : tie.Need-loop-less Inv-loop μ-loop
-loop-less c = omega arith
-
 loop-again : tie.Need-loop-again Inv-loop μ-loop
 loop-again c =
     passed-more (c .before .before .before .loop .inv) (c .before .before .loop-test .taken) (c .before .keeps .ensures .yes (not-false _ (c .if1 .left)))
-
-returns-2 : tie.Need-returns-2 Inv-loop μ-loop
-returns-2 c = says-yes (passed-all (c .before .loop .inv) (c .loop-test .left))
 
 pub keeps-all-spec : {M : Type 1} → statement M
 keeps-all-spec =
@@ -50,11 +35,11 @@ keeps-all-spec =
     (tie.spec
     Inv-loop
     μ-loop
-    promises-requires
+    (λ c κs. c .before .before .before .pre .0)
     loop-holds
-    keeps-requires
+    (λ c κs. c .before .before .before .before .before .before .pre)
     returns
-    add-k
-    loop-less
+    (λ c. omega arith)
+    (λ c. omega arith)
     loop-again
-    returns-2)
+    (λ c. says-yes (passed-all (c .before .loop .inv) (c .loop-test .left))))

@@ -19,27 +19,6 @@ Inv-loop book bytes numbers count end i₀ i = Passed (MovesAt (bookSystem book)
 abbrev μ-loop : tie.MeasureT-loop
 μ-loop book bytes numbers count end i₀ i = end - i
 
-count-of-requires : tie.Need-count-of-requires Inv-loop μ-loop
-count-of-requires c κs = search needs
-
-sub-end : tie.Need-sub-end Inv-loop μ-loop
-sub-end c = omega (arith, c .count-of .ensures, c .before .before .before .before .pre .1)
-
-loop-holds : tie.Need-loop-holds Inv-loop μ-loop
-loop-holds c = passed-none (omega (arith, c .count-of .ensures))
-
-add-next : tie.Need-add-next Inv-loop μ-loop
-add-next c = omega arith
-
-number-at-requires : tie.Need-number-at-requires Inv-loop μ-loop
-number-at-requires c κs = omega (arith, c .before .loop .inv .counted)
-
-number-at-requires-2 : tie.Need-number-at-requires-2 Inv-loop μ-loop
-number-at-requires-2 c κs = omega (arith, c .before .before .loop .inv .counted)
-
-moves-requires : tie.Need-moves-requires Inv-loop μ-loop
-moves-requires c κs = c .before .before .before .before .before .before .before .before .pre .0
-
 returns : tie.Need-returns Inv-loop μ-loop
 returns c =
     let a = c .before .before .before .before .before .before .before .before .before .before .args in
@@ -51,9 +30,6 @@ returns c =
     (move-says _ (c .before .before .before .number-at .ensures) (c .before .before .number-at2 .ensures) (c .before .moves .ensures) .never
     (not-true _ (c .if1 .taken))))
     (each-moves S states moves))
-
-loop-less : tie.Need-loop-less Inv-loop μ-loop
-loop-less c = omega arith
 
 loop-again : tie.Need-loop-again Inv-loop μ-loop
 loop-again c =
@@ -74,14 +50,14 @@ moves-on-spec =
     (tie.spec
     Inv-loop
     μ-loop
-    count-of-requires
-    sub-end
-    loop-holds
-    add-next
-    number-at-requires
-    number-at-requires-2
-    moves-requires
+    (λ c κs. search needs)
+    (λ c. omega (arith, c .count-of .ensures, c .before .before .before .before .pre .1))
+    (λ c. passed-none (omega (arith, c .count-of .ensures)))
+    (λ c. omega arith)
+    (λ c κs. omega (arith, c .before .loop .inv .counted))
+    (λ c κs. omega (arith, c .before .before .loop .inv .counted))
+    (λ c κs. c .before .before .before .before .before .before .before .before .pre .0)
     returns
-    loop-less
+    (λ c. omega arith)
     loop-again
     returns-2)

@@ -7,14 +7,11 @@ use Rattle.serial.specs.Serial.{read, over}
 use Rattle.serial.proofs.front.Statement.{statement}
 use Rattle.serial.proofs.front.Tie as tie
 
-slice-aggregate-bytes : tie.Need-slice-aggregate-bytes
-slice-aggregate-bytes c = sym (length-take-le _ _ (omega arith))
-
 pub front-spec : {M : Type 1} → statement M
 front-spec =
     tie.close
     (tie.spec
     (λ c. over (omega arith) refl refl)
-    slice-aggregate-bytes
+    (λ c. sym (length-take-le _ _ (omega arith)))
     (λ c κs. search needs)
     (λ c. read (omega arith) (c .answer-for .ensures)))

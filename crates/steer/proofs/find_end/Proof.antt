@@ -26,9 +26,6 @@ loop-holds c =
     let start = c .before .before .before .before .before .before in
     (refl, trail-starts (start .pre .0 .livables) (start .pre .0 .some) (c .first-place .result) (c .first-place .ensures) (start .pre .2))
 
-mul-met : tie.Need-mul-met Inv-loop μ-loop
-mul-met c = omega (arith, c .loop .inv .1 .inside, c .before .before .before .before .before .before .before .pre .1)
-
 slice-read-met : tie.Need-slice-read-met Inv-loop μ-loop
 slice-read-met c =
     let start = c .before .before .before .before .before .before .before .before in
@@ -115,9 +112,6 @@ loop-again c =
           (at-step .step .result .place) (at-step .step .result .aim) (at-step .step .ensures)),
     )
 
-same-length : tie.Need-same-length Inv-loop μ-loop
-same-length c = c .before .before .before .loop .inv .0
-
 returns : tie.Need-returns Inv-loop μ-loop
 returns c =
     let head = c .before .before .before in
@@ -137,7 +131,7 @@ find-end-spec =
     μ-loop
     first-place-requires
     loop-holds
-    mul-met
+    (λ c. omega (arith, c .loop .inv .1 .inside, c .before .before .before .before .before .before .before .pre .1))
     slice-read-met
     met-requires
     step-requires
@@ -149,5 +143,5 @@ find-end-spec =
     add-b
     loop-less
     loop-again
-    same-length
+    (λ c. c .before .before .before .loop .inv .0)
     returns)

@@ -17,24 +17,6 @@ Inv-loop table dist clauses count from k wanted x₀ x =
 abbrev μ-loop : tie.MeasureT-loop
 μ-loop table dist clauses count from k wanted x₀ x = k - x
 
-loop-holds : tie.Need-loop-holds Inv-loop μ-loop
-loop-holds c = (omega arith, λ y h. absurd (omega arith))
-
-add-at : tie.Need-add-at Inv-loop μ-loop
-add-at c = omega arith
-
-mul-d : tie.Need-mul-d Inv-loop μ-loop
-mul-d c = omega arith
-
-shared-slice-read-d : tie.Need-shared-slice-read-d Inv-loop μ-loop
-shared-slice-read-d c = omega arith
-
-mul-t : tie.Need-mul-t Inv-loop μ-loop
-mul-t c = omega arith
-
-shared-slice-read-t : tie.Need-shared-slice-read-t Inv-loop μ-loop
-shared-slice-read-t c = omega arith
-
 stands-at-requires : tie.Need-stands-at-requires Inv-loop μ-loop
 stands-at-requires c κs =
     let start = c .before .before .before .before .before .before .before in
@@ -45,19 +27,10 @@ returns c =
     let head = c .before .before .before .before .before in
     record { inside = omega arith; earlier = head .loop .inv .1; here = λ h. sym (c .before .stands-at .ensures) ∙ c .if1 .taken }
 
-add-x : tie.Need-add-x Inv-loop μ-loop
-add-x c = omega arith
-
-loop-less : tie.Need-loop-less Inv-loop μ-loop
-loop-less c = omega arith
-
 loop-again : tie.Need-loop-again Inv-loop μ-loop
 loop-again c =
     let head = c .before .before .before .before .before in
     (omega arith, below-more _ _ (head .loop .inv .1) (sym (c .before .stands-at .ensures) ∙ c .if1 .left))
-
-returns-2 : tie.Need-returns-2 Inv-loop μ-loop
-returns-2 c = record { inside = omega arith; earlier = c .before .loop .inv .1; here = λ h. absurd (omega arith) }
 
 pub first-at-spec : {M : Type 1} → statement M
 first-at-spec =
@@ -65,15 +38,15 @@ first-at-spec =
     (tie.spec
     Inv-loop
     μ-loop
-    loop-holds
-    add-at
-    mul-d
-    shared-slice-read-d
-    mul-t
-    shared-slice-read-t
+    (λ c. (omega arith, λ y h. absurd (omega arith)))
+    (λ c. omega arith)
+    (λ c. omega arith)
+    (λ c. omega arith)
+    (λ c. omega arith)
+    (λ c. omega arith)
     stands-at-requires
     returns
-    add-x
-    loop-less
+    (λ c. omega arith)
+    (λ c. omega arith)
     loop-again
-    returns-2)
+    (λ c. record { inside = omega arith; earlier = c .before .loop .inv .1; here = λ h. absurd (omega arith) }))

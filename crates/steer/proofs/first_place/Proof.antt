@@ -15,18 +15,6 @@ Inv-loop book table k place₀ place = (place ≤ k) × ((y : ℕ) → y < place
 abbrev μ-loop : tie.MeasureT-loop
 μ-loop book table k place₀ place = k - place
 
-loop-holds : tie.Need-loop-holds Inv-loop μ-loop
-loop-holds c = (omega arith, λ y h. absurd (omega arith))
-
-mul-first-state : tie.Need-mul-first-state Inv-loop μ-loop
-mul-first-state c = omega arith
-
-shared-slice-read-first-state : tie.Need-shared-slice-read-first-state Inv-loop μ-loop
-shared-slice-read-first-state c = omega arith
-
-first-state-requires : tie.Need-first-state-requires Inv-loop μ-loop
-first-state-requires c κs = c .before .before .before .before .before .pre .0
-
 returns : tie.Need-returns Inv-loop μ-loop
 returns c =
     let head = c .before .before .before .before in
@@ -36,19 +24,10 @@ returns c =
       here = λ h. sym (c .before .first-state .ensures) ∙ c .if1 .taken;
     }
 
-add-place : tie.Need-add-place Inv-loop μ-loop
-add-place c = omega arith
-
-loop-less : tie.Need-loop-less Inv-loop μ-loop
-loop-less c = omega arith
-
 loop-again : tie.Need-loop-again Inv-loop μ-loop
 loop-again c =
     let head = c .before .before .before .before in
     (omega arith, below-more _ _ (head .loop .inv .1) (sym (c .before .first-state .ensures) ∙ c .if1 .left))
-
-returns-2 : tie.Need-returns-2 Inv-loop μ-loop
-returns-2 c = record { inside = omega arith; earlier = c .before .loop .inv .1; here = λ h. absurd (omega arith) }
 
 pub first-place-spec : {M : Type 1} → statement M
 first-place-spec =
@@ -56,12 +35,12 @@ first-place-spec =
     (tie.spec
     Inv-loop
     μ-loop
-    loop-holds
-    mul-first-state
-    shared-slice-read-first-state
-    first-state-requires
+    (λ c. (omega arith, λ y h. absurd (omega arith)))
+    (λ c. omega arith)
+    (λ c. omega arith)
+    (λ c κs. c .before .before .before .before .before .pre .0)
     returns
-    add-place
-    loop-less
+    (λ c. omega arith)
+    (λ c. omega arith)
     loop-again
-    returns-2)
+    (λ c. record { inside = omega arith; earlier = c .before .loop .inv .1; here = λ h. absurd (omega arith) }))

@@ -5,11 +5,9 @@ use borrow.Author.Needs.{needs}
 use Rattle.steer.proofs.is_small.Statement.{statement}
 use Rattle.steer.proofs.is_small.Tie as tie
 
-returns : tie.Need-returns
-returns c = search needs
-
-returns-2 : tie.Need-returns-2
-returns-2 c = λ e. absurd (true≢false (sym e))
-
 pub is-small-spec : {M : Type 1} → statement M
-is-small-spec = tie.close (tie.spec returns returns-2)
+is-small-spec =
+    tie.close
+    (tie.spec
+    (λ c. search needs)
+    (λ c. λ e. absurd (true≢false (sym e))))

@@ -17,9 +17,6 @@ Inv-loop book table words dist₀ k p back queue₀ q₀ dist queue q =
 abbrev μ-loop : tie.MeasureT-loop
 μ-loop book table words dist₀ k p back queue₀ q₀ dist queue q = p - q
 
-loop-holds : tie.Need-loop-holds Inv-loop μ-loop
-loop-holds c = (omega arith, refl, λ q x h. absurd (omega arith), refl)
-
 mul-from : tie.Need-mul-from Inv-loop μ-loop
 mul-from c =
     let start = c .before .before .before .before .before .before .before .before in
@@ -40,12 +37,6 @@ distances-requires c κs =
       λ e. (start .pre .4 e .0, omega (arith, start .pre .4 e .1, c .before .before .before .loop .inv .3)),
     )
 
-add-q : tie.Need-add-q Inv-loop μ-loop
-add-q c = omega arith
-
-loop-less : tie.Need-loop-less Inv-loop μ-loop
-loop-less c = omega arith
-
 loop-again : tie.Need-loop-again Inv-loop μ-loop
 loop-again c =
     let at-distances = c .before .before .before .before in
@@ -57,12 +48,6 @@ loop-again c =
           (at-distances .distances .ensures .0) (head .loop .inv .2),
       at-distances .distances .ensures .1 ∙ head .loop .inv .3,
     )
-
-same-length : tie.Need-same-length Inv-loop μ-loop
-same-length c = c .before .loop .inv .1
-
-same-length-2 : tie.Need-same-length-2 Inv-loop μ-loop
-same-length-2 c = c .before .loop .inv .3
 
 returns : tie.Need-returns Inv-loop μ-loop
 returns c =
@@ -79,12 +64,12 @@ promise-rows-spec =
     (tie.spec
     Inv-loop
     μ-loop
-    loop-holds
+    (λ c. (omega arith, refl, λ q x h. absurd (omega arith), refl))
     mul-from
     distances-requires
-    add-q
-    loop-less
+    (λ c. omega arith)
+    (λ c. omega arith)
     loop-again
-    same-length
-    same-length-2
+    (λ c. c .before .loop .inv .1)
+    (λ c. c .before .loop .inv .3)
     returns)

@@ -9,12 +9,6 @@ use Rattle.steer.proofs.Distances.{rowed-of-none}
 use Rattle.steer.proofs.rows.Statement.{statement}
 use Rattle.steer.proofs.rows.Tie as tie
 
-promises-requires : tie.Need-promises-requires
-promises-requires c κs = search needs
-
-no-distances-requires : tie.Need-no-distances-requires
-no-distances-requires c κs = search needs
-
 promise-rows-requires : tie.Need-promise-rows-requires
 promise-rows-requires c κs =
     let start = c .before .before .before .before .before .before .before .before .before .before in (
@@ -24,9 +18,6 @@ promise-rows-requires c κs =
       subst (λ (y : ℕ). y * start .args .k ≤ length (start .args .dist .now)) (omega (arith, promises-are (start .args .book .now))) (start .pre .1),
       start .pre .2,
     )
-
-same-length : tie.Need-same-length
-same-length c = search needs
 
 returns : tie.Need-returns
 returns c =
@@ -38,24 +29,15 @@ returns c =
       long = at-no-distances .no-distances .ensures .long;
     }
 
-same-length-2 : tie.Need-same-length-2
-same-length-2 c = search needs
-
-same-length-3 : tie.Need-same-length-3
-same-length-3 c = search needs
-
-returns-2 : tie.Need-returns-2
-returns-2 c = search needs
-
 pub rows-spec : {M : Type 1} → statement M
 rows-spec =
     tie.close
     (tie.spec
-    promises-requires
-    no-distances-requires
+    (λ c κs. search needs)
+    (λ c κs. search needs)
     promise-rows-requires
-    same-length
+    (λ c. search needs)
     returns
-    same-length-2
-    same-length-3
-    returns-2)
+    (λ c. search needs)
+    (λ c. search needs)
+    (λ c. search needs))

@@ -8,25 +8,10 @@ use Rattle.steer.proofs.Nexts.{best-picked, next-not-nearer}
 use Rattle.steer.proofs.seek.Statement.{statement}
 use Rattle.steer.proofs.seek.Tie as tie
 
-mul-s : tie.Need-mul-s
-mul-s c = search needs
-
-shared-slice-read-s : tie.Need-shared-slice-read-s
-shared-slice-read-s c = search needs
-
-slice-aggregate-gather-next : tie.Need-slice-aggregate-gather-next
-slice-aggregate-gather-next c = search needs
-
-gather-next-requires : tie.Need-gather-next-requires
-gather-next-requires c κs = search needs
-
 mul-from : tie.Need-mul-from
 mul-from c =
     let start = c .before .before .before .before .before .before .before in
     omega (arith, row-within (start .pre .0) (start .args .aim) (start .pre .2))
-
-slice-aggregate-pick : tie.Need-slice-aggregate-pick
-slice-aggregate-pick c = search needs
 
 pick-requires : tie.Need-pick-requires
 pick-requires c κs =
@@ -55,11 +40,11 @@ pub seek-spec : {M : Type 1} → statement M
 seek-spec =
     tie.close
     (tie.spec
-    mul-s
-    shared-slice-read-s
-    slice-aggregate-gather-next
-    gather-next-requires
+    (λ c. search needs)
+    (λ c. search needs)
+    (λ c. search needs)
+    (λ c κs. search needs)
     mul-from
-    slice-aggregate-pick
+    (λ c. search needs)
     pick-requires
     returns)

@@ -6,9 +6,6 @@ use Rattle.steer.proofs.Papers.{laid-of, ground-of, steered-short, stee
 use Rattle.steer.proofs.walk.Statement.{statement}
 use Rattle.steer.proofs.walk.Tie as tie
 
-wipe-requires : tie.Need-wipe-requires
-wipe-requires c κs = search needs
-
 rows-requires : tie.Need-rows-requires
 rows-requires c κs =
     let at-wipe = c .before .before .before .before .before in
@@ -26,9 +23,6 @@ find-end-requires c κs =
       start .pre .2,
     )
 
-cast-long : tie.Need-cast-long
-cast-long c = search needs
-
 write-run-requires : tie.Need-write-run-requires
 write-run-requires c κs =
     let at-find-end = c .before .before .before .before .before in
@@ -44,22 +38,10 @@ write-run-requires c κs =
       start .pre .2,
     )
 
-cast-back : tie.Need-cast-back
-cast-back c = search needs
-
 same-length : tie.Need-same-length
 same-length c =
     let at-find-end = c .before .before .before .before .before .before .before .before in
     at-find-end .find-end .ensures .long ∙ at-find-end .before .before .before .before .before .before .before .before .before .before .before .before .before .wipe .ensures .long
-
-same-length-2 : tie.Need-same-length-2
-same-length-2 c = search needs
-
-same-length-3 : tie.Need-same-length-3
-same-length-3 c = search needs
-
-same-length-4 : tie.Need-same-length-4
-same-length-4 c = search needs
 
 returns : tie.Need-returns
 returns c =
@@ -73,15 +55,6 @@ returns c =
           (at-write-run .write-run .ensures) (omega (arith, at-if1 .if1 .taken));
       long = at-find-end .find-end .ensures .long ∙ at-wipe .wipe .ensures .long;
     }
-
-same-length-5 : tie.Need-same-length-5
-same-length-5 c = search needs
-
-same-length-6 : tie.Need-same-length-6
-same-length-6 c = search needs
-
-same-length-7 : tie.Need-same-length-7
-same-length-7 c = search needs
 
 returns-2 : tie.Need-returns-2
 returns-2 c =
@@ -97,18 +70,18 @@ pub walk-spec : {M : Type 1} → statement M
 walk-spec =
     tie.close
     (tie.spec
-    wipe-requires
+    (λ c κs. search needs)
     rows-requires
     find-end-requires
-    cast-long
+    (λ c. search needs)
     write-run-requires
-    cast-back
+    (λ c. search needs)
     same-length
-    same-length-2
-    same-length-3
-    same-length-4
+    (λ c. search needs)
+    (λ c. search needs)
+    (λ c. search needs)
     returns
-    same-length-5
-    same-length-6
-    same-length-7
+    (λ c. search needs)
+    (λ c. search needs)
+    (λ c. search needs)
     returns-2)

@@ -32,28 +32,16 @@ shared-slice-read-run c =
     let start = c .before .before .before .before .before .before .before .before .before in
     omega (arith, c .before .before .loop .inv .1 .inside, start .pre .0 .laid .in-table)
 
-mul-run-2 : tie.Need-mul-run-2 Inv-loop μ-loop
-mul-run-2 c = omega (arith, c .before .before .before .before .before .before .before .before .before .pre .0 .cut .few)
-
 slice-write-run : tie.Need-slice-write-run Inv-loop μ-loop
 slice-write-run c =
     let start = c .before .before .before .before .before .before .before .before .before in
     omega (arith, c .before .before .loop .inv .1 .long, start .pre .0 .fits, c .before .loop-test .taken)
-
-back-from-requires : tie.Need-back-from-requires Inv-loop μ-loop
-back-from-requires c κs = tt
 
 step-requires : tie.Need-step-requires Inv-loop μ-loop
 step-requires c κs =
     let head = c .before .before .before in
     let start = head .before .before .before .before .before .before .before in
     (start .pre .0 .laid, head .loop .inv .1 .inside, writing-aimed (start .pre .0 .laid .livables) (head .loop .inv .1), start .pre .1)
-
-add-i : tie.Need-add-i Inv-loop μ-loop
-add-i c = omega arith
-
-loop-less : tie.Need-loop-less Inv-loop μ-loop
-loop-less c = omega arith
 
 loop-again : tie.Need-loop-again Inv-loop μ-loop
 loop-again c =
@@ -65,9 +53,6 @@ loop-again c =
           (omega (arith, head .loop .inv .1 .long, start .pre .0 .fits, at-loop-test .loop-test .taken))
           (c .before .back-from .result) (c .step .result .place) (c .step .result .aim) (c .before .back-from .ensures) (c .step .ensures),
     )
-
-same-length : tie.Need-same-length Inv-loop μ-loop
-same-length c = c .before .loop .inv .1 .long
 
 returns : tie.Need-returns Inv-loop μ-loop
 returns c = writing-ends (c .before .before .before .before .before .before .before .before .pre .0 .laid .livables) (c .before .loop .inv .1) (omega arith)
@@ -82,12 +67,12 @@ write-run-spec =
     loop-holds
     mul-run
     shared-slice-read-run
-    mul-run-2
+    (λ c. omega (arith, c .before .before .before .before .before .before .before .before .before .pre .0 .cut .few))
     slice-write-run
-    back-from-requires
+    (λ c κs. tt)
     step-requires
-    add-i
-    loop-less
+    (λ c. omega arith)
+    (λ c. omega arith)
     loop-again
-    same-length
+    (λ c. c .before .loop .inv .1 .long)
     returns)

@@ -5,12 +5,6 @@ use Rattle.strike.proofs.Running.{wiped-strikable, stricken-from}
 use Rattle.strike.proofs.strike.Statement.{statement}
 use Rattle.strike.proofs.strike.Tie as tie
 
-wipe-requires : tie.Need-wipe-requires
-wipe-requires c κs = c .before .before .before .before .before .pre .in-words
-
-wipe-requires-2 : tie.Need-wipe-requires-2
-wipe-requires-2 c κs = c .before .before .before .before .before .before .before .before .before .pre .in-scratch
-
 strike-few-requires : tie.Need-strike-few-requires
 strike-few-requires c κs =
     let at-wipe2 = c .before .before .before .before .before in
@@ -56,8 +50,8 @@ pub strike-spec : {M : Type 1} → statement M
 strike-spec =
     tie.close
     (tie.spec
-    wipe-requires
-    wipe-requires-2
+    (λ c κs. c .before .before .before .before .before .pre .in-words)
+    (λ c κs. c .before .before .before .before .before .before .before .before .before .pre .in-scratch)
     strike-few-requires
     same-length
     same-length-2

@@ -9,9 +9,6 @@ use Rattle.strike.proofs.Storing.{rows-stored}
 use Rattle.strike.proofs.strike_many.Statement.{statement}
 use Rattle.strike.proofs.strike_many.Tie as tie
 
-store-requires : tie.Need-store-requires
-store-requires c κs = (strikable-storable _ _ _ _ _ (c .before .before .before .before .before .before .pre .0), refl, refl)
-
 array-share-prefix-forth : tie.Need-array-share-prefix-forth
 array-share-prefix-forth c =
     let kept = c .before .before .before .before .store .ensures in
@@ -46,7 +43,7 @@ strike-many-spec =
     (tie.spec
     (λ c. search needs)
     (λ c. search needs)
-    store-requires
+    (λ c κs. (strikable-storable _ _ _ _ _ (c .before .before .before .before .before .before .pre .0), refl, refl))
     array-share-prefix-forth
     slice-aggregate-rounds
     array-share-prefix-back

@@ -8,40 +8,16 @@ use Rattle.strikecheck.proofs.Entries.{entries-decide, accepted-rising,
 use Rattle.strikecheck.proofs.accepted.Statement.{statement}
 use Rattle.strikecheck.proofs.accepted.Tie as tie
 
-count-of-requires : tie.Need-count-of-requires
-count-of-requires c κs = search needs
-
-count-of-requires-2 : tie.Need-count-of-requires-2
-count-of-requires-2 c κs = search needs
-
-returns : tie.Need-returns
-returns c = says-no (λ h. c .if1 .taken (c .before .count-of2 .ensures ∙ h .as-many ∙ sym (c .before .before .count-of .ensures)))
-
-words-rise-requires : tie.Need-words-rise-requires
-words-rise-requires c κs = search needs
-
 returns-2 : tie.Need-returns-2
 returns-2 c =
     let as-many = sym (c .before .before .before .count-of2 .ensures) ∙ c .before .before .if1 .left ∙ c .before .before .before .before .count-of .ensures in
     says-no (λ h. c .before .words-rise .ensures .never (not-true _ (c .if2 .taken)) (accepted-rising as-many h))
-
-reasons-fit-requires : tie.Need-reasons-fit-requires
-reasons-fit-requires c κs = search needs
 
 returns-3 : tie.Need-returns-3
 returns-3 c =
     let counted = c .before .before .before .before in
     let as-many = sym (counted .before .count-of2 .ensures) ∙ counted .if1 .left ∙ counted .before .before .count-of .ensures in
     says-no (λ h. c .before .reasons-fit .ensures .never (not-true _ (c .if3 .taken)) (accepted-fit as-many h))
-
-all-lawful-requires : tie.Need-all-lawful-requires
-all-lawful-requires c κs = search needs
-
-returns-4 : tie.Need-returns-4
-returns-4 c = says-no (λ h. c .before .all-lawful .ensures .never (not-true _ (c .if4 .taken)) (h .lawful))
-
-all-different-requires : tie.Need-all-different-requires
-all-different-requires c κs = search needs
 
 firsts-listed-requires : tie.Need-firsts-listed-requires
 firsts-listed-requires c κs =
@@ -51,9 +27,6 @@ firsts-listed-requires c κs =
       within = omega arith;
       different = c .all-different .ensures;
     }
-
-returns-5 : tie.Need-returns-5
-returns-5 c = says-no (λ h. c .before .firsts-listed .ensures .never (not-true _ (c .if5 .taken)) (h .firsts))
 
 entries-right-requires : tie.Need-entries-right-requires
 entries-right-requires c κs =
@@ -85,17 +58,17 @@ pub accepted-spec : {M : Type 1} → statement M
 accepted-spec =
     tie.close
     (tie.spec
-    count-of-requires
-    count-of-requires-2
-    returns
-    words-rise-requires
+    (λ c κs. search needs)
+    (λ c κs. search needs)
+    (λ c. says-no (λ h. c .if1 .taken (c .before .count-of2 .ensures ∙ h .as-many ∙ sym (c .before .before .count-of .ensures))))
+    (λ c κs. search needs)
     returns-2
-    reasons-fit-requires
+    (λ c κs. search needs)
     returns-3
-    all-lawful-requires
-    returns-4
-    all-different-requires
+    (λ c κs. search needs)
+    (λ c. says-no (λ h. c .before .all-lawful .ensures .never (not-true _ (c .if4 .taken)) (h .lawful)))
+    (λ c κs. search needs)
     firsts-listed-requires
-    returns-5
+    (λ c. says-no (λ h. c .before .firsts-listed .ensures .never (not-true _ (c .if5 .taken)) (h .firsts)))
     entries-right-requires
     returns-6)

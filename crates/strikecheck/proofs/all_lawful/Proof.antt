@@ -18,36 +18,15 @@ Inv-loop book sb sn states i₀ i = Passed (λ j. bookSystem book .Lawful (getD 
 abbrev μ-loop : tie.MeasureT-loop
 μ-loop book sb sn states i₀ i = states - i
 
-count-of-requires : tie.Need-count-of-requires Inv-loop μ-loop
-count-of-requires c κs = search needs
-
-loop-holds : tie.Need-loop-holds Inv-loop μ-loop
-loop-holds c = passed-none (c .count-of .ensures)
-
-number-at-requires : tie.Need-number-at-requires Inv-loop μ-loop
-number-at-requires c κs = omega (arith, c .before .loop .inv .counted)
-
-lawful-requires : tie.Need-lawful-requires Inv-loop μ-loop
-lawful-requires c κs = c .before .before .before .before .before .before .before .pre
-
 returns : tie.Need-returns Inv-loop μ-loop
 returns c =
     says-no (failed-not-all (c .before .before .before .before .loop .inv) (c .before .before .before .loop-test .taken)
     (lawful-says _ (c .before .before .number-at .ensures) (c .before .lawful .ensures) .never (not-true _ (c .if1 .taken))))
 
-add-i : tie.Need-add-i Inv-loop μ-loop
-add-i c = omega arith
-
-loop-less : tie.Need-loop-less Inv-loop μ-loop
-loop-less c = omega arith
-
 loop-again : tie.Need-loop-again Inv-loop μ-loop
 loop-again c =
     passed-more (c .before .before .before .before .loop .inv) (c .before .before .before .loop-test .taken)
     (lawful-says _ (c .before .before .number-at .ensures) (c .before .lawful .ensures) .yes (not-false _ (c .if1 .left)))
-
-returns-2 : tie.Need-returns-2 Inv-loop μ-loop
-returns-2 c = says-yes (passed-all (c .before .loop .inv) (c .loop-test .left))
 
 pub all-lawful-spec : {M : Type 1} → statement M
 all-lawful-spec =
@@ -55,12 +34,12 @@ all-lawful-spec =
     (tie.spec
     Inv-loop
     μ-loop
-    count-of-requires
-    loop-holds
-    number-at-requires
-    lawful-requires
+    (λ c κs. search needs)
+    (λ c. passed-none (c .count-of .ensures))
+    (λ c κs. omega (arith, c .before .loop .inv .counted))
+    (λ c κs. c .before .before .before .before .before .before .before .pre)
     returns
-    add-i
-    loop-less
+    (λ c. omega arith)
+    (λ c. omega arith)
     loop-again
-    returns-2)
+    (λ c. says-yes (passed-all (c .before .loop .inv) (c .loop-test .left))))

@@ -4,18 +4,11 @@ use Rattle.strikecheck.proofs.Answers.{strikes-placed}
 use Rattle.strikecheck.proofs.check_strikes.Statement.{statement}
 use Rattle.strikecheck.proofs.check_strikes.Tie as tie
 
-slice-aggregate-check : tie.Need-slice-aggregate-check
-slice-aggregate-check c = search needs
-
-slice-aggregate-check-2 : tie.Need-slice-aggregate-check-2
-slice-aggregate-check-2 c = search needs
-
-check-requires : tie.Need-check-requires
-check-requires c κs = search needs
-
-returns : tie.Need-returns
-returns c = strikes-placed _ _ _ _ _ (c .check .ensures)
-
 pub check-strikes-spec : {M : Type 1} → statement M
 check-strikes-spec =
-    tie.close (tie.spec slice-aggregate-check slice-aggregate-check-2 check-requires returns)
+    tie.close
+    (tie.spec
+    (λ c. search needs)
+    (λ c. search needs)
+    (λ c κs. search needs)
+    (λ c. strikes-placed _ _ _ _ _ (c .check .ensures)))

@@ -23,40 +23,19 @@ Inv-loop book sb sn wb wn distinct states near₀ far₀ earlier₀ luck₀ last
 abbrev μ-loop : tie.MeasureT-loop
 μ-loop book sb sn wb wn distinct states near₀ far₀ earlier₀ luck₀ last₀ i₀ near far earlier luck last i = states - i
 
-count-of-requires : tie.Need-count-of-requires Inv-loop μ-loop
-count-of-requires c κs = search needs
-
-loop-holds : tie.Need-loop-holds Inv-loop μ-loop
-loop-holds c = (entered-none (c .count-of .ensures), refl)
-
-number-at-requires : tie.Need-number-at-requires Inv-loop μ-loop
-number-at-requires c κs = omega (arith, c .before .loop .inv .0 .entered .counted)
-
 number-at-requires-2 : tie.Need-number-at-requires-2 Inv-loop μ-loop
 number-at-requires-2 c κs =
     omega (arith, c .before .before .loop .inv .0 .entered .counted, c .before .before .before .before .before .before .before .before .before .pre .as-many)
-
-cast-limit : tie.Need-cast-limit Inv-loop μ-loop
-cast-limit c = omega arith
 
 reach-requires : tie.Need-reach-requires Inv-loop μ-loop
 reach-requires c κs =
     near-start (c .before .before .before .before .before .before .before .before .before .before .pre) (c .before .before .before .loop .inv .0)
     (c .before .before .loop-test .taken) (c .number-at2 .ensures)
 
-add-reach : tie.Need-add-reach Inv-loop μ-loop
-add-reach c = omega arith
-
 reach-requires-2 : tie.Need-reach-requires-2 Inv-loop μ-loop
 reach-requires-2 c κs =
     far-start (c .before .before .before .before .before .before .before .before .before .before .before .pre) (c .before .before .before .before .loop .inv .0)
     (c .before .before .before .loop-test .taken) (c .before .number-at2 .ensures)
-
-places-requires : tie.Need-places-requires Inv-loop μ-loop
-places-requires c κs = search needs
-
-slice-aggregate-likely : tie.Need-slice-aggregate-likely Inv-loop μ-loop
-slice-aggregate-likely c = sym (c .before .before .before .before .before .before .before .loop .inv .1)
 
 likely-requires : tie.Need-likely-requires Inv-loop μ-loop
 likely-requires c κs =
@@ -90,12 +69,6 @@ returns c =
     (placed .before .before .reach .ensures) (placed .before .reach2 .ensures) (placed .places .ensures) (test .entry-right .ensures) in
     says-no (failed-not-all (turn .before .loop .inv .0 .entered) (turn .loop-test .taken) (right .never (not-true _ (c .if1 .taken))))
 
-add-i : tie.Need-add-i Inv-loop μ-loop
-add-i c = omega arith
-
-loop-less : tie.Need-loop-less Inv-loop μ-loop
-loop-less c = omega arith
-
 loop-again : tie.Need-loop-again Inv-loop μ-loop
 loop-again c =
     let test = c .before .before in
@@ -109,12 +82,6 @@ loop-again c =
           (placed .before .before .reach .ensures) (placed .before .reach2 .ensures) (right .yes (not-false _ (c .before .if1 .left))),
       test .before .before .before .likely .ensures ∙ turn .before .loop .inv .1,
     )
-
-add-i-2 : tie.Need-add-i-2 Inv-loop μ-loop
-add-i-2 c = omega arith
-
-loop-less-2 : tie.Need-loop-less-2 Inv-loop μ-loop
-loop-less-2 c = omega arith
 
 loop-again-2 : tie.Need-loop-again-2 Inv-loop μ-loop
 loop-again-2 c =
@@ -130,33 +97,30 @@ loop-again-2 c =
       test .before .before .before .likely .ensures ∙ turn .before .loop .inv .1,
     )
 
-returns-2 : tie.Need-returns-2 Inv-loop μ-loop
-returns-2 c = says-yes (passed-all (c .before .loop .inv .0 .entered) (c .loop-test .left))
-
 pub entries-right-spec : {M : Type 1} → statement M
 entries-right-spec =
     tie.close
     (tie.spec
     Inv-loop
     μ-loop
-    count-of-requires
-    loop-holds
-    number-at-requires
+    (λ c κs. search needs)
+    (λ c. (entered-none (c .count-of .ensures), refl))
+    (λ c κs. omega (arith, c .before .loop .inv .0 .entered .counted))
     number-at-requires-2
-    cast-limit
+    (λ c. omega arith)
     reach-requires
-    add-reach
+    (λ c. omega arith)
     reach-requires-2
-    places-requires
-    slice-aggregate-likely
+    (λ c κs. search needs)
+    (λ c. sym (c .before .before .before .before .before .before .before .loop .inv .1))
     likely-requires
     follows-requires
     entry-right-requires
     returns
-    add-i
-    loop-less
+    (λ c. omega arith)
+    (λ c. omega arith)
     loop-again
-    add-i-2
-    loop-less-2
+    (λ c. omega arith)
+    (λ c. omega arith)
     loop-again-2
-    returns-2)
+    (λ c. says-yes (passed-all (c .before .loop .inv .0 .entered) (c .loop-test .left))))

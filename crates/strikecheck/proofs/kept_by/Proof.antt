@@ -7,17 +7,11 @@ use Rattle.strikecheck.proofs.Entries.{zero-keeps-none, kept-by-says}
 use Rattle.strikecheck.proofs.kept_by.Statement.{statement}
 use Rattle.strikecheck.proofs.kept_by.Tie as tie
 
-returns : tie.Need-returns
-returns c = says-no (zero-keeps-none _ _ _ (c .if1 .taken))
-
-sub-k : tie.Need-sub-k
-sub-k c = search needs
-
-kept-requires : tie.Need-kept-requires
-kept-requires c κs = search needs
-
-returns-2 : tie.Need-returns-2
-returns-2 c = kept-by-says _ _ _ (c .before .if1 .left) (kept-says _ _ refl (c .kept .ensures))
-
 pub kept-by-spec : {M : Type 1} → statement M
-kept-by-spec = tie.close (tie.spec returns sub-k kept-requires returns-2)
+kept-by-spec =
+    tie.close
+    (tie.spec
+    (λ c. says-no (zero-keeps-none _ _ _ (c .if1 .taken)))
+    (λ c. search needs)
+    (λ c κs. search needs)
+    (λ c. kept-by-says _ _ _ (c .before .if1 .left) (kept-says _ _ refl (c .kept .ensures))))

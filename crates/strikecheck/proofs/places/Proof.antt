@@ -3,11 +3,9 @@ use Rattle.strikecheck.proofs.Entries.{near-places, far-places}
 use Rattle.strikecheck.proofs.places.Statement.{statement}
 use Rattle.strikecheck.proofs.places.Tie as tie
 
-returns : tie.Need-returns
-returns c = near-places _ _ _ (c .if1 .taken)
-
-returns-2 : tie.Need-returns-2
-returns-2 c = far-places _ _ _ (c .if1 .left)
-
 pub places-spec : {M : Type 1} → statement M
-places-spec = tie.close (tie.spec returns returns-2)
+places-spec =
+    tie.close
+    (tie.spec
+    (λ c. near-places _ _ _ (c .if1 .taken))
+    (λ c. far-places _ _ _ (c .if1 .left)))

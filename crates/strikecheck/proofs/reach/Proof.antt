@@ -16,34 +16,10 @@ Inv-loop wb wn from limit words m₀ m = (words ≡ length (paper wb wn)) × Und
 abbrev μ-loop : tie.MeasureT-loop
 μ-loop wb wn from limit words m₀ m = words - m
 
-count-of-requires : tie.Need-count-of-requires Inv-loop μ-loop
-count-of-requires c κs = search needs
-
-loop-holds : tie.Need-loop-holds Inv-loop μ-loop
-loop-holds c = (c .count-of .ensures, c .before .before .before .pre)
-
-number-at-requires : tie.Need-number-at-requires Inv-loop μ-loop
-number-at-requires c κs = omega (arith, c .before .loop .inv .0)
-
-cast-word : tie.Need-cast-word Inv-loop μ-loop
-cast-word c = omega arith
-
-returns : tie.Need-returns Inv-loop μ-loop
-returns c = under-stops (c .before .before .before .loop .inv .1) (omega (arith, c .before .number-at .ensures, c .if1 .taken))
-
-add-m : tie.Need-add-m Inv-loop μ-loop
-add-m c = omega arith
-
-loop-less : tie.Need-loop-less Inv-loop μ-loop
-loop-less c = omega arith
-
 loop-again : tie.Need-loop-again Inv-loop μ-loop
 loop-again c =
     let inv = c .before .before .before .loop .inv in
     (inv .0, under-more (inv .1) (omega (arith, inv .0, c .before .before .loop-test .taken)) (omega (arith, c .before .number-at .ensures, c .if1 .left)))
-
-returns-2 : tie.Need-returns-2 Inv-loop μ-loop
-returns-2 c = let inv = c .before .loop .inv in under-ends (inv .1) (omega (arith, inv .0, c .loop-test .left))
 
 pub reach-spec : {M : Type 1} → statement M
 reach-spec =
@@ -51,12 +27,12 @@ reach-spec =
     (tie.spec
     Inv-loop
     μ-loop
-    count-of-requires
-    loop-holds
-    number-at-requires
-    cast-word
-    returns
-    add-m
-    loop-less
+    (λ c κs. search needs)
+    (λ c. (c .count-of .ensures, c .before .before .before .pre))
+    (λ c κs. omega (arith, c .before .loop .inv .0))
+    (λ c. omega arith)
+    (λ c. under-stops (c .before .before .before .loop .inv .1) (omega (arith, c .before .number-at .ensures, c .if1 .taken)))
+    (λ c. omega arith)
+    (λ c. omega arith)
     loop-again
-    returns-2)
+    (λ c. let inv = c .before .loop .inv in under-ends (inv .1) (omega (arith, inv .0, c .loop-test .left))))

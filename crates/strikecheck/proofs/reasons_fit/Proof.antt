@@ -17,21 +17,6 @@ Inv-loop book wb wn promises words i₀ i = Passed (λ j. getD (paper wb wn) j 0
 abbrev μ-loop : tie.MeasureT-loop
 μ-loop book wb wn promises words i₀ i = words - i
 
-promises-requires : tie.Need-promises-requires Inv-loop μ-loop
-promises-requires c κs = c .before .before .before .pre
-
-count-of-requires : tie.Need-count-of-requires Inv-loop μ-loop
-count-of-requires c κs = search needs
-
-loop-holds : tie.Need-loop-holds Inv-loop μ-loop
-loop-holds c = passed-none (c .count-of .ensures)
-
-number-at-requires : tie.Need-number-at-requires Inv-loop μ-loop
-number-at-requires c κs = omega (arith, c .before .loop .inv .counted)
-
-cast-reason : tie.Need-cast-reason Inv-loop μ-loop
-cast-reason c = omega arith
-
 returns : tie.Need-returns Inv-loop μ-loop
 unfolding bookSystem
 returns c =
@@ -44,12 +29,6 @@ returns c =
       c .if1 .taken,
       fits,
     )))
-
-add-i : tie.Need-add-i Inv-loop μ-loop
-add-i c = omega arith
-
-loop-less : tie.Need-loop-less Inv-loop μ-loop
-loop-less c = omega arith
 
 loop-again : tie.Need-loop-again Inv-loop μ-loop
 loop-again c =
@@ -66,13 +45,13 @@ reasons-fit-spec =
     (tie.spec
     Inv-loop
     μ-loop
-    promises-requires
-    count-of-requires
-    loop-holds
-    number-at-requires
-    cast-reason
+    (λ c κs. c .before .before .before .pre)
+    (λ c κs. search needs)
+    (λ c. passed-none (c .count-of .ensures))
+    (λ c κs. omega (arith, c .before .loop .inv .counted))
+    (λ c. omega arith)
     returns
-    add-i
-    loop-less
+    (λ c. omega arith)
+    (λ c. omega arith)
     loop-again
     returns-2)

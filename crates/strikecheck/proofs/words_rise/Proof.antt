@@ -14,39 +14,15 @@ Inv-loop wb wn words i₀ i = Risen (paper wb wn) words i
 abbrev μ-loop : tie.MeasureT-loop
 μ-loop wb wn words i₀ i = words - i
 
-count-of-requires : tie.Need-count-of-requires Inv-loop μ-loop
-count-of-requires c κs = search needs
-
-loop-holds : tie.Need-loop-holds Inv-loop μ-loop
-loop-holds c = risen-begins (c .count-of .ensures)
-
-sub-before : tie.Need-sub-before Inv-loop μ-loop
-sub-before c = omega (arith, c .before .loop .inv .begun)
-
-number-at-requires : tie.Need-number-at-requires Inv-loop μ-loop
-number-at-requires c κs = omega (arith, c .before .loop .inv .counted)
-
-number-at-requires-2 : tie.Need-number-at-requires-2 Inv-loop μ-loop
-number-at-requires-2 c κs = omega (arith, c .before .before .loop .inv .counted)
-
 returns : tie.Need-returns Inv-loop μ-loop
 returns c =
     says-no (fall-not-rising (c .before .before .before .before .loop .inv) (c .before .before .before .loop-test .taken)
     (omega (arith, c .before .before .number-at .ensures, c .before .number-at2 .ensures, c .if1 .taken)))
 
-add-i : tie.Need-add-i Inv-loop μ-loop
-add-i c = omega arith
-
-loop-less : tie.Need-loop-less Inv-loop μ-loop
-loop-less c = omega arith
-
 loop-again : tie.Need-loop-again Inv-loop μ-loop
 loop-again c =
     risen-more (c .before .before .before .before .loop .inv)
     (omega (arith, c .before .before .number-at .ensures, c .before .number-at2 .ensures, c .if1 .left))
-
-returns-2 : tie.Need-returns-2 Inv-loop μ-loop
-returns-2 c = says-yes (risen-all (c .before .loop .inv) (c .loop-test .left))
 
 pub words-rise-spec : {M : Type 1} → statement M
 words-rise-spec =
@@ -54,13 +30,13 @@ words-rise-spec =
     (tie.spec
     Inv-loop
     μ-loop
-    count-of-requires
-    loop-holds
-    sub-before
-    number-at-requires
-    number-at-requires-2
+    (λ c κs. search needs)
+    (λ c. risen-begins (c .count-of .ensures))
+    (λ c. omega (arith, c .before .loop .inv .begun))
+    (λ c κs. omega (arith, c .before .loop .inv .counted))
+    (λ c κs. omega (arith, c .before .before .loop .inv .counted))
     returns
-    add-i
-    loop-less
+    (λ c. omega arith)
+    (λ c. omega arith)
     loop-again
-    returns-2)
+    (λ c. says-yes (risen-all (c .before .loop .inv) (c .loop-test .left))))

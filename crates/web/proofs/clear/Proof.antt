@@ -12,21 +12,6 @@ Inv-loop counts₀ r i₀ counts i = (i ≤ r) × (length counts ≡ length coun
 abbrev μ-loop : tie.MeasureT-loop
 μ-loop counts₀ r i₀ counts i = r - i
 
-loop-holds : tie.Need-loop-holds Inv-loop μ-loop
-loop-holds c = (omega arith, refl)
-
-mul-counts : tie.Need-mul-counts Inv-loop μ-loop
-mul-counts c = omega arith
-
-slice-write-counts : tie.Need-slice-write-counts Inv-loop μ-loop
-slice-write-counts c = omega arith
-
-add-i : tie.Need-add-i Inv-loop μ-loop
-add-i c = omega arith
-
-loop-less : tie.Need-loop-less Inv-loop μ-loop
-loop-less c = omega arith
-
 loop-again : tie.Need-loop-again Inv-loop μ-loop
 loop-again c =
     let at-loop = c .before in
@@ -48,11 +33,11 @@ clear-spec =
     (tie.spec
     Inv-loop
     μ-loop
-    loop-holds
-    mul-counts
-    slice-write-counts
-    add-i
-    loop-less
+    (λ c. (omega arith, refl))
+    (λ c. omega arith)
+    (λ c. omega arith)
+    (λ c. omega arith)
+    (λ c. omega arith)
     loop-again
     same-length
     returns)

@@ -84,9 +84,6 @@ add-k c =
     let entry = c .before .before .before .before .before .before .before .before .before .before in
     let a = entry .pre .2 .long in omega arith
 
-loop-less : tie.Need-loop-less Inv-loop μ-loop
-loop-less c = omega arith
-
 loop-again : tie.Need-loop-again Inv-loop μ-loop
 loop-again c =
     let at-if1 = c .before in
@@ -104,9 +101,6 @@ add-k-2 : tie.Need-add-k-2 Inv-loop μ-loop
 add-k-2 c =
     let entry = c .before .before .before .before .before .before .before .before .before in
     let a = entry .pre .2 .long in omega arith
-
-loop-less-2 : tie.Need-loop-less-2 Inv-loop μ-loop
-loop-less-2 c = omega arith
 
 loop-again-2 : tie.Need-loop-again-2 Inv-loop μ-loop
 loop-again-2 c =
@@ -149,10 +143,10 @@ look-up-spec =
     add-to
     add-likely
     add-k
-    loop-less
+    (λ c. omega arith)
     loop-again
     add-k-2
-    loop-less-2
+    (λ c. omega arith)
     loop-again-2
     same-length-2
     returns-2)

@@ -8,15 +8,6 @@ use borrow.Author.Needs.{needs}
 use Rattle.web.proofs.row.Statement.{statement}
 use Rattle.web.proofs.row.Tie as tie
 
-next-states-requires : tie.Need-next-states-requires
-next-states-requires c κs = search needs
-
-add-result : tie.Need-add-result
-add-result c = search needs
-
-same-length : tie.Need-same-length
-same-length c = search needs
-
 returns : tie.Need-returns
 returns c =
     let at-next-states = c .before .before .before in
@@ -35,12 +26,6 @@ look-up-requires c κs =
       entry .pre .4,
     )
 
-same-length-2 : tie.Need-same-length-2
-same-length-2 c = search needs
-
-same-length-3 : tie.Need-same-length-3
-same-length-3 c = search needs
-
 returns-2 : tie.Need-returns-2
 returns-2 c =
     let at-look-up = c .before .before in
@@ -55,11 +40,11 @@ pub row-spec : {M : Type 1} → statement M
 row-spec =
     tie.close
     (tie.spec
-    next-states-requires
-    add-result
-    same-length
+    (λ c κs. search needs)
+    (λ c. search needs)
+    (λ c. search needs)
     returns
     look-up-requires
-    same-length-2
-    same-length-3
+    (λ c. search needs)
+    (λ c. search needs)
     returns-2)

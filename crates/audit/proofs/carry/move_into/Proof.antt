@@ -7,14 +7,10 @@ use Rattle.audit.proofs.carry.move_into.Reads as reads
 use Rattle.audit.proofs.carry.move_into.Lts as lts
 use Rattle.audit.proofs.tally.tally.Reads as tally-reads
 
-returns : tie.Need-returns
-returns c = moved-first _ _ _ _ (c .if1 .taken)
-
-tally-requires : tie.Need-tally-requires
-tally-requires c κs = search needs
-
-returns-2 : tie.Need-returns-2
-returns-2 c = moved-on _ _ _ _ _ _ _ (c .before .before .before .if1 .left) (c .tally .ensures)
-
 pub move-into-spec : {M : Type 1} → statement M
-move-into-spec = tie.close (tie.spec returns tally-requires returns-2)
+move-into-spec =
+    tie.close
+    (tie.spec
+    (λ c. moved-first _ _ _ _ (c .if1 .taken))
+    (λ c κs. search needs)
+    (λ c. moved-on _ _ _ _ _ _ _ (c .before .before .before .if1 .left) (c .tally .ensures)))

@@ -11,18 +11,6 @@ use Rattle.audit.proofs.carry.is_first.Reads as is-first-reads
 use Rattle.audit.proofs.carry.rule_told.Reads as rule-told-reads
 use Rattle.audit.proofs.carry.what_is.Reads as what-is-reads
 
-add-count : tie.Need-add-count
-add-count c = search needs
-
-what-is-requires : tie.Need-what-is-requires
-what-is-requires c κs = search needs
-
-is-first-requires : tie.Need-is-first-requires
-is-first-requires c κs = search needs
-
-rule-told-requires : tie.Need-rule-told-requires
-rule-told-requires c κs = search needs
-
 returns : tie.Need-returns
 returns c =
     noted-breach-numbers _ _ _ _ _ _ _ (c .before .before .before .what-is .ensures) (sym (c .before .before .is-first .ensures) ∙ c .before .if1 .taken)
@@ -35,4 +23,10 @@ returns-2 c =
 pub note-spec : {M : Type 1} → statement M
 note-spec =
     tie.close
-    (tie.spec add-count what-is-requires is-first-requires rule-told-requires returns returns-2)
+    (tie.spec
+    (λ c. search needs)
+    (λ c κs. search needs)
+    (λ c κs. search needs)
+    (λ c κs. search needs)
+    returns
+    returns-2)

@@ -17,37 +17,13 @@ abbrev μ-loop : tie.MeasureT-loop
 μ-loop numbers₀ from tallies i₀ numbers i = 255 - i
 
 -- src/numbers.rt:36:5
-loop-holds : tie.Need-loop-holds Inv-loop μ-loop
-loop-holds c = (omega arith, c .pre .1, copied-none _ _ _ _)
-
 -- src/numbers.rt:37:18
-add-at : tie.Need-add-at Inv-loop μ-loop
-add-at c = omega arith
-
 -- src/numbers.rt:38:23
-mul-numbers : tie.Need-mul-numbers Inv-loop μ-loop
-mul-numbers c = omega arith
-
 -- src/numbers.rt:38:23
-element-copy-out-numbers : tie.Need-element-copy-out-numbers Inv-loop μ-loop
-element-copy-out-numbers c = omega arith
-
 -- src/numbers.rt:38:9
-mul-numbers-2 : tie.Need-mul-numbers-2 Inv-loop μ-loop
-mul-numbers-2 c = omega arith
-
 -- src/numbers.rt:38:9
-element-write-numbers : tie.Need-element-write-numbers Inv-loop μ-loop
-element-write-numbers c = omega arith
-
 -- src/numbers.rt:39:9
-add-i : tie.Need-add-i Inv-loop μ-loop
-add-i c = omega arith
-
 -- src/numbers.rt:36:5
-loop-less : tie.Need-loop-less Inv-loop μ-loop
-loop-less c = omega arith
-
 -- src/numbers.rt:36:5
 loop-again : tie.Need-loop-again Inv-loop μ-loop
 loop-again c =
@@ -68,13 +44,13 @@ put-tallies-spec =
     (tie.spec
     Inv-loop
     μ-loop
-    loop-holds
-    add-at
-    mul-numbers
-    element-copy-out-numbers
-    mul-numbers-2
-    element-write-numbers
-    add-i
-    loop-less
+    (λ c. (omega arith, c .pre .1, copied-none _ _ _ _))
+    (λ c. omega arith)
+    (λ c. omega arith)
+    (λ c. omega arith)
+    (λ c. omega arith)
+    (λ c. omega arith)
+    (λ c. omega arith)
+    (λ c. omega arith)
     loop-again
     returns)

@@ -17,37 +17,13 @@ abbrev μ-loop : tie.MeasureT-loop
 μ-loop numbers from tallies₀ i₀ tallies i = 255 - i
 
 -- src/numbers.rt:22:5
-loop-holds : tie.Need-loop-holds Inv-loop μ-loop
-loop-holds c = (omega arith, refl, copied-none _ _ _ _)
-
 -- src/numbers.rt:23:18
-add-at : tie.Need-add-at Inv-loop μ-loop
-add-at c = omega arith
-
 -- src/numbers.rt:24:22
-mul-tallies : tie.Need-mul-tallies Inv-loop μ-loop
-mul-tallies c = omega arith
-
 -- src/numbers.rt:24:22
-element-copy-out-tallies : tie.Need-element-copy-out-tallies Inv-loop μ-loop
-element-copy-out-tallies c = omega arith
-
 -- src/numbers.rt:24:9
-mul-tallies-2 : tie.Need-mul-tallies-2 Inv-loop μ-loop
-mul-tallies-2 c = omega arith
-
 -- src/numbers.rt:24:9
-array-write-tallies : tie.Need-array-write-tallies Inv-loop μ-loop
-array-write-tallies c = omega arith
-
 -- src/numbers.rt:25:9
-add-i : tie.Need-add-i Inv-loop μ-loop
-add-i c = omega arith
-
 -- src/numbers.rt:22:5
-loop-less : tie.Need-loop-less Inv-loop μ-loop
-loop-less c = omega arith
-
 -- src/numbers.rt:22:5
 loop-again : tie.Need-loop-again Inv-loop μ-loop
 loop-again c =
@@ -69,13 +45,13 @@ tallies-at-spec =
     (tie.spec
     Inv-loop
     μ-loop
-    loop-holds
-    add-at
-    mul-tallies
-    element-copy-out-tallies
-    mul-tallies-2
-    array-write-tallies
-    add-i
-    loop-less
+    (λ c. (omega arith, refl, copied-none _ _ _ _))
+    (λ c. omega arith)
+    (λ c. omega arith)
+    (λ c. omega arith)
+    (λ c. omega arith)
+    (λ c. omega arith)
+    (λ c. omega arith)
+    (λ c. omega arith)
     loop-again
     returns)

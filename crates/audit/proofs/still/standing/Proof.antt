@@ -14,9 +14,6 @@ Inv-loop states from s i₀ i = (from ≤ i) × Standing states from s (i - from
 abbrev μ-loop : tie.MeasureT-loop
 μ-loop states from s i₀ i = length states - i
 
-loop-holds : tie.Need-loop-holds Inv-loop μ-loop
-loop-holds c = (omega arith, standing-none _ _ _ _ (c .pre) refl)
-
 loop-again : tie.Need-loop-again Inv-loop μ-loop
 loop-again c =
     let turn = c .before .before in
@@ -28,7 +25,7 @@ standing-spec =
     (tie.spec
     Inv-loop
     μ-loop
-    loop-holds
+    (λ c. (omega arith, standing-none _ _ _ _ (c .pre) refl))
     (λ c. omega arith)
     (λ c. omega arith)
     (λ c. omega (arith, c .before .before .before .loop .inv .0))

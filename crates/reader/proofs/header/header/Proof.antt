@@ -39,24 +39,12 @@ limited :
 unfolding byte
 limited c = le-leb _ 32 (c .if7 .left)
 
-refuse-requires : tie.Need-refuse-requires
-refuse-requires c κs = search needs
-
 returns : tie.Need-returns
 returns c =
     let d = c .before in
     let s = d .before .before .args .s .now in
     c .refuse .ensures
     ∙ size-bad s (⊎-elim (λ w. below 8 (length s) 4096 (w .taken)) (λ w. above 8 (length s) 4096 (ltb-true _ _ (w .1 .taken))) (d .if1 .came))
-
-shared-slice-read-version-ok : tie.Need-shared-slice-read-version-ok
-shared-slice-read-version-ok c = search needs
-
-version-ok-requires : tie.Need-version-ok-requires
-version-ok-requires c κs = search needs
-
-refuse-requires-2 : tie.Need-refuse-requires-2
-refuse-requires-2 c κs = search needs
 
 returns-2 : tie.Need-returns-2
 unfolding byte
@@ -66,18 +54,6 @@ returns-2 c =
     let d6 = d3 .before .before .before in
     c .refuse2 .ensures
     ∙ version-bad (d6 .args .s .now) (sized (d3)) (sym (d .before .version-ok .ensures) ∙ not-true _ (d .if3 .taken))
-
-shared-slice-read-stated-length : tie.Need-shared-slice-read-stated-length
-shared-slice-read-stated-length c = search needs
-
-shared-slice-read-stated-length-2 : tie.Need-shared-slice-read-stated-length-2
-shared-slice-read-stated-length-2 c = search needs
-
-stated-length-requires : tie.Need-stated-length-requires
-stated-length-requires c κs = search needs
-
-refuse-requires-3 : tie.Need-refuse-requires-3
-refuse-requires-3 c κs = search needs
 
 returns-3 : tie.Need-returns-3
 unfolding byte
@@ -89,12 +65,6 @@ returns-3 c =
     c .refuse3 .ensures
     ∙ length-bad (d10 .args .s .now) (sized (d7)) (versioned (d4))
     (ne-eqb _ _ (λ e. d .if4 .taken (d .before .stated-length .ensures ∙ e)))
-
-shared-slice-read-n : tie.Need-shared-slice-read-n
-shared-slice-read-n c = search needs
-
-refuse-requires-4 : tie.Need-refuse-requires-4
-refuse-requires-4 c κs = search needs
 
 returns-4 : tie.Need-returns-4
 unfolding byte
@@ -109,12 +79,6 @@ returns-4 c =
     ∙ letters-bad s (sized (d9)) (versioned (d6)) (stated (d2))
     (⊎-elim (λ w. below 1 (byte s 3) 24 (w .taken)) (λ w. above 1 (byte s 3) 24 (ltb-true _ _ (w .1 .taken))) (d .if5 .came))
 
-shared-slice-read-if7 : tie.Need-shared-slice-read-if7
-shared-slice-read-if7 c = search needs
-
-refuse-requires-5 : tie.Need-refuse-requires-5
-refuse-requires-5 c κs = search needs
-
 returns-5 : tie.Need-returns-5
 unfolding byte
 returns-5 c =
@@ -127,12 +91,6 @@ returns-5 c =
     c .refuse5 .ensures
     ∙ limits-bad (d15 .args .s .now) (sized (d12)) (versioned (d9)) (stated (d5)) (lettered (d2))
     (lt-leb _ 32 (d .if7 .taken))
-
-shared-slice-read-if8 : tie.Need-shared-slice-read-if8
-shared-slice-read-if8 c = search needs
-
-refuse-requires-6 : tie.Need-refuse-requires-6
-refuse-requires-6 c κs = search needs
 
 returns-6 : tie.Need-returns-6
 unfolding byte
@@ -164,24 +122,24 @@ pub header-spec : {M : Type 1} → statement M
 header-spec =
     tie.close
     (tie.spec
-    refuse-requires
+    (λ c κs. search needs)
     returns
-    shared-slice-read-version-ok
-    version-ok-requires
-    refuse-requires-2
+    (λ c. search needs)
+    (λ c κs. search needs)
+    (λ c κs. search needs)
     returns-2
-    shared-slice-read-stated-length
-    shared-slice-read-stated-length-2
-    stated-length-requires
-    refuse-requires-3
+    (λ c. search needs)
+    (λ c. search needs)
+    (λ c κs. search needs)
+    (λ c κs. search needs)
     returns-3
-    shared-slice-read-n
-    refuse-requires-4
+    (λ c. search needs)
+    (λ c κs. search needs)
     returns-4
-    shared-slice-read-if7
-    refuse-requires-5
+    (λ c. search needs)
+    (λ c κs. search needs)
     returns-5
-    shared-slice-read-if8
-    refuse-requires-6
+    (λ c. search needs)
+    (λ c κs. search needs)
     returns-6
     returns-7)

@@ -41,9 +41,6 @@ add-t11 : tie.Need-add-t11
 unfolding nextAt byte
 add-t11 c = omega arith
 
-returns : tie.Need-returns
-returns c = step-read (c .before .before .args .s .now) (c .before .before .args .at) (c .before .before .pre)
-
 pub step-parts-spec : {M : Type 1} → statement M
 step-parts-spec =
     tie.close
@@ -56,4 +53,4 @@ step-parts-spec =
     cast-a
     add-t10
     add-t11
-    returns)
+    (λ c. step-read (c .before .before .args .s .now) (c .before .before .args .at) (c .before .before .pre)))

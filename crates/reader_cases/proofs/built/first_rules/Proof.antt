@@ -9,49 +9,19 @@ Inv-loop sheet₀ at records k end₀ left₀ sheet end left = Unit
 abbrev μ-loop : tie.MeasureT-loop
 μ-loop sheet₀ at records k end₀ left₀ sheet end left = left
 
-loop-holds : tie.Need-loop-holds Inv-loop μ-loop
-loop-holds c = search needs
-
-put-requires : tie.Need-put-requires Inv-loop μ-loop
-put-requires c κs = search needs
-
-on-requires : tie.Need-on-requires Inv-loop μ-loop
-on-requires c κs = search needs
-
-rising-requires : tie.Need-rising-requires Inv-loop μ-loop
-rising-requires c κs = search needs
-
-on-requires-2 : tie.Need-on-requires-2 Inv-loop μ-loop
-on-requires-2 c κs = search needs
-
-on-requires-3 : tie.Need-on-requires-3 Inv-loop μ-loop
-on-requires-3 c κs = search needs
-
-sub-left : tie.Need-sub-left Inv-loop μ-loop
-sub-left c = search needs
-
-loop-less : tie.Need-loop-less Inv-loop μ-loop
-loop-less c = search needs
-
-loop-again : tie.Need-loop-again Inv-loop μ-loop
-loop-again c = search needs
-
-returns : tie.Need-returns Inv-loop μ-loop
-returns c = search needs
-
 pub first-rules-spec : {M : Type 1} → statement M
 first-rules-spec =
     tie.close
     (tie.spec
     Inv-loop
     μ-loop
-    loop-holds
-    put-requires
-    on-requires
-    rising-requires
-    on-requires-2
-    on-requires-3
-    sub-left
-    loop-less
-    loop-again
-    returns)
+    (λ c. search needs)
+    (λ c κs. search needs)
+    (λ c κs. search needs)
+    (λ c κs. search needs)
+    (λ c κs. search needs)
+    (λ c κs. search needs)
+    (λ c. search needs)
+    (λ c. search needs)
+    (λ c. search needs)
+    (λ c. search needs))

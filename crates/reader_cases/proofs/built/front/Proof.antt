@@ -14,14 +14,11 @@ slice-aggregate-show c =
     let within : s .n ≤ length (s .sheet .now) = omega arith in
     sym (length-take-le (s .n) (s .sheet .now) within)
 
-show-requires : tie.Need-show-requires
-show-requires c κs = search needs
-
-returns : tie.Need-returns
-returns c = search needs
-
-returns-2 : tie.Need-returns-2
-returns-2 c = search needs
-
 pub front-spec : {M : Type 1} → statement M
-front-spec = tie.close (tie.spec slice-aggregate-show show-requires returns returns-2)
+front-spec =
+    tie.close
+    (tie.spec
+    slice-aggregate-show
+    (λ c κs. search needs)
+    (λ c. search needs)
+    (λ c. search needs))

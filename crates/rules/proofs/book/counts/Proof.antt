@@ -8,12 +8,6 @@ use borrow.Author.Needs.{needs}
 use Rattle.rules.proofs.book.counts.Statement.{statement}
 use Rattle.rules.proofs.book.counts.Tie as tie
 
-shared-slice-read-letters : tie.Need-shared-slice-read-letters
-shared-slice-read-letters c = let h = good-header (c .before .args .sheet .now) (c .before .pre .0) .least in omega arith
-
-shared-slice-read-limits : tie.Need-shared-slice-read-limits
-shared-slice-read-limits c = let h = good-header (c .before .before .args .sheet .now) (c .before .before .pre .0) .least in omega arith
-
 shared-slice-read-firsts : tie.Need-shared-slice-read-firsts
 shared-slice-read-firsts c =
     let start = c .before .before .before in
@@ -44,9 +38,9 @@ pub counts-spec : {M : Type 1} → statement M
 counts-spec =
     tie.close
     (tie.spec
-    shared-slice-read-letters
+    (λ c. let h = good-header (c .before .args .sheet .now) (c .before .pre .0) .least in omega arith)
     (λ c. omega (arith, c .shared-slice-known .given 3))
-    shared-slice-read-limits
+    (λ c. let h = good-header (c .before .before .args .sheet .now) (c .before .before .pre .0) .least in omega arith)
     (λ c. omega (arith, c .shared-slice-known2 .given 4))
     shared-slice-read-firsts
     (λ c. omega (arith, c .shared-slice-known3 .given 5))

@@ -12,18 +12,6 @@ use Rattle.rules.proofs.book.row_at.Tie as tie
 abbrev at : tie.Start → Kind → ℕ
 at start k = rowAt (kindOf k) (start .args .i)
 
-returns : tie.Need-returns
-returns c = c .limit-at .ensures ∙ ap (at (c .before .before .before)) (sym (c .before .enum-told .given .1))
-
-returns-2 : tie.Need-returns-2
-returns-2 c = c .first-at .ensures ∙ ap (at (c .before .before .before)) (sym (c .before .enum-told2 .given .1))
-
-returns-3 : tie.Need-returns-3
-returns-3 c = c .step-at .ensures ∙ ap (at (c .before .before .before)) (sym (c .before .enum-told3 .given .1))
-
-returns-4 : tie.Need-returns-4
-returns-4 c = c .promise-at .ensures ∙ ap (at (c .before .before .before)) (sym (c .before .enum-told4 .given .1))
-
 pub row-at-spec : {M : Type 1} → statement M
 row-at-spec =
     tie.close
@@ -36,7 +24,7 @@ row-at-spec =
     (λ c κs. search needs)
     (λ c. search needs)
     (λ c κs. search needs)
-    returns
-    returns-2
-    returns-3
-    returns-4)
+    (λ c. c .limit-at .ensures ∙ ap (at (c .before .before .before)) (sym (c .before .enum-told .given .1)))
+    (λ c. c .first-at .ensures ∙ ap (at (c .before .before .before)) (sym (c .before .enum-told2 .given .1)))
+    (λ c. c .step-at .ensures ∙ ap (at (c .before .before .before)) (sym (c .before .enum-told3 .given .1)))
+    (λ c. c .promise-at .ensures ∙ ap (at (c .before .before .before)) (sym (c .before .enum-told4 .given .1))))

@@ -14,12 +14,6 @@ Inv-loop sheet start end held₀ unheld₀ at₀ held unheld at = Summed sheet s
 abbrev μ-loop : tie.MeasureT-loop
 μ-loop sheet start end held₀ unheld₀ at₀ held unheld at = end - at
 
-loop-holds : tie.Need-loop-holds Inv-loop μ-loop
-loop-holds c = none-summed _ _ _ (c .before .pre)
-
-shared-slice-read-b : tie.Need-shared-slice-read-b Inv-loop μ-loop
-shared-slice-read-b c = let w = c .before .before .before .before .pre .within in omega arith
-
 bit-of-requires : tie.Need-bit-of-requires Inv-loop μ-loop
 bit-of-requires c κs =
     let head = c .before .before in
@@ -27,9 +21,6 @@ bit-of-requires c κs =
     let a = start .args in
     let l = head .loop in
     next-named (a .sheet .now) (a .start) (a .end) (start .pre) (l .at) (l .held) (l .unheld) (l .inv) (c .before .loop-test .taken)
-
-is-positive-requires : tie.Need-is-positive-requires Inv-loop μ-loop
-is-positive-requires c κs = tt
 
 add-held : tie.Need-add-held Inv-loop μ-loop
 add-held c =
@@ -95,10 +86,10 @@ masks-of-spec =
     (tie.spec
     Inv-loop
     μ-loop
-    loop-holds
-    shared-slice-read-b
+    (λ c. none-summed _ _ _ (c .before .pre))
+    (λ c. let w = c .before .before .before .before .pre .within in omega arith)
     bit-of-requires
-    is-positive-requires
+    (λ c κs. tt)
     add-held
     (λ c. omega arith)
     (λ c. omega arith)

@@ -6,9 +6,6 @@ use Rattle.web.proofs.Layouts.{row-set}
 use Rattle.web.proofs.layout.set_row.Statement.{statement}
 use Rattle.web.proofs.layout.set_row.Tie as tie
 
-slice-write-moves-2 : tie.Need-slice-write-moves-2
-slice-write-moves-2 c = omega (arith, length-set (c .args .moves .now) (c .args .i) (c .args .start))
-
 pub set-row-spec : {M : Type 1} → statement M
 set-row-spec =
     tie.close
@@ -19,6 +16,6 @@ set-row-spec =
     (λ c. search needs)
     (λ c. search needs)
     (λ c. search needs)
-    slice-write-moves-2
+    (λ c. omega (arith, length-set (c .args .moves .now) (c .args .i) (c .args .start)))
     (λ c. search needs)
     (λ c. row-set _ _ _ _ (c .pre .1)))

@@ -17,12 +17,6 @@ abbrev μ-loop : tie.MeasureT-loop
 loop-holds : tie.Need-loop-holds Inv-loop μ-loop
 loop-holds c = listing-begins (c .before .args .s .now) (c .before .args .n) (c .before .args .self .at) (c .before .args .end) (c .before .pre .order)
 
-shared-slice-read-b : tie.Need-shared-slice-read-b Inv-loop μ-loop
-shared-slice-read-b c = omega arith
-
-names-letter-requires : tie.Need-names-letter-requires Inv-loop μ-loop
-names-letter-requires c κs = search needs
-
 returns : tie.Need-returns Inv-loop μ-loop
 returns c =
     let c3 = c .before .before .before in
@@ -31,9 +25,6 @@ returns c =
     let a = c6 .args in
     listing-names-none (a .s .now) (a .n) (a .end) (a .self .at) (c4 .loop .before) (c4 .loop .at) (c4 .loop .inv)
     (c3 .loop-test .taken) (c6 .pre .within) (sym (c .before .names-letter .ensures) ∙ not-true _ (c .if1 .taken))
-
-signed-below-requires : tie.Need-signed-below-requires Inv-loop μ-loop
-signed-below-requires c κs = search needs
 
 returns-2 : tie.Need-returns-2 Inv-loop μ-loop
 returns-2 c =
@@ -46,12 +37,6 @@ returns-2 c =
     listing-falls (a .s .now) (a .n) (a .end) (a .self .at) (c6 .loop .before) (c6 .loop .at) (c6 .loop .inv)
     (c5 .loop-test .taken) (c8 .pre .within)
     (sym (c3 .names-letter .ensures) ∙ not-false _ (c2 .if1 .left)) (sym (c .before .signed-below .ensures) ∙ not-true _ (c .if2 .taken))
-
-add-at : tie.Need-add-at Inv-loop μ-loop
-add-at c = omega arith
-
-loop-less : tie.Need-loop-less Inv-loop μ-loop
-loop-less c = omega arith
 
 loop-again : tie.Need-loop-again Inv-loop μ-loop
 loop-again c =
@@ -78,12 +63,12 @@ list-spec =
     Inv-loop
     μ-loop
     loop-holds
-    shared-slice-read-b
-    names-letter-requires
+    (λ c. omega arith)
+    (λ c κs. search needs)
     returns
-    signed-below-requires
+    (λ c κs. search needs)
     returns-2
-    add-at
-    loop-less
+    (λ c. omega arith)
+    (λ c. omega arith)
     loop-again
     returns-3)

@@ -18,18 +18,6 @@ returns c =
     let missing : length (a .s .now) < nextAt (a .s .now) (a .self .at) = omega arith in
     record-missing (kindOf (a .kind)) (a .n) (a .s .now) (a .self .at) missing
 
-shared-slice-read-len : tie.Need-shared-slice-read-len
-shared-slice-read-len c = search needs
-
-cast-len : tie.Need-cast-len
-cast-len c = omega (arith, c .shared-slice-known2 .given (c .before .before .before .args .self .at))
-
-add-start : tie.Need-add-start
-add-start c = search needs
-
-sub-if2 : tie.Need-sub-if2
-sub-if2 c = search needs
-
 returns-2 : tie.Need-returns-2
 unfolding nextAt byte
 returns-2 c =
@@ -44,22 +32,13 @@ limit-requires : tie.Need-limit-requires
 unfolding nextAt byte
 limit-requires c κs = record { letters = c .before .before .before .before .before .before .pre .letters; fits = omega arith }
 
-enum-told-2 : tie.Need-enum-told-2
-enum-told-2 c = search needs
-
 first-rule-requires : tie.Need-first-rule-requires
 unfolding nextAt byte
 first-rule-requires c κs = record { letters = c .before .before .before .before .before .before .pre .letters; fits = omega arith }
 
-enum-told-3 : tie.Need-enum-told-3
-enum-told-3 c = search needs
-
 step-rule-requires : tie.Need-step-rule-requires
 unfolding nextAt byte
 step-rule-requires c κs = record { letters = c .before .before .before .before .before .before .pre .letters; fits = omega arith }
-
-enum-told-4 : tie.Need-enum-told-4
-enum-told-4 c = search needs
 
 promise-requires : tie.Need-promise-requires
 unfolding nextAt byte
@@ -106,18 +85,18 @@ record-spec =
     tie.close
     (tie.spec
     returns
-    shared-slice-read-len
-    cast-len
-    add-start
-    sub-if2
+    (λ c. search needs)
+    (λ c. omega (arith, c .shared-slice-known2 .given (c .before .before .before .args .self .at)))
+    (λ c. search needs)
+    (λ c. search needs)
     returns-2
     enum-told
     limit-requires
-    enum-told-2
+    (λ c. search needs)
     first-rule-requires
-    enum-told-3
+    (λ c. search needs)
     step-rule-requires
-    enum-told-4
+    (λ c. search needs)
     promise-requires
     returns-3
     returns-4

@@ -18,18 +18,6 @@ loop-holds c =
     section-begins (kindOf (c .before .args .kind)) (c .before .args .n) (c .before .args .s .now) (c .before .args .count)
     (c .before .args .self .at) (c .before .pre .within)
 
-record-requires : tie.Need-record-requires Inv-loop μ-loop
-record-requires c κs = record { letters = c .before .before .before .pre .letters; within = c .before .loop .inv .within }
-
-enum-known-next : tie.Need-enum-known-next Inv-loop μ-loop
-enum-known-next c = search needs
-
-sub-left : tie.Need-sub-left Inv-loop μ-loop
-sub-left c = omega arith
-
-loop-less : tie.Need-loop-less Inv-loop μ-loop
-loop-less c = omega arith
-
 loop-again : tie.Need-loop-again Inv-loop μ-loop
 loop-again c =
     let c3 = c .before .before .before in
@@ -39,9 +27,6 @@ loop-again c =
     let a = c7 .args in
     section-goes-on (kindOf (a .kind)) (a .n) (a .s .now) (a .count) (a .self .at) (c5 .loop .left) (c5 .loop .c .at) (c5 .loop .inv)
     (c4 .loop-test .taken) (sym (c3 .«record» .ensures) ∙ c .before .next .given .1)
-
-enum-known-f : tie.Need-enum-known-f Inv-loop μ-loop
-enum-known-f c = search needs
 
 returns : tie.Need-returns Inv-loop μ-loop
 returns c =
@@ -66,11 +51,11 @@ records-spec =
     Inv-loop
     μ-loop
     loop-holds
-    record-requires
-    enum-known-next
-    sub-left
-    loop-less
+    (λ c κs. record { letters = c .before .before .before .pre .letters; within = c .before .loop .inv .within })
+    (λ c. search needs)
+    (λ c. omega arith)
+    (λ c. omega arith)
     loop-again
-    enum-known-f
+    (λ c. search needs)
     returns
     returns-2)

@@ -37,27 +37,15 @@ steps-in c =
     further-within s aStep (byte s 3) (byte s 6) (c .before .before .then-records .result) (c .then-records2 .result)
     (c .then-records2 .ensures) (firsts-in (c .before .before))
 
-shared-slice-read-n : tie.Need-shared-slice-read-n
-shared-slice-read-n c = search needs
-
-shared-slice-read-records : tie.Need-shared-slice-read-records
-shared-slice-read-records c = search needs
-
 records-requires : tie.Need-records-requires
 unfolding byte
 records-requires c κs =
     let asks = c .before .before .before .pre in
     record { letters = omega (arith, asks .letters); within = omega (arith, asks .least, asks .behind) }
 
-shared-slice-read-then-records : tie.Need-shared-slice-read-then-records
-shared-slice-read-then-records c = search needs
-
 then-records-requires : tie.Need-then-records-requires
 unfolding byte
 then-records-requires c κs = record { letters = omega (arith, c .before .before .before .before .before .pre .letters); within = limits-in (c .before) }
-
-shared-slice-read-then-records-2 : tie.Need-shared-slice-read-then-records-2
-shared-slice-read-then-records-2 c = search needs
 
 then-records-requires-2 : tie.Need-then-records-requires-2
 unfolding byte
@@ -65,17 +53,11 @@ then-records-requires-2 c κs =
     let c7 = c .before .before .before .before .before .before .before in
     record { letters = omega (arith, c7 .pre .letters); within = firsts-in (c .before) }
 
-shared-slice-read-then-records-3 : tie.Need-shared-slice-read-then-records-3
-shared-slice-read-then-records-3 c = search needs
-
 then-records-requires-3 : tie.Need-then-records-requires-3
 unfolding byte
 then-records-requires-3 c κs =
     let c9 = c .before .before .before .before .before .before .before .before .before in
     record { letters = omega (arith, c9 .pre .letters); within = steps-in (c .before) }
-
-then-end-requires : tie.Need-then-end-requires
-then-end-requires c κs = search needs
 
 returns : tie.Need-returns
 unfolding byte
@@ -91,14 +73,14 @@ pub sections-spec : {M : Type 1} → statement M
 sections-spec =
     tie.close
     (tie.spec
-    shared-slice-read-n
-    shared-slice-read-records
+    (λ c. search needs)
+    (λ c. search needs)
     records-requires
-    shared-slice-read-then-records
+    (λ c. search needs)
     then-records-requires
-    shared-slice-read-then-records-2
+    (λ c. search needs)
     then-records-requires-2
-    shared-slice-read-then-records-3
+    (λ c. search needs)
     then-records-requires-3
-    then-end-requires
+    (λ c κs. search needs)
     returns)

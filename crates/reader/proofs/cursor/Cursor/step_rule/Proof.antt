@@ -45,12 +45,6 @@ step-parts-requires c κs =
       count = subst (λ (i : ℕ). getD (a .s .now) i 0 < getD (a .s .now) (a .self .at) 0) (add-one (a .self .at)) (c .if2 .left);
     }
 
-list-requires : tie.Need-list-requires
-list-requires c κs = search needs
-
-enum-known-right : tie.Need-enum-known-right
-enum-known-right c = search needs
-
 list-requires-2 : tie.Need-list-requires-2
 unfolding byte
 list-requires-2 c κs =
@@ -69,9 +63,6 @@ list-requires-2 c κs =
       order = omega (arith, m .0, p .order-2);
       within = omega (arith, p .end, c10 .pre .fits);
     }
-
-enum-known-f : tie.Need-enum-known-f
-enum-known-f c = search needs
 
 returns-3 : tie.Need-returns-3
 unfolding byte
@@ -109,9 +100,9 @@ step-rule-spec =
     shared-slice-read-if2
     returns-2
     step-parts-requires
-    list-requires
-    enum-known-right
+    (λ c κs. search needs)
+    (λ c. search needs)
     list-requires-2
-    enum-known-f
+    (λ c. search needs)
     returns-3
     returns-4)
