@@ -10,6 +10,8 @@ use native.Mathlib.Omega.{arith}
 use borrow.Author.Tests.{eq-eqb, ne-eqb, lt-ltb, le-ltb, le-leb, lt-leb}
 use lib.Dec.{eqb}
 use lib.ListN.{getD}
+use Rattle.ground.specs.Says.{Says}
+use Rattle.ground.proofs.Saying.{says-as}
 use Rattle.rules.specs.Book.{bookLawful, bookFirst}
 use Rattle.audit.specs.Account.{Account, mostTallies, nothing, unlawful, brokeFirst, brokeStep}
 use Rattle.audit.specs.Carry.{mostMoments, PastCount, PastBy, SomePast}
@@ -118,23 +120,15 @@ none-past-next tallies i before here j h = by (decLt j i)
 pub none-past-all : (tallies : List ℕ) (i : ℕ) → NonePast tallies i → mostTallies ≤ i → SomePast tallies → ⊥
 none-past-all tallies i before all p = omega (arith, before (p .at) (omega (arith, p .within)), p .past)
 
--- True is not false, nor false true.
-pub true-not-false : {A : Type 0} → true ≡ false → A
-true-not-false e = let z : _≡_ {A = ℕ} 1 0 = ap (λ (b : Bool). cond b 1 0) e in absurd (omega arith)
-
-pub false-not-true : {A : Type 0} → false ≡ true → A
-false-not-true e = true-not-false (sym e)
-
 -- The broken tallies decide where the count and the kept ones are within the bound.
 pub past-by-broken : (account : Account) (more : ℕ) {r : Bool} → (PastCount (account .count) more → ⊥) → (SomePast (account .kept) → ⊥)
-    → (r ≡ true → SomePast (account .broken)) × (r ≡ false → SomePast (account .broken) → ⊥)
-    → (r ≡ true → PastBy account more) × (r ≡ false → PastBy account more → ⊥)
-past-by-broken account more {r} count kept (yes-broken, no-broken) = (λ e. inr (inr (yes-broken e)), never)
+    → Says (SomePast (account .broken)) r → Says (PastBy account more) r
+past-by-broken account more count kept says = says-as (λ p. inr (inr p)) back says
   where
-    never : r ≡ false → PastBy account more → ⊥
-    never e (inl p) = count p
-    never e (inr (inl p)) = kept p
-    never e (inr (inr p)) = no-broken e p
+    back : PastBy account more → SomePast (account .broken)
+    back (inl p) = absurd (count p)
+    back (inr (inl p)) = absurd (kept p)
+    back (inr (inr p)) = p
 
 -- An account that is not past the bound may be carried on.
 pub carriable : (account : Account) (more : ℕ) → (PastBy account more → ⊥) → Carriable account more

@@ -3,10 +3,10 @@
 // sheet reader and the compiled rules alone.
 use reader::Answer;
 ghost use mathlib.Core.Path.{_≡_};
-ghost use mathlib.Core.Bool.{true, false};
 ghost use mathlib.Core.Option.{none};
 ghost use lib.ListN.{length};
 ghost use Rattle.meaning.specs.Sheet.{firstFault};
+ghost use Rattle.ground.specs.Says.{Says};
 ghost use Rattle.audit.specs.Carry.{empty, SomePast, PastCount, PastBy, Audited, AuditedOut};
 ghost use Rattle.audit.specs.Book.{accountOf};
 
@@ -57,7 +57,7 @@ pub fn fresh() -> Account
 
 // Whether some tally is past the most moments.
 fn some_past(tallies: &[u32; TALLIES]) -> bool
-    ensures { λ r. ⌜ (r ≡ true → SomePast (now (tallies .entry))) × (r ≡ false → SomePast (now (tallies .entry)) → ⊥) ⌝ }
+    ensures { λ r. ⌜ Says (SomePast (now (tallies .entry))) r ⌝ }
 {
     let mut i: usize = 0;
     while i < TALLIES {
@@ -71,7 +71,7 @@ fn some_past(tallies: &[u32; TALLIES]) -> bool
 
 // Whether a count and a piece of `more` states are past the most moments.
 fn count_past(count: u32, more: usize) -> bool
-    ensures { λ r. ⌜ (r ≡ true → PastCount count more) × (r ≡ false → PastCount count more → ⊥) ⌝ }
+    ensures { λ r. ⌜ Says (PastCount count more) r ⌝ }
 {
     if count > MOMENTS {
         return true;
@@ -82,7 +82,7 @@ fn count_past(count: u32, more: usize) -> bool
 
 // Whether the account, or the account with a piece of `more` states, is past what an account may count.
 fn past(account: Account, more: usize) -> bool
-    ensures { λ r. ⌜ (r ≡ true → PastBy (accountOf account) more) × (r ≡ false → PastBy (accountOf account) more → ⊥) ⌝ }
+    ensures { λ r. ⌜ Says (PastBy (accountOf account) more) r ⌝ }
 {
     if count_past(account.count, more) {
         return true;

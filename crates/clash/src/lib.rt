@@ -75,9 +75,9 @@ fn clear(table: &mut [u32], words: &mut [u32], scratch: &mut [u32])
     ensures { λ _. ⌜ lentThree (now (table .exit)) (now (words .exit)) (now (scratch .exit))
         ≡ cleared (lentThree (now (table .entry)) (now (words .entry)) (now (scratch .entry))) ⌝ }
 {
-    judge::wipe(table, 0);
-    judge::wipe(words, 0);
-    judge::wipe(scratch, 0);
+    ground::wipe_from(table, 0);
+    ground::wipe_from(words, 0);
+    ground::wipe_from(scratch, 0);
 }
 
 // Whether numbers rise strictly and are all numbers of step rules, from 1 to `count`.

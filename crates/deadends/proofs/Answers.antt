@@ -1,6 +1,6 @@
 -- What the tests say, and what a search along the places has found. Assumes nothing.
 use mathlib.Core.Path.{_≡_, refl, sym, _∙_}
-use mathlib.Core.Bool.{Bool, true, false}
+use mathlib.Core.Bool.{true, false}
 use mathlib.Core.Logic.{inl, inr}
 use mathlib.Core.List.{List}
 use Prim.Native.Nat.{ℕ, _+_, _≤_, _<_}
@@ -10,28 +10,14 @@ use native.Mathlib.Omega.{arith}
 use lib.Dec.{eqb}
 use borrow.Author.Tests.{eqb-true, eqb-false}
 use lib.ListN.{getD}
+use Rattle.ground.specs.Says.{Says}
 use Rattle.rules.specs.Book.{NextClauses, bookLawful, bookSystem, clausesOk}
-use Rattle.rules.proofs.Facts.{passes, move-steps, steps-move}
-use Rattle.deadends.specs.Phases.{Says, Counts, Sought, none, found, Told}
-
--- A test that holds may say yes, and one that does not may say no.
-pub says-yes : {P : Type 0} → P → Says P true
-says-yes p = record { yes-so = λ e. p; no-so = λ e. absurd (passes false (sym e)) }
-
-pub says-no : {P : Type 0} → (P → ⊥) → Says P false
-says-no n = record { yes-so = λ e. absurd (passes false e); no-so = λ e. n }
-
--- An answer about P is one about what P is the same as.
-pub says-same : {P Q : Type 0} {b : Bool} → Says P b → (P → Q) → (Q → P) → Says Q b
-says-same s to back = record { yes-so = λ e. to (s .yes-so e); no-so = λ e q. s .no-so e (back q) }
-
--- An answer that is yes exactly where P holds.
-pub says-is : (P : Type 0) (b : Bool) → ((b ≡ true) → P) → (P → b ≡ true) → Says P b
-says-is P b to back = record { yes-so = to; no-so = λ e p. passes false (sym e ∙ back p) }
+use Rattle.rules.proofs.Facts.{move-steps, steps-move}
+use Rattle.deadends.specs.Phases.{Counts, Sought, none, found, Told}
 
 -- A word other than 0 counts exactly if it is the phase's own.
 pub counts-equal : (x v : ℕ) → (x ≡ 0 → ⊥) → Says (Counts v x) (eqb x v)
-counts-equal x v n = record { yes-so = λ e. inr (eqb-true x v e); no-so = λ e. by e }
+counts-equal x v n = record { yes = λ e. inr (eqb-true x v e); never = λ e. by e }
   where
     by : eqb x v ≡ false → Counts v x → ⊥
     by e (inl z) = n z

@@ -10,8 +10,8 @@ use native.Mathlib.Omega.{arith}
 use lib.ListN.{length, getD, set, length-set}
 use lib.Seq.{getD-set-same, getD-set-other}
 use Rattle.meaning.specs.Strike.{SavedBy}
+use Rattle.ground.proofs.Tests.{passes}
 use Rattle.rules.specs.Book.{bookSystem}
-use Rattle.rules.proofs.Facts.{passes}
 use Rattle.web.specs.Web.{To}
 use Rattle.distances.specs.Far.{Live}
 use Rattle.deadends.specs.Phases.{

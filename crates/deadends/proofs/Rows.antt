@@ -6,7 +6,8 @@ use native.Mathlib.Decide.{decLt, ℕ-discrete}
 use native.Mathlib.Numerals.{add-one}
 use native.Mathlib.Omega.{arith}
 use lib.ListN.{length, getD}
-use Rattle.web.specs.Layout.{mostPlaces, startAt, endAt, cellAt}
+use Rattle.meaning.specs.Promises.{mostStates}
+use Rattle.web.specs.Layout.{startAt, endAt, cellAt}
 use Rattle.web.specs.Web.{To, Forth}
 use Rattle.web.proofs.Both.{rows-has}
 use Rattle.deadends.specs.Phases.{Counts, none, found}
@@ -25,7 +26,7 @@ pub record RowPassed (i v lo : ℕ) (words forth : List ℕ) (e : ℕ) : Type 0 
   pub nothing : (d : ℕ) → startAt forth i ≤ d → d < e → StandsAt v lo words forth d → ⊥
 
 -- A place's row can be read.
-pub forth-readable : (book table : List ℕ) (r : ℕ) (forth : List ℕ) → r ≤ mostPlaces → Forth book table r forth → (i : ℕ) → i < r
+pub forth-readable : (book table : List ℕ) (r : ℕ) (forth : List ℕ) → r ≤ mostStates → Forth book table r forth → (i : ℕ) → i < r
     → (words : List ℕ) → r ≤ length words → Readable i words forth
 forth-readable book table r forth few F i inside words long = record {
   row = rows-has _ r forth (F .long) few (F .rows) i inside;

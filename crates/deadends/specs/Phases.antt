@@ -8,15 +8,10 @@ use lib.ListN.{length, getD}
 use Rattle.meaning.specs.System.{System}
 use Rattle.meaning.specs.Strike.{SavedBy}
 use Rattle.rules.specs.Book.{Shaped, bookLawful, bookSystem}
-use Rattle.web.specs.Layout.{mostPlaces}
+use Rattle.meaning.specs.Promises.{mostStates}
 use Rattle.web.specs.Web.{To}
 use Rattle.distances.specs.Far.{Live}
 use Rattle.distances.specs.Layers.{total}
-
--- a test's answer says exactly whether P holds
-pub record Says (P : Type 0) (b : Bool) : Type 0 where
-  pub yes-so : b ≡ true → P
-  pub no-so : b ≡ false → P → ⊥
 
 -- A word that counts as unstruck in the phase that gives the word v: 0, or v itself, since states fall together.
 abbrev pub Counts : ℕ → ℕ → Type 0
@@ -73,7 +68,7 @@ pub record Phased (S : System) (table : List ℕ) (r reason v : ℕ) (old new : 
 pub record Told (book table : List ℕ) (r : ℕ) : Type 0 where
   pub shaped : Shaped book
   pub in-table : r ≤ length table
-  pub few : r ≤ mostPlaces
+  pub few : r ≤ mostStates
   pub lawful : (i : ℕ) → i < r → bookLawful book (getD table i 0) ≡ true
 
 -- a phase may be run: no place has its word yet

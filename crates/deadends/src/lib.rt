@@ -5,8 +5,9 @@ ghost use mathlib.Core.Path.{_≡_};
 ghost use mathlib.Core.Bool.{true};
 ghost use Prim.Native.Nat.{_-_, _<_, _≤_};
 ghost use lib.ListN.{length, getD};
+ghost use Rattle.ground.specs.Says.{Says};
 ghost use Rattle.rules.specs.Book.{gatherSize, clausesOk, bookLawful};
-ghost use Rattle.deadends.specs.Phases.{Striking, PhaseDone, Told, Says, Counts, Sought, Pointing, Pending};
+ghost use Rattle.deadends.specs.Phases.{Striking, PhaseDone, Told, Counts, Sought, Pointing, Pending};
 ghost use Rattle.deadends.specs.Onward.{Readable, SoughtInRow, Onward};
 
 // Whether a word counts as unstruck in the phase that gives `word`: what fell in this very phase still does.

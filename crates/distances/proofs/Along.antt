@@ -8,11 +8,12 @@ use native.Mathlib.Numerals.{add-one}
 use native.Mathlib.Omega.{arith}
 use lib.ListN.{length, getD}
 use Rattle.meaning.specs.System.{System}
-use Rattle.web.specs.Layout.{mostPlaces}
+use Rattle.ground.specs.Listed.{Between}
+use Rattle.meaning.specs.Promises.{mostStates}
 use Rattle.web.specs.Web.{Rows}
 use Rattle.distances.specs.Far.{gone}
 use Rattle.distances.specs.Layers.{fars, Reaches, as-was, reached, Sure, Layered, Near}
-use Rattle.distances.specs.Follow.{Stands, LinedUp, Ready, Followed}
+use Rattle.distances.specs.Follow.{LinedUp, Ready, Followed}
 use Rattle.distances.proofs.Closed.{reaches-keeps, sure-spread, spread-here, shut-near}
 
 module _ (S : System) (G : ℕ → Type 0) (table words : List ℕ) (r : ℕ) where
@@ -23,7 +24,7 @@ module _ (S : System) (G : ℕ → Type 0) (table words : List ℕ) (r : ℕ) wh
     pub within : head ≤ tail
     pub lined : (t : ℕ) → t < tail → (getD queue t 0 < r) × (getD near (getD queue t 0) 0 ≤ t)
     pub rises : (t u : ℕ) → t ≤ u → u < tail → getD near (getD queue t 0) 0 ≤ getD near (getD queue u 0) 0
-    pub whole : (i : ℕ) → i < r → getD near i 0 < gone → Stands queue 0 tail i
+    pub whole : (i : ℕ) → i < r → getD near i 0 < gone → Between queue 0 tail i
     pub ahead : head < tail → (i : ℕ) → i < r → getD near i 0 < gone → getD near i 0 ≤ suc (getD near (getD queue head 0) 0)
     pub steps : (t i : ℕ) → t < head → i < r → getD words i 0 ≡ 0 → S .Move (getD table i 0) (getD table (getD queue t 0) 0)
         → getD near i 0 ≤ suc (getD near (getD queue t 0) 0)
@@ -41,13 +42,13 @@ module _ (S : System) (G : ℕ → Type 0) (table words : List ℕ) (r : ℕ) wh
     steps = λ t i h k z m. absurd (omega arith);
   }
 
-  module _ (starts ends cells : List ℕ) (rows : Rows (λ (j i : ℕ). S .Move (getD table i 0) (getD table j 0)) r starts ends cells) (few : r ≤ mostPlaces)
+  module _ (starts ends cells : List ℕ) (rows : Rows (λ (j i : ℕ). S .Move (getD table i 0) (getD table j 0)) r starts ends cells) (few : r ≤ mostStates)
       (near queue : List ℕ) (head tail : ℕ) (a : Along near queue head tail) where
     -- At the queue's end the values are the distances.
     pub along-done : tail ≤ head → Near S G table words r near
     along-done over = shut-near S G table words r near (a .sure) (λ i m h k z y v l. by i h z m v (a .whole m k l))
       where
-        by : (i : ℕ) → i < r → getD words i 0 ≡ 0 → (m : ℕ) → S .Move (getD table i 0) (getD table m 0) → Stands queue 0 tail m
+        by : (i : ℕ) → i < r → getD words i 0 ≡ 0 → (m : ℕ) → S .Move (getD table i 0) (getD table m 0) → Between queue 0 tail m
             → getD near i 0 ≤ suc (getD near m 0)
         by i h z m v (t, _, b, e) =
             let g = a .steps t i (omega arith) h z (subst (λ (x : ℕ). S .Move (getD table i 0) (getD table x 0)) (sym e) v) in
@@ -63,7 +64,7 @@ module _ (S : System) (G : ℕ → Type 0) (table words : List ℕ) (r : ℕ) wh
       number = getD near next 0
 
       -- The next place is one, and its number is small.
-      pub along-next : (next < r) × (number < mostPlaces)
+      pub along-next : (next < r) × (number < mostStates)
       along-next = let u = a .lined head more in let b = u .1 in let c = a .room in (u .0, omega arith)
 
       -- Its row may be followed, whatever number it is to give.
@@ -84,7 +85,7 @@ module _ (S : System) (G : ℕ → Type 0) (table words : List ℕ) (r : ℕ) wh
           (followed : Followed cells (getD starts next 0) (getD ends next 0) (number + 1) (length near) near new tail queue queue′ got) where
         -- a place in the next place's row
         abbrev Row : ℕ → Type 0
-        Row = Stands cells (getD starts next 0) (getD ends next 0)
+        Row = Between cells (getD starts next 0) (getD ends next 0)
 
         all : Followed cells (getD starts next 0) (getD ends next 0) (suc number) r near new tail queue queue′ got
         all =
@@ -146,16 +147,16 @@ module _ (S : System) (G : ℕ → Type 0) (table words : List ℕ) (r : ℕ) wh
                 let c = new-low (getD queue′ t 0) (p .0) (omega arith) in
                 omega arith
 
-        whole′ : (i : ℕ) → i < r → getD new i 0 < gone → Stands queue′ 0 (tail + got) i
+        whole′ : (i : ℕ) → i < r → getD new i 0 < gone → Between queue′ 0 (tail + got) i
         whole′ i h l = by (all .spread .each i h)
           where
-            old : Stands queue 0 tail i → Stands queue′ 0 (tail + got) i
+            old : Between queue 0 tail i → Between queue′ 0 (tail + got) i
             old (t, b, c, e) = (t, b, omega arith, all .joined .kept t c ∙ e)
 
-            joins : Stands queue′ tail (tail + got) i → Stands queue′ 0 (tail + got) i
+            joins : Between queue′ tail (tail + got) i → Between queue′ 0 (tail + got) i
             joins (t, b, c, e) = (t, omega arith, c, e)
 
-            by : Reaches (Row i) (suc number) (getD near i 0) (getD new i 0) → Stands queue′ 0 (tail + got) i
+            by : Reaches (Row i) (suc number) (getD near i 0) (getD new i 0) → Between queue′ 0 (tail + got) i
             by (as-was e f) = old (a .whole i h (omega arith))
             by (reached o p n) = joins (all .joined .whole i h o n)
 
@@ -208,7 +209,7 @@ module _ (S : System) (G : ℕ → Type 0) (table words : List ℕ) (r : ℕ) wh
 -- what is known of the next place of the queue, so that its row can be looked up
 pub record Next (near queue : List ℕ) (r head : ℕ) : Type 0 where
   pub place : getD queue head 0 < r
-  pub small : getD near (getD queue head 0) 0 < mostPlaces
+  pub small : getD near (getD queue head 0) 0 < mostStates
   pub early : head < r
   pub in-queue : head < length queue
   pub in-near : getD queue head 0 < length near
@@ -217,14 +218,14 @@ module _ (S : System) (G : ℕ → Type 0) (table words : List ℕ) (r : ℕ) (s
   -- the rows are the moves back, the queue is as long as it was, and the rows of its first `head` places were followed
   pub record Tracing (before queue near : List ℕ) (tail head : ℕ) : Type 0 where
     pub rows : Rows (λ (j i : ℕ). S .Move (getD table i 0) (getD table j 0)) r starts ends cells
-    pub few : r ≤ mostPlaces
+    pub few : r ≤ mostStates
     pub in-queue : r ≤ length queue
     pub same : length queue ≡ length before
     pub along : Along S G table words r near queue head tail
 
   -- Before the first turn.
   pub tracing-none : (queue near : List ℕ) (tail : ℕ) → Rows (λ (j i : ℕ). S .Move (getD table i 0) (getD table j 0)) r starts ends cells
-      → r ≤ mostPlaces → r ≤ length queue → Layered S G table words r 0 0 0 near → LinedUp near r tail queue → Tracing queue queue near tail 0
+      → r ≤ mostStates → r ≤ length queue → Layered S G table words r 0 0 0 near → LinedUp near r tail queue → Tracing queue queue near tail 0
   tracing-none queue near tail rows few long first l =
       record { rows = rows; few = few; in-queue = long; same = refl; along = along-none S G table words r near queue tail first l }
 

@@ -7,9 +7,10 @@ use native.Mathlib.Numerals.{add-one}
 use native.Mathlib.Omega.{arith}
 use lib.ListN.{length, getD, set, length-set}
 use lib.Seq.{getD-set-same, getD-set-other}
+use Rattle.ground.specs.Listed.{Between}
 use Rattle.distances.specs.Far.{far, gone}
 use Rattle.distances.specs.Layers.{fars, Reaches, as-was, reached, Spread}
-use Rattle.distances.specs.Follow.{Stands, LinedUp, Ready, Joined, Followed}
+use Rattle.distances.specs.Follow.{LinedUp, Ready, Joined, Followed}
 use Rattle.distances.proofs.Totals.{total-set}
 
 -- ---- lining up
@@ -27,7 +28,7 @@ module _ (near : List ℕ) (i tail : ℕ) (queue : List ℕ) (l : LinedUp near i
     whole = λ m h e. at m (ℕ-discrete m i) h e;
   })
     where
-      at : (m : ℕ) → Dec (m ≡ i) → m < suc i → getD near m 0 ≡ 0 → Stands queue 0 tail m
+      at : (m : ℕ) → Dec (m ≡ i) → m < suc i → getD near m 0 ≡ 0 → Between queue 0 tail m
       at m (yes q) h e = absurd (other (subst (λ (x : ℕ). getD near x 0 ≡ 0) q e))
       at m (no q) h e = l .whole m (omega arith) e
 
@@ -53,11 +54,11 @@ module _ (near : List ℕ) (i tail : ℕ) (queue : List ℕ) (l : LinedUp near i
           let a = u .0 in
           (omega arith, ap (λ (x : ℕ). getD near x 0) e ∙ u .1)
 
-      at : (m : ℕ) → Dec (m ≡ i) → m < suc i → getD near m 0 ≡ 0 → Stands (set queue tail i) 0 (tail + 1) m
+      at : (m : ℕ) → Dec (m ≡ i) → m < suc i → getD near m 0 ≡ 0 → Between (set queue tail i) 0 (tail + 1) m
       at m (yes q) h e = (tail, omega arith, omega arith, here ∙ sym q)
       at m (no q) h e = shift (l .whole m (omega arith) e)
         where
-          shift : Stands queue 0 tail m → Stands (set queue tail i) 0 (tail + 1) m
+          shift : Between queue 0 tail m → Between (set queue tail i) 0 (tail + 1) m
           shift (t, a, b, f) = (t, a, omega arith, getD-set-other queue tail t i 0 (λ g. omega arith) ∙ f)
 
 -- All places are lined up.
@@ -235,11 +236,11 @@ module _ (cells : List ℕ) (start end d r : ℕ) (old : List ℕ) (tail : ℕ) 
                   let c = ready .small in
                   omega arith
 
-          at : (i : ℕ) → Dec (i ≡ getD cells e 0) → i < r → getD old i 0 ≡ far → getD near′ i 0 ≡ d → Stands line′ tail (tail + (got + 1)) i
+          at : (i : ℕ) → Dec (i ≡ getD cells e 0) → i < r → getD old i 0 ≡ far → getD near′ i 0 ≡ d → Between line′ tail (tail + (got + 1)) i
           at i (yes q) h o n = (tail + got, omega arith, omega arith, last ∙ sym q)
           at i (no q) h o n = shift (row .joined .whole i h o (sym (getD-set-other near (getD cells e 0) i d 0 q) ∙ n))
             where
-              shift : Stands line tail (tail + got) i → Stands line′ tail (tail + (got + 1)) i
+              shift : Between line tail (tail + got) i → Between line′ tail (tail + (got + 1)) i
               shift (t, a, b, f) = (t, a, omega arith, getD-set-other line (tail + got) t (getD cells e 0) 0 (λ g. omega arith) ∙ f)
 
       -- A place that is not reached yet gets d and joins the queue.
@@ -281,8 +282,8 @@ module _ (cells : List ℕ) (start end d r : ℕ) (old : List ℕ) (tail : ℕ) 
     };
   }
     where
-      to : {m : ℕ} → InRow cells start end e m → Stands cells start end m
+      to : {m : ℕ} → InRow cells start end e m → Between cells start end m
       to (t, a, b, c, q) = (t, a, c, q)
 
-      from : {m : ℕ} → Stands cells start end m → InRow cells start end e m
+      from : {m : ℕ} → Between cells start end m → InRow cells start end e m
       from (t, a, c, q) = (t, a, omega arith, c, q)

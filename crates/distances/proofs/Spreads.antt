@@ -12,8 +12,9 @@ use borrow.Author.Tests.{eqb-true, eq-eqb}
 use lib.ListN.{length, getD, set, length-set}
 use lib.Seq.{getD-set-same, getD-set-other}
 use Rattle.meaning.specs.Strike.{Way}
+use Rattle.ground.proofs.Tests.{passes}
 use Rattle.rules.specs.Book.{bookSystem}
-use Rattle.rules.proofs.Facts.{passes, kept-is, kept-true}
+use Rattle.rules.proofs.Facts.{kept-is, kept-true}
 use Rattle.distances.specs.Far.{Live, far, gone}
 use Rattle.distances.specs.Layers.{Begun, out, there, waits, fars, Reaches, as-was, reached, Spread, Done, Opening, keptIn}
 use Rattle.distances.proofs.Totals.{total-set-past}

@@ -4,8 +4,9 @@ use mathlib.Core.Path.{_≡_}
 use mathlib.Core.List.{List}
 use Prim.Native.Nat.{ℕ, _+_, _≤_, _<_}
 use lib.ListN.{length, getD}
+use Rattle.ground.specs.Listed.{Between}
 use Rattle.web.specs.Web.{Back}
-use Rattle.web.specs.Layout.{mostPlaces}
+use Rattle.meaning.specs.Promises.{mostStates}
 use Rattle.distances.specs.Far.{far, gone}
 use Rattle.distances.specs.Layers.{fars, Spread}
 
@@ -13,15 +14,11 @@ use Rattle.distances.specs.Layers.{fars, Spread}
 abbrev pub Followable : (book table : List ℕ) (r : ℕ) (back queue : List ℕ) → Type 0
 Followable book table r back queue = (length back ≡ 0 → ⊥) → Back book table r back × (r ≤ length queue)
 
--- place i stands in a list, from `start` on and before `end`
-abbrev pub Stands : (list : List ℕ) (start end i : ℕ) → Type 0
-Stands list start end i = (t : ℕ) × (start ≤ t) × (t < end) × (getD list t 0 ≡ i)
-
 -- of the first n places exactly those at 0 stand in the queue's first `tail`, and there is room for those not reached yet
 pub record LinedUp (near : List ℕ) (n tail : ℕ) (queue : List ℕ) : Type 0 where
   pub room : tail + fars near n ≤ n
   pub zeros : (t : ℕ) → t < tail → (getD queue t 0 < n) × (getD near (getD queue t 0) 0 ≡ 0)
-  pub whole : (i : ℕ) → i < n → getD near i 0 ≡ 0 → Stands queue 0 tail i
+  pub whole : (i : ℕ) → i < n → getD near i 0 ≡ 0 → Between queue 0 tail i
 
 -- a row may be followed: its cells are places, and the queue has room for those not reached yet
 pub record Ready (cells : List ℕ) (start end d r : ℕ) (near queue : List ℕ) (tail : ℕ) : Type 0 where
@@ -29,7 +26,7 @@ pub record Ready (cells : List ℕ) (start end d r : ℕ) (near queue : List ℕ
   pub places : (e : ℕ) → start ≤ e → e < end → getD cells e 0 < r
   pub small : d < gone
   pub long : length near ≡ r
-  pub few : r ≤ mostPlaces
+  pub few : r ≤ mostStates
   pub in-queue : r ≤ length queue
   pub room : tail + fars near r ≤ r
 
@@ -39,9 +36,9 @@ pub record Joined (d r : ℕ) (old new : List ℕ) (tail : ℕ) (queue queue′ 
   pub kept : (t : ℕ) → t < tail → getD queue′ t 0 ≡ getD queue t 0
   pub added : (t : ℕ) → tail ≤ t → t < tail + got
       → (getD queue′ t 0 < r) × (getD old (getD queue′ t 0) 0 ≡ far) × (getD new (getD queue′ t 0) 0 ≡ d)
-  pub whole : (i : ℕ) → i < r → getD old i 0 ≡ far → getD new i 0 ≡ d → Stands queue′ tail (tail + got) i
+  pub whole : (i : ℕ) → i < r → getD old i 0 ≡ far → getD new i 0 ≡ d → Between queue′ tail (tail + got) i
 
 -- a row is followed: exactly its places that were not reached yet have d now, and have joined the queue
 pub record Followed (cells : List ℕ) (start end d r : ℕ) (old new : List ℕ) (tail : ℕ) (queue queue′ : List ℕ) (got : ℕ) : Type 0 where
-  pub spread : Spread (Stands cells start end) d r old new got
+  pub spread : Spread (Between cells start end) d r old new got
   pub joined : Joined d r old new tail queue queue′ got

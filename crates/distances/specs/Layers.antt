@@ -9,7 +9,7 @@ use lib.ListN.{length, getD}
 use Rattle.meaning.specs.System.{System}
 use Rattle.meaning.specs.Strike.{Way}
 use Rattle.rules.specs.Book.{Shaped, promisesOf, bookLawful, bookKept, packClear, bookSystem}
-use Rattle.web.specs.Layout.{mostPlaces}
+use Rattle.meaning.specs.Promises.{mostStates}
 use Rattle.distances.specs.Far.{Live, far, gone, Place}
 
 -- what `distances` asks of the sheet and the table
@@ -18,7 +18,7 @@ pub record Measurable (book : List ℕ) (k : ℕ) (table words : List ℕ) (r : 
   pub promise : k < promisesOf book
   pub in-table : r ≤ length table
   pub in-words : r ≤ length words
-  pub few : r ≤ mostPlaces
+  pub few : r ≤ mostStates
   pub lawful : (i : ℕ) → i < r → bookLawful book (getD table i 0) ≡ true
 
 -- promise k is kept in s
@@ -95,9 +95,9 @@ pub record Spreadable (book table : List ℕ) (r d left : ℕ) (near : List ℕ)
   pub shaped : Shaped book
   pub in-table : r ≤ length table
   pub long : length near ≡ r
-  pub small : d < mostPlaces
+  pub small : d < mostStates
   pub left-is : left ≡ fars near r
-  pub room : left ≤ mostPlaces
+  pub room : left ≤ mostStates
 
 -- layer d is spread, and `got` places are reached by it: whatever the promise and the words are that the values before it speak of, the
 -- values now speak of them too

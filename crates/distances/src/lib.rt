@@ -9,7 +9,8 @@ ghost use lib.Dec.{eqb};
 ghost use lib.ListN.{length};
 ghost use Rattle.rules.specs.Book.{Shaped, gatherSize, packClear, bookSystem};
 ghost use Rattle.distances.specs.Far.{Measured, far, gone};
-ghost use Rattle.web.specs.Layout.{mostPlaces, startAt, endAt, cellsOf, HasRow};
+ghost use Rattle.meaning.specs.Promises.{mostStates};
+ghost use Rattle.web.specs.Layout.{startAt, endAt, cellsOf, HasRow};
 ghost use Rattle.web.specs.Web.{Back};
 ghost use Rattle.distances.specs.Layers.{Measurable, Begun, Opening, Spreadable, LayerDone, Spread, Near, keptIn, clearOf};
 ghost use Rattle.distances.specs.Follow.{Followable, LinedUp, Ready, Followed};
@@ -156,7 +157,7 @@ fn by_tests(
 
 // Puts the places at 0 into the queue, in order; how many those are.
 fn line_up(near: &[u16], r: usize, queue: &mut [u16]) -> usize
-    requires { ⌜ (r ≤ length (now near)) × (r ≤ length (now queue)) × (r ≤ mostPlaces) ⌝ }
+    requires { ⌜ (r ≤ length (now near)) × (r ≤ length (now queue)) × (r ≤ mostStates) ⌝ }
     ensures { λ n. ⌜ LinedUp (now (near .entry)) r n (now (queue .exit)) × (length (now (queue .exit)) ≡ length (now (queue .entry))) ⌝ }
 {
     let mut tail: usize = 0;

@@ -15,7 +15,7 @@ pub record Places (lent : Lent) (r : ℕ) : Type 0 where
   pub in-table : r ≤ length (lent .table)
   pub in-words : r ≤ length (lent .words)
   pub in-scratch : 2 * r ≤ length (lent .scratch)
-  pub small : r ≤ 16384
+  pub small : r ≤ mostStates
 
 -- What is at most C has room.
 pub capacity-places : (lent : Lent) (r : ℕ) → r ≤ capacity lent → Places lent r
@@ -24,7 +24,7 @@ capacity-places lent r h = record { in-table = omega arith; in-words = omega ari
 
 -- C by the lengths of three slices.
 pub capacity-is : (table words scratch run : List ℕ)
-    → min (min (length table) (length words)) (min (length scratch / 2) 16384) ≡ capacity (lentOf table words scratch run)
+    → min (min (length table) (length words)) (min (length scratch / 2) mostStates) ≡ capacity (lentOf table words scratch run)
 unfolding capacity
 capacity-is table words scratch run = refl
 

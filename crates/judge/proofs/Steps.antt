@@ -5,7 +5,7 @@ use Prim.Native.Nat.{ℕ, _/_, _≤_, _<_, min}
 use native.Mathlib.Omega.{arith}
 use lib.ListN.{length}
 use Rattle.meaning.specs.System.{System, CanBeKept, IsR}
-use Rattle.meaning.specs.Promises.{Lent, capacity}
+use Rattle.meaning.specs.Promises.{Lent, capacity, mostStates}
 use Rattle.meaning.proofs.Judging.{livable-kept}
 use Rattle.rules.specs.Book.{Shaped, bookSystem}
 use Rattle.explore.specs.Explored.{Explored, all, more}
@@ -31,7 +31,7 @@ returned-alike run t = record { table-long = t .table-long; words-long = t .word
 
 -- Above cap states were found, so R is above C.
 pub returned-crowded : {S : System} {cap r : ℕ} {table table₁ table′ words words₁ words′ scratch scratch₁ scratch′ : List ℕ} {j : Judgement} (run : List ℕ)
-    → j ≡ refused 11 0 0 → cap ≡ min (min (length table) (length words)) (min (length scratch / 2) 16384)
+    → j ≡ refused 11 0 0 → cap ≡ min (min (length table) (length words)) (min (length scratch / 2) mostStates)
     → Returned S cap table table₁ words words₁ scratch scratch₁ r → cap < r → LeftOver 0 0 table₁ words₁ scratch₁ table′ words′ scratch′
     → JudgedBy S (lentOf table words scratch run) (outcomeOf j (lentOf table′ words′ scratch′ run))
 returned-crowded {S} {cap} {r} {table} {table₁} {words = words} {words₁} {scratch = scratch} {scratch₁} run numbers is t above L =
@@ -49,7 +49,7 @@ returned-crowded {S} {cap} {r} {table} {table₁} {words = words} {words₁} {sc
 
 -- At most cap states were found: they are listed.
 pub returned-reached : {book : List ℕ} {cap r : ℕ} {table table₁ words words₁ scratch scratch₁ : List ℕ} (run : List ℕ) → Shaped book
-    → cap ≡ min (min (length table) (length words)) (min (length scratch / 2) 16384)
+    → cap ≡ min (min (length table) (length words)) (min (length scratch / 2) mostStates)
     → Returned (bookSystem book) cap table table₁ words words₁ scratch scratch₁ r → r ≤ cap → Reached book (lentOf table₁ words₁ scratch₁ run) r
 returned-reached {book} {cap} {r} {table} {table₁} {words} {words₁} {scratch} {scratch₁} run shaped is t few = by (t .explored)
   where
@@ -66,7 +66,7 @@ reached-places : {book : List ℕ} {lent : Lent} {r : ℕ} → Reached book lent
 reached-places {lent = lent} {r} h = capacity-places lent r (h .room)
 
 -- There are at most 16,384.
-pub reached-small : {book : List ℕ} {lent : Lent} {r : ℕ} → Reached book lent r → r ≤ 16384
+pub reached-small : {book : List ℕ} {lent : Lent} {r : ℕ} → Reached book lent r → r ≤ mostStates
 reached-small h = reached-places h .small
 
 -- What striking asks.
@@ -134,7 +134,7 @@ kept-places : {book : List ℕ} {lent : Lent} {k : ℕ} → Kept book lent k →
 kept-places {lent = lent} {k} h = capacity-places lent k (h .within)
 
 -- There are at most 16,384.
-pub kept-small : {book : List ℕ} {lent : Lent} {k : ℕ} → Kept book lent k → k ≤ 16384
+pub kept-small : {book : List ℕ} {lent : Lent} {k : ℕ} → Kept book lent k → k ≤ mostStates
 kept-small h = kept-places h .small
 
 -- They stand in the table.

@@ -1,12 +1,14 @@
 // The judge: reads a sheet, lists its reachable states, strikes those that nobody could keep, and hands over a sample run or a strike list
 // in the slices that it was lent. Its promise is `Judged` of the meaning; it asks nothing.
+use ground::MOST_STATES;
+use ground::lesser;
 use reader::Answer;
 ghost use mathlib.Core.Path.{_≡_};
 ghost use mathlib.Core.Option.{none};
 ghost use Prim.Native.Nat.{_≤_, _/_, min};
-ghost use lib.ListN.{length, take};
+ghost use lib.ListN.{length};
 ghost use Rattle.meaning.specs.Sheet.{firstFault};
-ghost use Rattle.meaning.specs.Promises.{Judged, JudgedOut, over, zeros};
+ghost use Rattle.meaning.specs.Promises.{mostStates, Judged, JudgedOut};
 ghost use Rattle.rules.specs.Book.{Shaped, bookSystem};
 ghost use Rattle.arrange.specs.Placing.{Orderable};
 ghost use Rattle.judge.specs.Judging.{lentOf, outcomeOf, refused, JudgedBy, Reached, Kept, LeftOver, StrikesWritten};
@@ -33,41 +35,22 @@ fn refusal(answer: u32, b: u32, place: u32) -> Judgement
     }
 }
 
-// Zeros from a place on.
-pub fn wipe(s: &mut [u32], from: usize)
-    requires { ⌜ from ≤ length (now s) ⌝ }
-    ensures { λ _. ⌜ now (s .exit) ≡ over (take from (now (s .entry))) (zeros (now (s .entry))) ⌝ }
-{
-    let mut i = from;
-    while i < s.len() {
-        s[i] = 0;
-        i += 1;
-    }
-}
-
 // Leaves the first t places of the table and the first w of the words; zeros everywhere else.
 fn leave(table: &mut [u32], words: &mut [u32], scratch: &mut [u32], t: usize, w: usize)
     requires { ⌜ (t ≤ length (now table)) × (w ≤ length (now words)) ⌝ }
     ensures { λ _.
         ⌜ LeftOver t w (now (table .entry)) (now (words .entry)) (now (scratch .entry)) (now (table .exit)) (now (words .exit)) (now (scratch .exit)) ⌝ }
 {
-    wipe(table, t);
-    wipe(words, w);
-    wipe(scratch, 0);
-}
-
-// The lesser of two numbers.
-fn lesser(a: usize, b: usize) -> usize
-    ensures { λ r. ⌜ r ≡ min a b ⌝ }
-{
-    if a < b { a } else { b }
+    ground::wipe_from(table, t);
+    ground::wipe_from(words, w);
+    ground::wipe_from(scratch, 0);
 }
 
 // C: the least of the table's length, the words' length, half the scratch length rounded down, and 16,384.
 fn room(table: usize, words: usize, scratch: usize) -> usize
-    ensures { λ r. ⌜ r ≡ min (min table words) (min (scratch / 2) 16384) ⌝ }
+    ensures { λ r. ⌜ r ≡ min (min table words) (min (scratch / 2) mostStates) ⌝ }
 {
-    lesser(lesser(table, words), lesser(scratch / 2, 16384))
+    lesser(lesser(table, words), lesser(scratch / 2, MOST_STATES))
 }
 
 // Leaves the strike list of r struck states: in order, then zeros.

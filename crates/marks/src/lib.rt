@@ -3,7 +3,7 @@ ghost use mathlib.Core.Path.{_≡_};
 ghost use Prim.Native.Nat.{_<_, _^_};
 ghost use lib.Bits.{bitOr};
 ghost use lib.Dec.{eqb};
-ghost use Rattle.marks.specs.Marks.{bit};
+ghost use Rattle.ground.specs.Bits.{bit};
 
 // Whether bit k is marked.
 pub fn met(word: u32, k: usize) -> bool

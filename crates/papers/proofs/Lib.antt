@@ -1,4 +1,3 @@
 pub mod Numbers
 pub mod Verdict
-pub mod Tests
 pub mod Loops

@@ -1,14 +1,11 @@
--- How a checker comes to its number and its place: what a test says (says-yes, says-no, says-test, and of two tests in turn), the sheet's fault
--- first (placed-faulty, placed-good), then 0 or 14 for the paper (accepts, refuses), and that what a checker accepts may be said in another way
--- (checked-as). Assumes nothing.
+-- How a checker comes to its number and its place: the sheet's fault first (placed-faulty, placed-good), then 0 or 14 for the paper (accepts,
+-- refuses), and that what a checker accepts may be said in another way (checked-as). Assumes nothing.
 use mathlib.Core.Path.{_≡_, refl, sym, _∙_, ap, subst}
 use mathlib.Core.Logic.{_↔_}
-use mathlib.Core.Bool.{Bool, true, false}
 use mathlib.Core.Option.{none}
 use mathlib.Core.List.{List}
 use Prim.Native.Nat.{ℕ}
 use native.Mathlib.Omega.{arith}
-use lib.Dec.{T}
 use Rattle.meaning.specs.System.{System}
 use Rattle.meaning.specs.Sheet.{firstFault, decode}
 use Rattle.meaning.specs.Rules.{systemOf}
@@ -18,29 +15,6 @@ use Rattle.meaning.proofs.Promised.{bad-not-good}
 use Rattle.reader.specs.declared.Fault as F
 use Rattle.reader.specs.Answer.{whyNumber}
 use Rattle.reader.proofs.Good.{Faulty}
-use Rattle.rules.proofs.Facts.{passed, passes}
-use Rattle.papers.specs.Paper.{Says}
-
--- ---- what a test says
-
--- True is not false.
-pub clash : {b : Bool} → b ≡ true → b ≡ false → ⊥
-clash p q = let z : _≡_ {A = ℕ} 0 1 = cc in omega arith
-
--- What holds is said by true, what does not by false.
-pub says-yes : {P : Type 0} → P → Says P true
-says-yes p = record { yes = λ e. p; never = λ e _. clash refl e }
-
-pub says-no : {P : Type 0} → (P → ⊥) → Says P false
-says-no n = record { yes = λ e. absurd (clash e refl); never = λ e. n }
-
--- A test's own value says whether it holds.
-pub says-test : {r : Bool} (b : Bool) → r ≡ b → Says (T b) r
-says-test b e = record { yes = λ t. passes b (sym e ∙ t); never = λ f h. clash (passed b h) (sym e ∙ f) }
-
--- A test says as much of what holds exactly if it does.
-pub says-as : {P Q : Type 0} {r : Bool} → (P → Q) → (Q → P) → Says P r → Says Q r
-says-as there back s = record { yes = λ t. there (s .yes t); never = λ f q. s .never f (back q) }
 
 -- ---- the sheet first
 

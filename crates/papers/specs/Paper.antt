@@ -1,7 +1,5 @@
 -- A part of a paper, its states or its words, as the checkers are handed it: bytes, numbers of four each, or numbers as they are. One of
--- the two is empty; the part stands for the numbers of both, those in bytes first. And what a yes-or-no test says. Assumes nothing.
-use mathlib.Core.Path.{_≡_}
-use mathlib.Core.Bool.{Bool, true, false}
+-- the two is empty; the part stands for the numbers of both, those in bytes first. Assumes nothing.
 use mathlib.Core.List.{List, _++_}
 use Prim.Native.Nat.{ℕ}
 use lib.ListN.{length, getD}
@@ -17,8 +15,3 @@ numberAt bytes numbers i = getD (paper bytes numbers) i 0
 
 abbrev pub countOf : (bytes numbers : List ℕ) → ℕ
 countOf bytes numbers = length (paper bytes numbers)
-
--- r says whether P is so
-pub record Says (P : Type 0) (r : Bool) : Type 0 where
-  pub yes : r ≡ true → P
-  pub never : r ≡ false → P → ⊥

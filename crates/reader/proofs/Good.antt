@@ -22,6 +22,7 @@ use Rattle.meaning.specs.Sheet.{literalsFault, listFault, recordFault, recordsF
 use Rattle.meaning.specs.Sheet.{Limit, StepRule, limitOf, stepOf, promiseOf, byte, bodyAt, nextAt, afterAt, bodies}
 use Rattle.meaning.specs.Sheet.{lettersIn, firstsAt, stepsAt, promisesAt, endAt, decode}
 use Rattle.meaning.proofs.Placing.{place-within}
+use Rattle.ground.proofs.Tests.{and-both}
 use Rattle.reader.specs.declared.Fault as F
 use Rattle.reader.specs.declared.Answer.{Answer}
 use Rattle.reader.specs.declared.Answer.the-variants.{Good, Bad}
@@ -116,13 +117,9 @@ passed false why at e = let z : _≡_ {A = ℕ} 0 1 = cc in absurd (omega arith)
 pub first-passed : (t : Bool) (why : Why) (at : ℕ) (later : Option Fault) → (unless t why at then later) ≡ none → (t ≡ true) × (later ≡ none)
 first-passed t why at later e = let both = then-none (unless t why at) later e in (passed t why at (both .0), both .1)
 
-both-true : (a b : Bool) → a && b ≡ true → (a ≡ true) × (b ≡ true)
-both-true true b e = (refl, e)
-both-true false b e = let z : _≡_ {A = ℕ} 0 1 = cc in absurd (omega arith)
-
 -- two bounds tested together
 pub within : (a b c d : ℕ) → leb a b && leb c d ≡ true → (a ≤ b) × (c ≤ d)
-within a b c d e = let both = both-true (leb a b) (leb c d) e in (leb-true a b (both .0), leb-true c d (both .1))
+within a b c d e = let both = and-both (leb a b) (leb c d) e in (leb-true a b (both .0), leb-true c d (both .1))
 
 -- ---- literals
 

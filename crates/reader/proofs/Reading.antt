@@ -11,6 +11,7 @@ use lib.ListN.{length, getD}
 use borrow.Author.Tests.{le-leb, lt-leb, eq-eqb, ne-eqb}
 use Rattle.meaning.specs.Sheet.{badShape, Fault, unless, _then_, signedBelow, names, literalsFault, listFault}
 use Rattle.meaning.specs.Sheet.{byte, bodyAt, nextAt, recordFault, stepOf, aLimit, aFirst, aStep, aPromise}
+use Rattle.ground.proofs.Tests.{second-false}
 use Rattle.reader.specs.declared.Why.the-variants.{BadLiteral, NotAscending, BadShape}
 use Rattle.reader.specs.declared.Fault as F
 use Rattle.reader.specs.declared.cursor.Cursor.{Cursor}
@@ -89,10 +90,6 @@ refused e d (some g) later q = sym q
 
 -- ---- one record
 
-and-false : (a b : Bool) → b ≡ false → a && b ≡ false
-and-false true b e = e
-and-false false b e = refl
-
 abbrev pub misshapen : ℕ → Step
 misshapen at = Refused (record { why = BadShape; at = at })
 
@@ -118,7 +115,7 @@ module _ (s : List ℕ) (n at : ℕ) (fits : nextAt s at ≤ length s) where
   unfolding recordStep recordFault
   limit-kind h k =
       let e = count-byte s at (omega arith) in
-      shapeless _ _ at _ (and-false (leb 2 (length (bodyAt s at))) _ (lt-leb (getD (bodyAt s at) 0 0) 1 (omega (arith, e))))
+      shapeless _ _ at _ (second-false (leb 2 (length (bodyAt s at))) _ (lt-leb (getD (bodyAt s at) 0 0) 1 (omega (arith, e))))
 
   -- a limit of good shape has the fault of its list
   pub limit-shaped :
@@ -168,7 +165,7 @@ module _ (s : List ℕ) (n at : ℕ) (fits : nextAt s at ≤ length s) where
   step-count h k =
       let e = count-byte s at h in
       shapeless _ _ at _
-      (and-false (leb 1 (length (bodyAt s at))) _ (lt-leb (getD (bodyAt s at) 0 0) (length (bodyAt s at) - 1) (omega (arith, e, sized))))
+      (second-false (leb 1 (length (bodyAt s at))) _ (lt-leb (getD (bodyAt s at) 0 0) (length (bodyAt s at) - 1) (omega (arith, e, sized))))
 
   module _ (p : StepParts) (r : StepRead s at p) (h : 1 ≤ byte s at) (k : getD s (at + 1) 0 < byte s at) where
     right-place : p .right ≡ at + 2 + getD (bodyAt s at) 0 0

@@ -10,6 +10,7 @@ use lib.ListN.{length}
 use borrow.Author.Tests.{le-leb, lt-leb}
 use native.Mathlib.Omega.{arith}
 use Rattle.meaning.specs.Sheet.{badSize, badVersion, badLength, badLetters, _then_, Fault, byte, lettersIn, firstFault}
+use Rattle.ground.proofs.Tests.{second-false}
 use Rattle.reader.specs.declared.Why.the-variants.{BadSize, BadVersion, BadLength, BadLetters, TooMany}
 use Rattle.reader.specs.declared.Fault as F
 use Rattle.reader.specs.declared.cursor.Cursor.{Cursor}
@@ -32,12 +33,8 @@ between a x b h k = ap (λ (t : Bool). t && leb x b) (le-leb a x h) ∙ le-leb x
 pub below : (a x b : ℕ) → x < a → leb a x && leb x b ≡ false
 below a x b h = ap (λ (t : Bool). t && leb x b) (lt-leb a x h)
 
-and-false : (t u : Bool) → u ≡ false → t && u ≡ false
-and-false true u e = e
-and-false false u e = refl
-
 pub above : (a x b : ℕ) → b < x → leb a x && leb x b ≡ false
-above a x b h = and-false (leb a x) (leb x b) (lt-leb x b h)
+above a x b h = second-false (leb a x) (leb x b) (lt-leb x b h)
 
 -- ---- the header's checks, each where those before it passed
 

@@ -1,43 +1,14 @@
 -- A book's tests as the facts of its system: a lawful state, a first state, a kept promise and a move are tests passed, and what is
 -- reached is lawful. The crates above take these facts from here and need not look into the system for them. Assumes nothing.
-use mathlib.Core.Path.{_≡_, refl, sym, subst}
-use mathlib.Core.Bool.{Bool, true, false, _&&_}
+use mathlib.Core.Path.{_≡_, refl}
+use mathlib.Core.Bool.{true, _&&_}
 use mathlib.Core.List.{List}
 use Prim.Native.Nat.{ℕ, zero, suc, _^_, _<_}
 use borrow.Author.Tests.{lt-ltb, ltb-true}
-use lib.Dec.{T, ltb}
+use lib.Dec.{ltb}
 use Rattle.meaning.specs.System.{Reachable}
+use Rattle.ground.proofs.Tests.{passed, passes, and-left, and-right, both-and}
 use Rattle.rules.specs.Book.{lettersOf, promisesOf, limitsOk, firstsOk, stepsOk, bookLawful, bookFirst, bookMoves, bookKept, bookSystem}
-
--- ---- tests
-
--- A test that passes is true.
-pub passed : (b : Bool) → T b → b ≡ true
-passed true t = refl
-passed false t = absurd t
-
--- A test that is true passes.
-pub passes : (b : Bool) → b ≡ true → T b
-passes b e = subst T (sym e) tt
-
--- A test does not answer both ways.
-pub no-both : (b : Bool) → b ≡ true → b ≡ false → ⊥
-no-both b p q = subst T q (passes b p)
-
--- Of two tests that are true together the first is true.
-pub and-left : (a b : Bool) → a && b ≡ true → a ≡ true
-and-left true b e = refl
-and-left false b e = e
-
--- So is the second.
-pub and-right : (a b : Bool) → a && b ≡ true → b ≡ true
-and-right true b e = e
-and-right false b e = absurd (passes false e)
-
--- Two tests that are true are true together.
-pub both-and : (a b : Bool) → a ≡ true → b ≡ true → a && b ≡ true
-both-and true b e h = h
-both-and false b e h = e
 
 -- ---- what the system says, and what the book tests
 

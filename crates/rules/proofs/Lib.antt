@@ -1,5 +1,4 @@
 pub mod Same
-pub mod Bit
 pub mod Masks
 pub mod Asking
 pub mod Rows
@@ -11,4 +10,5 @@ pub mod SectionLaws
 pub mod BookLaws
 pub mod Counting
 pub mod Facts
+pub mod Saying
 pub mod FreerLaws

@@ -13,9 +13,11 @@ use lib.Dec.{eqb}
 use borrow.Author.Tests.{eq-eqb, ne-eqb, eqb-true, eqb-false}
 use Rattle.meaning.specs.Sheet.{positive, size}
 use Rattle.meaning.specs.Rules.{holds, trueIn, countTrue, someTrue, allTrue}
+use Rattle.ground.specs.Bits.{bit}
+use Rattle.ground.proofs.Bits.{bit-none, bit-cases, bit-shifted, bit-added, and-set, set-below}
+use Rattle.ground.proofs.Ones.{ones-set, ones-and-set, ones-and-le}
 use Rattle.rules.specs.Book.{countOf, someOf, allOf}
 use Rattle.rules.specs.Literals.{agrees, maskOf, rank, Ordered}
-use Rattle.rules.proofs.Bit.{bit, bit-of-zero, bit-small, bit-other, ones-set, and-set, set-below, ones-and-set, ones-and-le}
 
 -- ---- one bit more in a mask
 
@@ -129,7 +131,7 @@ rank-of p b m k e q = ap₂ rank e q
 fresh :
     (p : Bool) (n before j : ℕ) (ls : List ℕ) → rank p (suc j) ≤ before → Ordered n before ls → bit j (maskOf p ls) ≡ 0
 unfolding maskOf
-fresh p n before j [] r o = bit-of-zero j
+fresh p n before j [] r o = bit-none j
 fresh p n before j (l ∷ ls) r o =
     by (agrees p (positive l)) refl (fresh p n _ j ls (omega arith) (o .3)) (λ r′. fresh p n _ (size l - 1) ls r′ (o .3))
   where
@@ -144,7 +146,7 @@ fresh p n before j (l ∷ ls) r o =
         let ne : size l - 1 ≡ j → ⊥ = λ (i : size l - 1 ≡ j). (
         let w = rank-of p (positive l) (suc j) (size l) q (ap suc (sym i) ∙ m) in
         omega arith) in
-        ap (bit j) (mask-same p l ls e) ∙ bit-other (size l - 1) j (maskOf p ls) ne (there (omega arith)) ∙ here
+        ap (bit j) (mask-same p l ls e) ∙ bit-added (size l - 1) j (maskOf p ls) ne (there (omega arith)) ∙ here
 
 -- what a list's masks tell: its letters are among n, and in any state they count and test as its literals do
 pub record Tells (n : ℕ) (ls : List ℕ) : Type 0 where
@@ -165,18 +167,20 @@ none-true n = record {
 }
 
 literal-positive : (s l : ℕ) → positive l ≡ true → trueIn s l ≡ eqb (bit (size l - 1) s) 1
-unfolding trueIn bit
-literal-positive s l e = ap (λ (t : Bool). cond t (holds s (size l)) (not (holds s (size l)))) e
+unfolding trueIn
+literal-positive s l e =
+    ap (λ (t : Bool). cond t (holds s (size l)) (not (holds s (size l)))) e ∙ ap (λ (x : ℕ). eqb x 1) (bit-shifted (size l - 1) s)
 
 literal-negative : (s l : ℕ) → positive l ≡ false → trueIn s l ≡ not (eqb (bit (size l - 1) s) 1)
-unfolding trueIn bit
-literal-negative s l e = ap (λ (t : Bool). cond t (holds s (size l)) (not (holds s (size l)))) e
+unfolding trueIn
+literal-negative s l e =
+    ap (λ (t : Bool). cond t (holds s (size l)) (not (holds s (size l)))) e ∙ ap (λ (x : ℕ). not (eqb x 1)) (bit-shifted (size l - 1) s)
 
 -- one more literal adds its bit to the mask of its sign
 literal-gains :
     (s l : ℕ) (ls : List ℕ) → bit (size l - 1) (maskOf (positive l) ls) ≡ 0
     → Gains s (maskOf true ls) (maskOf false ls) (maskOf true (l ∷ ls)) (maskOf false (l ∷ ls)) (trueIn s l)
-literal-gains s l ls z = by (positive l) refl (bit-small (size l - 1) s)
+literal-gains s l ls z = by (positive l) refl (bit-cases (size l - 1) s)
   where
     h : ℕ
     h = maskOf true ls

@@ -11,8 +11,8 @@ ghost use Rattle.rules.specs.Book.{bookSize, gatherSize, mostRules, rowA
 ghost use Rattle.rules.specs.Book.{lettersOf, limitsOf, firstsOf, stepsOf, promisesOf, Shaped, LimitRead, MasksRead};
 ghost use Rattle.rules.specs.Compile.{Counts};
 
-// A state, and a mask: a bit for each letter. A book's numbers are as wide.
-pub type State = u32;
+// A book's numbers are as wide as a state.
+pub use ground::State;
 
 // The most limits, first or step rules, and promises of a sheet.
 const MOST_LIMITS: usize = 32;

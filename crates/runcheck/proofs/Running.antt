@@ -11,7 +11,7 @@ use borrow.Author.Count.{below-more}
 use lib.ListN.{length, getD}
 use Rattle.meaning.specs.System.{System}
 use Rattle.meaning.specs.Papers.{RunAccepted}
-use Rattle.papers.specs.Paper.{Says}
+use Rattle.ground.specs.Says.{Says}
 use Rattle.runcheck.specs.Run.{MovesOn, KeptFrom, AllKept}
 
 -- ---- looking for promise k from a on

@@ -14,7 +14,8 @@ ghost use Prim.Native.Nat.{_≤_, _<_};
 ghost use Rattle.meaning.specs.Sheet.{firstFault};
 ghost use Rattle.meaning.specs.Papers.{RunAccepted};
 ghost use Rattle.meaning.specs.Promises.{Placed, RunPlaced, RunBytesChecked};
-ghost use Rattle.papers.specs.Paper.{paper, countOf, Says};
+ghost use Rattle.ground.specs.Says.{Says};
+ghost use Rattle.papers.specs.Paper.{paper, countOf};
 ghost use Rattle.rules.specs.Book.{Shaped, bookSystem};
 ghost use Rattle.runcheck.specs.Run.{MovesOn, KeptFrom, AllKept, PaperChecked};
 

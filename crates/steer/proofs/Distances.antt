@@ -14,10 +14,11 @@ use Rattle.meaning.specs.Strike.{Way}
 use Rattle.meaning.specs.Sample.{Met, Distance}
 use Rattle.meaning.proofs.SampleRun.{kept-of-met}
 use Rattle.meaning.proofs.Exists.{livable-way}
+use Rattle.ground.specs.Wiping.{Zeros}
 use Rattle.distances.specs.Far.{Live, far, Place, near, never, struck, Measured}
 use Rattle.rules.specs.Book.{bookSystem, promisesOf}
 use Rattle.rules.proofs.Facts.{promises-are}
-use Rattle.steer.specs.Walk.{Livables, aimsOf, Rowed, Zero, Ground, Laid}
+use Rattle.steer.specs.Walk.{Livables, aimsOf, Rowed, Ground, Laid}
 
 -- A way is a way wherever its states and its goal hold more.
 way-both : (S : System) (U W G H : ℕ → Type 0) → ((s : ℕ) → U s → W s) → ((s : ℕ) → G s → H s) → (n s : ℕ) → Way S U G n s → Way S W H n s
@@ -28,7 +29,7 @@ way-both S U W G H f g (suc n) s w = (f s (w .0), (w .1 .0, w .1 .1, way-both S 
 abbrev Near : System → ℕ → ℕ → ℕ → Type 0
 Near S q s d = Distance S q d s × (d < far)
 
-module _ {S : System} {table : List ℕ} (words : List ℕ) {k : ℕ} (L : Livables S table k) (clean : Zero k words) where
+module _ {S : System} {table : List ℕ} (words : List ℕ) {k : ℕ} (L : Livables S table k) (clean : Zeros words k) where
   live-livable : (s : ℕ) → Live table words k s → Livable S s
   live-livable s v = subst (Livable S) (v .2) (L .sound (v .0) (v .1))
 
@@ -74,7 +75,7 @@ pub rowed-of-rows : {S : System} {table : List ℕ} {k : ℕ} {dist : List ℕ} 
 rowed-of-rows p e h all = record { distance = λ q x l i. all q x (omega arith) i .0; near = λ q x l i. all q x (omega arith) i .1 }
 
 -- With no promises a row of zeros serves.
-pub rowed-of-none : {S : System} {table : List ℕ} {k : ℕ} {dist : List ℕ} → Livables S table k → S .promises ≡ 0 → Zero k dist → Rowed S table k dist
+pub rowed-of-none : {S : System} {table : List ℕ} {k : ℕ} {dist : List ℕ} → Livables S table k → S .promises ≡ 0 → Zeros dist k → Rowed S table k dist
 rowed-of-none {S} {table} {k} {dist} L e clean =
     record {
       distance = λ q x l i. subst (λ (d : ℕ). Distance S q d (getD table x 0)) (sym (none q x l i)) (here q x i);

@@ -1,4 +1,3 @@
-pub mod Wiping
 pub mod Books
 pub mod Places
 pub mod Distances

@@ -14,9 +14,10 @@ use Rattle.meaning.specs.Sample.{Distance, Passes, Best}
 use Rattle.meaning.proofs.Unique.{distance-unique}
 use Rattle.meaning.proofs.SampleRun.{kept-of-met, next-aim-on, next-aim-back}
 use Rattle.meaning.proofs.Exists.{livable-next}
+use Rattle.ground.proofs.Tests.{no-both}
 use Rattle.distances.specs.Far.{far}
 use Rattle.rules.specs.Book.{bookSystem, bookKept, clausesOk, NextClauses}
-use Rattle.rules.proofs.Facts.{no-both, kept-is, kept-true, move-steps, steps-move}
+use Rattle.rules.proofs.Facts.{kept-is, kept-true, move-steps, steps-move}
 use Rattle.steer.specs.Walk.{aimsOf, Laid, Scanned, passesAt, rowAt, Picked, FirstAt}
 use Rattle.steer.proofs.Books.{livable-lawful}
 use Rattle.steer.proofs.Places.{places-rise}
@@ -45,7 +46,7 @@ passed-back book aim s e h = (inl (inr (kept-is book aim s e), sym (next-aim-bac
 pub passed-not : (book : List ℕ) (aim s : ℕ) → bookKept book aim s ≡ false → 1 ≤ bookSystem book .promises → aim < aimsOf (bookSystem book)
     → Passed (bookSystem book) aim s aim
 passed-not book aim s e h l =
-    (inr (λ m. no-both (bookKept book aim s) (kept-true book aim s (kept-of-met (bookSystem book) aim s h m)) e, refl), l)
+    (inr (λ m. no-both (kept-true book aim s (kept-of-met (bookSystem book) aim s h m)) e, refl), l)
 
 -- ---- the scan
 

@@ -10,9 +10,10 @@ use lib.Seq.{ext-getD, getD-append-add, getD-drop}
 use Rattle.meaning.specs.System.{System}
 use Rattle.meaning.specs.Sample.{RunPaper}
 use Rattle.meaning.specs.Promises.{over}
+use Rattle.ground.specs.Wiping.{Wiped}
 use Rattle.rules.specs.Book.{bookSystem}
 use Rattle.steer.specs.Steered.{Steered}
-use Rattle.steer.specs.Walk.{Ready, aimsOf, Wiped, Ground, Rows, Laid, Cut, Written}
+use Rattle.steer.specs.Walk.{Ready, aimsOf, Ground, Rows, Laid, Cut, Written}
 use Rattle.steer.proofs.Places.{livables-of}
 
 -- ---- the paper
@@ -103,7 +104,7 @@ ground-of {table = table} {k = k} r w = record {
   in-table = r .in-table;
   in-words = omega (arith, w .long, r .in-words);
   livables = livables-of table k (r .in-table) (r .livable);
-  unmarked = w .zero-below;
+  unmarked = w .zeros;
 }
 
 -- With the rows measured, the walk can begin.

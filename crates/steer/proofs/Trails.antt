@@ -13,11 +13,13 @@ use Rattle.meaning.specs.System.{System}
 use Rattle.meaning.specs.Sample.{Passes, Best, Sample}
 use Rattle.meaning.proofs.Unique.{best-unique, passes-unique}
 use Rattle.meaning.proofs.SampleRun.{aim-below}
-use Rattle.rules.specs.Book.{Shaped, bookSystem, bookFirst}
-use Rattle.rules.proofs.Facts.{no-both, promises-are, first-is, first-true}
-use Rattle.steer.specs.Walk.{Livables, aimsOf, Zero, FirstPlace, Stepped, Cut}
-use Rattle.marks.specs.Marks.{bit}
-use Rattle.marks.proofs.Marks.{bit-none, bit-marked, bit-unmarked}
+use Rattle.ground.specs.Wiping.{Zeros}
+use Rattle.ground.specs.Bits.{bit}
+use Rattle.ground.proofs.Tests.{no-both}
+use Rattle.ground.proofs.Bits.{bit-none, bit-marked, bit-unmarked}
+use Rattle.rules.specs.Book.{Shaped, bookSystem}
+use Rattle.rules.proofs.Facts.{promises-are, first-is, first-true}
+use Rattle.steer.specs.Walk.{Livables, aimsOf, FirstPlace, Stepped, Cut}
 use Rattle.steer.proofs.Books.{finite-book}
 use Rattle.steer.proofs.Places.{same-place, places-rise, the-sample, some-first, pairs-within}
 
@@ -32,7 +34,7 @@ first-inside {book} {table} {k} L h r p = by (decLt r k)
     by (no l) =
         let w = some-first L h in
         let s = getD table (w .0) 0 in
-        absurd (no-both (bookFirst book s) (first-true book s (w .2)) (p .earlier (w .0) (omega (arith, w .1, p .inside))))
+        absurd (no-both (first-true book s (w .2)) (p .earlier (w .0) (omega (arith, w .1, p .inside))))
 
 -- The first place with a first state holds the sample run's first state.
 pub sample-starts : {book table : List ℕ} {k : ℕ} → Livables (bookSystem book) table k → {f aim : ℕ → ℕ} → Sample (bookSystem book) f aim
@@ -43,8 +45,8 @@ sample-starts {book} {table} {k} L {f} x r p h = by (decLt (w .0) r)
     w = L .whole (f 0) (x .livable)
 
     by : Dec (w .0 < r) → f 0 ≡ getD table r 0
-    by (yes l) = absurd (no-both (bookFirst book (getD table (w .0) 0))
-        (first-true book (getD table (w .0) 0) (subst (bookSystem book .First) (sym (w .2)) (x .first))) (p .earlier (w .0) l))
+    by (yes l) =
+        absurd (no-both (first-true book (getD table (w .0) 0) (subst (bookSystem book .First) (sym (w .2)) (x .first))) (p .earlier (w .0) l))
     by (no l) = omega (
       arith,
       w .2,
@@ -80,7 +82,7 @@ pub record Trail (S : System) (table words : List ℕ) (k i place aim : ℕ) : T
 
 -- The walk begins at the least livable first state, aiming at promise 1, with nothing marked.
 pub trail-starts : {book table words : List ℕ} {k : ℕ} (L : Livables (bookSystem book) table k) → 1 ≤ k → (r : ℕ) → FirstPlace book table k r
-    → Zero k words → Trail (bookSystem book) table words k 0 r 0
+    → Zeros words k → Trail (bookSystem book) table words k 0 r 0
 trail-starts {book} {table} {words} {k} L h r p clean = record {
   run = x .0;
   aims = x .1;

@@ -9,7 +9,8 @@ use lib.Dec.{eqb}
 use lib.ListN.{length, getD, take}
 use Rattle.meaning.specs.System.{System, Livable, Lists}
 use Rattle.meaning.specs.Sample.{Distance, Passes, Best, Sample}
-use Rattle.web.specs.Layout.{mostPlaces}
+use Rattle.ground.specs.Wiping.{Zeros}
+use Rattle.meaning.specs.Promises.{mostStates}
 use Rattle.distances.specs.Far.{far}
 use Rattle.rules.specs.Book.{Shaped, bookSystem, bookFirst, clausesOk, gatherSize}
 use Rattle.steer.specs.Steered.{Steered}
@@ -20,7 +21,7 @@ use Rattle.steer.specs.Steered.{Steered}
 pub record Ready (book table words : List ℕ) (k : ℕ) : Type 0 where
   pub shaped : Shaped book
   pub some : 1 ≤ k
-  pub few : k ≤ mostPlaces
+  pub few : k ≤ mostStates
   pub in-table : k ≤ length table
   pub in-words : k ≤ length words
   pub livable : Lists (Livable (bookSystem book)) (take k table)
@@ -51,24 +52,15 @@ pub record Rowed (S : System) (table : List ℕ) (k : ℕ) (dist : List ℕ) : T
   pub distance : (q x : ℕ) → q < aimsOf S → x < k → Distance S q (getD dist (q * k + x) 0) (getD table x 0)
   pub near : (q x : ℕ) → q < aimsOf S → x < k → getD dist (q * k + x) 0 < far
 
--- the first k numbers are 0
-abbrev pub Zero : ℕ → List ℕ → Type 0
-Zero k l = (x : ℕ) → x < k → getD l x 0 ≡ 0
-
--- the first k numbers are made 0
-pub record Wiped (k : ℕ) (old new : List ℕ) : Type 0 where
-  pub long : length new ≡ length old
-  pub zero-below : Zero k new
-
 -- what the distances are measured over
 pub record Ground (book table words : List ℕ) (k : ℕ) : Type 0 where
   pub shaped : Shaped book
   pub some : 1 ≤ k
-  pub few : k ≤ mostPlaces
+  pub few : k ≤ mostStates
   pub in-table : k ≤ length table
   pub in-words : k ≤ length words
   pub livables : Livables (bookSystem book) table k
-  pub unmarked : Zero k words
+  pub unmarked : Zeros words k
 
 -- the rows are measured, in the same room
 pub record Rows (book table : List ℕ) (k : ℕ) (old new : List ℕ) : Type 0 where
@@ -79,7 +71,7 @@ pub record Rows (book table : List ℕ) (k : ℕ) (old new : List ℕ) : Type 0 
 pub record Laid (book table dist : List ℕ) (k : ℕ) : Type 0 where
   pub shaped : Shaped book
   pub some : 1 ≤ k
-  pub few : k ≤ mostPlaces
+  pub few : k ≤ mostStates
   pub in-table : k ≤ length table
   pub in-dist : aimsOf (bookSystem book) * k ≤ length dist
   pub livables : Livables (bookSystem book) table k

@@ -8,11 +8,12 @@ ghost use Prim.Native.Nat.{_+_, _-_, _*_, _≤_, _<_};
 ghost use lib.Dec.{ltb, eqb};
 ghost use lib.ListN.{length, getD};
 ghost use Rattle.meaning.specs.Sample.{Passes};
+ghost use Rattle.ground.specs.Wiping.{Zeros, Wiped};
 ghost use Rattle.rules.specs.Book.{Shaped, bookSystem, clausesOk, promisesOf, gatherSize};
 ghost use Rattle.distances.specs.Follow.{Followable};
 ghost use Rattle.web.specs.Layout.{startAt, endAt, cellAt};
 ghost use Rattle.steer.specs.Stored.{Onward, BestAt, Lookable, NearestCell};
-ghost use Rattle.steer.specs.Walk.{Ready, Told, aimsOf, Zero, Wiped, Ground, Rows, Laid, FirstPlace, passesAt, rowAt, Picked, Stepped, FirstAt, Pickable};
+ghost use Rattle.steer.specs.Walk.{Ready, Told, aimsOf, Ground, Rows, Laid, FirstPlace, passesAt, rowAt, Picked, Stepped, FirstAt, Pickable};
 ghost use Rattle.steer.specs.Walk.{Ended, Known, BackFrom, Written, fewDistances};
 
 // Up to so many states testing pairs is no more work than storing their moves.
@@ -40,20 +41,6 @@ pub struct End {
     pub b: usize,
     pub place: usize,
     pub aim: usize,
-}
-
-// ---- marks: bit `aim` of a place's word says that the pair was met
-
-// Takes all marks away.
-fn wipe(words: &mut [u32], k: usize)
-    requires { ⌜ k ≤ length (now words) ⌝ }
-    ensures { λ _. ⌜ Wiped k (now (words .entry)) (now (words .exit)) ⌝ }
-{
-    let mut x = 0;
-    while x < k {
-        words[x] = 0;
-        x += 1;
-    }
 }
 
 // ---- distances, once for the whole walk
@@ -350,7 +337,7 @@ fn find_end(
     k: usize,
     forth: &[u16],
 ) -> End
-    requires { ⌜ Laid (now book) (now table) (now dist) k × (k ≤ length (now words)) × Zero k (now words)
+    requires { ⌜ Laid (now book) (now table) (now dist) k × (k ≤ length (now words)) × Zeros (now words) k
         × Onward (now book) (now table) k (now forth) ⌝ }
     ensures { λ r. ⌜ Ended (now (book .entry)) (now (table .entry)) (now (words .entry)) (now (words .exit)) k (r .b) (r .place) (r .aim) ⌝ }
 {
@@ -427,7 +414,7 @@ fn walk(
         × Followable (now book) (now table) k (now back) (now queue) ⌝ }
     ensures { λ r. ⌜ Told (now (book .entry)) (now (words .entry)) (now (words .exit)) (now (run .entry)) (now (run .exit)) (r .a) (r .b) ⌝ }
 {
-    wipe(words, k);
+    ground::wipe_front(words, k);
     rows(book, table, words, dist, k, back, queue);
     let end = find_end(book, table, words, dist, k, forth);
     let b = end.b;
@@ -472,7 +459,7 @@ fn walk_large(book: &[u32], table: &[u32], words: &mut [u32], run: &mut [u32], k
     let mut dist = [0u16; MOST_DISTANCES];
     let mut forth = [0u16; web::SIZE];
     let mut back = [0u16; web::SIZE];
-    let mut queue = [0u16; web::MOST_PLACES];
+    let mut queue = [0u16; ground::MOST_STATES];
     let filled = web::store(book, table, k, &mut forth, &mut back);
     walk(
         book,

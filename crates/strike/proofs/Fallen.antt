@@ -14,7 +14,7 @@ use Rattle.distances.specs.Far.{Live, far, Place, near, never, struck, Measured
 use Rattle.distances.specs.Layers.{Measurable}
 use Rattle.deadends.specs.Phases.{free, Unphased, Falls, was, stays, falls, Phased, Told, Striking, PhaseDone}
 use Rattle.deadends.proofs.Fewer.{free-set, phased-free, pointers-fewer}
-use Rattle.strike.specs.Phases.{FarFree, Fell, Wiped}
+use Rattle.strike.specs.Phases.{FarFree, Fell}
 
 -- ---- the loop
 
@@ -123,19 +123,3 @@ later-phase book table words scratch r v k reason before dist new n s m f e = re
 pub phase-of-reason : (book table : List ℕ) (r a b v : ℕ) (old new before after : List ℕ) (n : ℕ)
     → PhaseDone book table r a v old new before after n → a ≡ b → PhaseDone book table r b v old new before after n
 phase-of-reason book table r a b v old new before after n p e = subst (λ (x : ℕ). PhaseDone book table r x v old new before after n) e p
-
--- ---- wiping
-
--- Before the first turn nothing is wiped; a turn wipes one place more; the last turn leaves all wiped.
-pub wiped-none : (l : List ℕ) → Wiped 0 l l
-wiped-none l = record { long = refl; zeros = λ m h. absurd (omega arith) }
-
-pub wiped-all : (i r : ℕ) (old new : List ℕ) → Wiped i old new → i ≡ r → Wiped r old new
-wiped-all i r old new w e = subst (λ (x : ℕ). Wiped x old new) e w
-
-pub wiped-more : (i : ℕ) (old new : List ℕ) → Wiped i old new → i < length new → Wiped (i + 1) old (set new i 0)
-wiped-more i old new w h = record { long = length-set new i 0 ∙ w .long; zeros = λ m k. at m k (ℕ-discrete m i) }
-  where
-    at : (m : ℕ) → m < i + 1 → Dec (m ≡ i) → getD (set new i 0) m 0 ≡ 0
-    at m k (yes q) = subst (λ (x : ℕ). getD (set new i 0) x 0 ≡ 0) (sym q) (getD-set-same new i 0 0 h)
-    at m k (no q) = getD-set-other new i m 0 0 q ∙ w .zeros m (omega arith)

@@ -4,14 +4,14 @@ use mathlib.Core.List.{List}
 use Prim.Native.Nat.{ℕ, _≤_}
 use native.Mathlib.Omega.{arith}
 use lib.ListN.{length, take}
-use Rattle.web.specs.Layout.{mostPlaces}
+use Rattle.meaning.specs.Promises.{mostStates}
 use Rattle.web.specs.Web.{StoredRows}
 use Rattle.web.proofs.Both.{rows-forth, rows-back}
 use Rattle.strike.specs.Stored.{Stored}
 
 -- What storing kept serves striking, with a queue for all places;
-pub rows-stored : (book table : List ℕ) (r n : ℕ) (forth back queue : List ℕ) → StoredRows book table r forth back n → r ≤ mostPlaces
-    → length queue ≡ mostPlaces → Stored book table r (take n forth) (take n back) queue
+pub rows-stored : (book table : List ℕ) (r n : ℕ) (forth back queue : List ℕ) → StoredRows book table r forth back n → r ≤ mostStates
+    → length queue ≡ mostStates → Stored book table r (take n forth) (take n back) queue
 rows-stored book table r n forth back queue k h long = record {
   onward = rows-forth book table r forth back n k;
   backward = λ some. (rows-back book table r forth back n k some, omega arith);

@@ -5,7 +5,7 @@ use Prim.Native.Nat.{ℕ, _+_, _≤_, _<_}
 use lib.ListN.{length, getD, take}
 use Rattle.meaning.specs.System.{Reachable, Lists}
 use Rattle.rules.specs.Book.{Shaped, bookSystem}
-use Rattle.web.specs.Layout.{mostPlaces}
+use Rattle.meaning.specs.Promises.{mostStates}
 use Rattle.distances.specs.Far.{far}
 use Rattle.deadends.specs.Phases.{free}
 use Rattle.strike.specs.Marked.{Marked}
@@ -17,7 +17,7 @@ pub record Strikable (book table words scratch : List ℕ) (r : ℕ) : Type 0 wh
   pub in-table : r ≤ length table
   pub in-words : r ≤ length words
   pub in-scratch : r ≤ length scratch
-  pub few : r ≤ mostPlaces
+  pub few : r ≤ mostStates
 
 -- the places without a distance are unstruck
 abbrev pub FarFree : (dist words : List ℕ) (r : ℕ) → Type 0
@@ -30,15 +30,6 @@ pub record Fell (dist : List ℕ) (v r m : ℕ) (old new : List ℕ) (n : ℕ) :
   pub missed : (i : ℕ) → i < m → (getD dist i 0 ≡ far → ⊥) → getD new i 0 ≡ getD old i 0
   pub rest : (i : ℕ) → m ≤ i → getD new i 0 ≡ getD old i 0
   pub counted : n + free new r ≡ free old r
-
--- the first m are 0
-abbrev pub Zeros : List ℕ → ℕ → Type 0
-Zeros l m = (i : ℕ) → i < m → getD l i 0 ≡ 0
-
--- they are 0 now, in a list that is as long as it was
-pub record Wiped (m : ℕ) (old new : List ℕ) : Type 0 where
-  pub long : length new ≡ length old
-  pub zeros : Zeros new m
 
 -- what `strike` ensures: the words are marked, and the slices are as long as they were
 pub record Stricken (book table : List ℕ) (r : ℕ) (old words before after : List ℕ) (left : ℕ) : Type 0 where

@@ -6,9 +6,10 @@ ghost use mathlib.Core.Path.{_≡_};
 ghost use mathlib.Core.Logic.{_⊎_};
 ghost use Prim.Native.Nat.{_+_, _<_, _≤_, suc};
 ghost use lib.ListN.{length};
+ghost use Rattle.ground.specs.Wiping.{Zeros};
 ghost use Rattle.rules.specs.Book.{promisesOf};
 ghost use Rattle.deadends.specs.Phases.{Striking, PhaseDone, Unphased};
-ghost use Rattle.strike.specs.Phases.{Strikable, Stricken, Zeros, Wiped, FarFree, Fell};
+ghost use Rattle.strike.specs.Phases.{Strikable, Stricken, FarFree, Fell};
 ghost use Rattle.strike.specs.Stored.{Stored, fewStates};
 
 // Below so many states storing their moves would cost more than it saves.
@@ -66,18 +67,6 @@ fn phase(
     let k = reason - 1;
     distances::distances(book, k, table, words, r, back, queue, dist, 0);
     fall(words, dist, r, word)
-}
-
-// Sets the first r numbers to 0.
-fn wipe(l: &mut [u32], r: usize)
-    requires { ⌜ r ≤ length (now l) ⌝ }
-    ensures { λ _. ⌜ Wiped r (now (l .entry)) (now (l .exit)) ⌝ }
-{
-    let mut i: usize = 0;
-    while i < r {
-        l[i] = 0;
-        i += 1;
-    }
 }
 
 // How many phases in a row have struck nothing, after one that struck n.
@@ -202,8 +191,8 @@ fn strike_many(
 {
     let mut forth = [0u16; web::SIZE];
     let mut back = [0u16; web::SIZE];
-    let mut queue = [0u16; web::MOST_PLACES];
-    let mut dist = [0u16; web::MOST_PLACES];
+    let mut queue = [0u16; ground::MOST_STATES];
+    let mut dist = [0u16; ground::MOST_STATES];
     let filled = web::store(book, table, r, &mut forth, &mut back);
     rounds(
         book,
@@ -231,8 +220,8 @@ pub fn strike(
     ensures { λ left. ⌜ Stricken (now (book .entry)) (now (table .entry)) r (now (words .entry)) (now (words .exit)) (now (scratch .entry))
         (now (scratch .exit)) left ⌝ }
 {
-    wipe(words, r);
-    wipe(scratch, r);
+    ground::wipe_front(words, r);
+    ground::wipe_front(scratch, r);
     if r < FEW_STATES {
         return strike_few(book, table, words, scratch, r);
     }

@@ -11,14 +11,14 @@ use borrow.Author.Count.{below-more}
 use lib.ListN.{length, getD}
 use Rattle.meaning.specs.System.{System}
 use Rattle.meaning.specs.Papers.{Listed, EntryRight, StrikesAccepted}
+use Rattle.ground.specs.Says.{Says}
+use Rattle.ground.specs.Listed.{Has}
+use Rattle.ground.proofs.Saying.{says-as}
 use Rattle.rules.specs.Book.{bookSystem, bookLawful}
 use Rattle.rules.specs.Freer.{Freer}
 use Rattle.rules.proofs.Facts.{lawful-true}
 use Rattle.rules.proofs.FreerLaws.{freer-moves}
-use Rattle.papers.specs.Paper.{Says}
-use Rattle.papers.proofs.Verdict.{clash, says-as}
 use Rattle.papers.proofs.Loops.{Passed, passed-none, passed-more}
-use Rattle.covers.specs.Counts.{Among}
 use Rattle.covers.specs.Asks.{AllLawful, FirstsListed, NextsWithin}
 use Rattle.strikecheck.specs.Strikes.{Rising, ReasonsFit, EntryOk, EntriesOk, KeptBy, StateOk, placesOf, Under, Reach, Follows, EntryAsks, EntriesAsk}
 
@@ -79,14 +79,14 @@ under-higher up u = record { within = u .within; below = λ j h. omega (arith, u
 
 -- So a state at the first m places is listed with such a word, and a state listed with such a word is at the first m places.
 among-listed : (states words : List ℕ) {limit m : ℕ} → length words ≡ length states → Reach words limit m → (t : ℕ)
-    → Among states m t → Listed states words (λ w. w < limit) t
+    → Has states m t → Listed states words (λ w. w < limit) t
 among-listed states words as-many r t (j, h, e) = (j, omega (arith, r .under .within), e, r .under .below j h)
 
 listed-among : (states words : List ℕ) {limit m : ℕ} → length words ≡ length states → Rising words → Reach words limit m → (t : ℕ)
-    → Listed states words (λ w. w < limit) t → Among states m t
+    → Listed states words (λ w. w < limit) t → Has states m t
 listed-among states words {limit} {m} as-many rising r t (j, h, e, small) = by (decLt j m)
   where
-    by : Dec (j < m) → Among states m t
+    by : Dec (j < m) → Has states m t
     by (yes q) = (j, q, e)
     by (no q) = absurd (omega (arith, r .above (omega arith), later-no-smaller words rising m j (omega arith) (omega arith)))
 
@@ -169,7 +169,7 @@ pub follows-within : {book states words : List ℕ} {distinct : Bool} → Entrie
     → m ≡ placesOf (word % 32) near far → ((j : ℕ) → j < i → EntryOk (bookSystem book) states words j) → Follows book states i
     → NextsWithin (bookSystem book) s states m
 follows-within {book} {states} {words} asks {i} {s} {word} {m} {near} {far} h s-is word-is n f m-is right w t move =
-    subst (λ (k : ℕ). Among states k t) (sym m-is)
+    subst (λ (k : ℕ). Has states k t) (sym m-is)
     (earlier-places (bookSystem book) states words (asks .as-many) (asks .rising) (getD words k 0 % 32) (word % 32) (getD words k 0) word u near far
     refl refl up (right k (w .before)) n f t
     (freer-moves book u (getD states i 0) lawful (w .freer) t (subst (λ (x : ℕ). bookSystem book .Move x t) s-is move)))

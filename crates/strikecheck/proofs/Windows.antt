@@ -13,8 +13,8 @@ use lib.Bits.{bitOr}
 use lib.Dec.{eqb}
 use lib.ListN.{length, getD, set, length-set}
 use lib.Seq.{getD-set-same, getD-set-other}
-use Rattle.marks.specs.Marks.{bit}
-use Rattle.marks.proofs.Marks.{bit-marked, bit-unmarked}
+use Rattle.ground.specs.Bits.{bit}
+use Rattle.ground.proofs.Bits.{bit-marked, bit-unmarked}
 use Rattle.covers.specs.Counts.{apart}
 use Rattle.covers.proofs.Counting.{apart-false}
 use Rattle.strikecheck.specs.Windows.{windowSize, pastAll, Settled, Window}

@@ -8,7 +8,8 @@ use native.Mathlib.Omega.{arith}
 use lib.ListN.{length, getD, set, take, drop, length-set}
 use lib.Seq.{getD-set-same, getD-set-other}
 use Rattle.rules.proofs.FreerLaws.{freer-moves}
-use Rattle.web.specs.Layout.{mostPlaces, mostCells, movesSize, startsOf, endsOf, cellsOf, startAt, endAt, HasRow, CellsOnly, RowSet}
+use Rattle.meaning.specs.Promises.{mostStates}
+use Rattle.web.specs.Layout.{mostCells, movesSize, startsOf, endsOf, cellsOf, startAt, endAt, HasRow, CellsOnly, RowSet}
 use Rattle.web.specs.Web.{Forth, Storable}
 use Rattle.web.specs.Storing.{Row, Nexts, SameMoves, Filled}
 use Rattle.web.proofs.Layouts.{starts-long, ends-long, cells-long, cells-part, cellsBack, cells-back, cells-only}
@@ -221,7 +222,7 @@ module _ (book table : List ℕ) (r : ℕ) where
       (s .rows k (same .before)))
 
   -- A stored row can be read.
-  pub stored-has : (i k at : ℕ) (moves : List ℕ) → length moves ≡ movesSize → i ≤ mostPlaces → at ≤ mostCells → StoredIn book table r i at moves → k < i
+  pub stored-has : (i k at : ℕ) (moves : List ℕ) → length moves ≡ movesSize → i ≤ mostStates → at ≤ mostCells → StoredIn book table r i at moves → k < i
       → HasRow moves k × (startAt moves k ≤ mostCells)
   stored-has i k at moves long few room s h = (
     record { long = long; place = omega arith; within = omega (arith, s .below k h) },
@@ -229,7 +230,7 @@ module _ (book table : List ℕ) (r : ℕ) where
   )
 
   -- The same in one list: a filled row is set,
-  pub set-more : (i at to : ℕ) (old mid new : List ℕ) → length old ≡ movesSize → i < mostPlaces → to ≤ mostCells → StoredIn book table r i at old
+  pub set-more : (i at to : ℕ) (old mid new : List ℕ) → length old ≡ movesSize → i < mostStates → to ≤ mostCells → StoredIn book table r i at old
       → Filled (Nexts book table r (getD table i 0)) at (cellsOf old) (cellsOf mid) to → CellsOnly old mid → RowSet i at to mid new
       → StoredIn book table r (i + 1) to new
   set-more i at to old mid new long inside room s f c w =
@@ -238,7 +239,7 @@ module _ (book table : List ℕ) (r : ℕ) where
       (omega (arith, ends-long old long)) (omega (arith, cells-long old long)) s f)
 
   -- and a row is shared.
-  pub set-again : (i k at : ℕ) (old new : List ℕ) → length old ≡ movesSize → i < mostPlaces → Storable book table r → i < r
+  pub set-again : (i k at : ℕ) (old new : List ℕ) → length old ≡ movesSize → i < mostStates → Storable book table r → i < r
       → SameMoves book table k i → StoredIn book table r i at old → RowSet i (startAt old k) (endAt old k) old new
       → StoredIn book table r (i + 1) at new
   set-again i k at old new long inside able h same s w =
@@ -247,7 +248,7 @@ module _ (book table : List ℕ) (r : ℕ) where
       same s)
 
   -- All rows are the moves forth.
-  pub stored-forth : (i at : ℕ) (moves : List ℕ) → i ≡ r → r ≤ mostPlaces → length moves ≡ movesSize → at ≤ mostCells
+  pub stored-forth : (i at : ℕ) (moves : List ℕ) → i ≡ r → r ≤ mostStates → length moves ≡ movesSize → at ≤ mostCells
       → StoredIn book table r i at moves → Forth book table r moves
   stored-forth i at moves q few long room s = record {
     long = long;

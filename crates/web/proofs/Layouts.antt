@@ -19,15 +19,16 @@ use lib.Seq.{
   getD-take,
   getD-drop,
 }
-use Rattle.web.specs.Layout.{mostPlaces, mostCells, movesSize, startsOf, endsOf, cellsOf, startAt, endAt, cellAt, CellsOnly, RowSet, Appended}
+use Rattle.meaning.specs.Promises.{mostStates}
+use Rattle.web.specs.Layout.{mostCells, movesSize, startsOf, endsOf, cellsOf, startAt, endAt, cellAt, CellsOnly, RowSet, Appended}
 
 -- ---- lengths and reads
 
-pub starts-long : (moves : List ℕ) → length moves ≡ movesSize → length (startsOf moves) ≡ mostPlaces
+pub starts-long : (moves : List ℕ) → length moves ≡ movesSize → length (startsOf moves) ≡ mostStates
 unfolding startsOf
 starts-long moves long = length-take-le 16384 moves (omega arith)
 
-pub ends-long : (moves : List ℕ) → length moves ≡ movesSize → length (endsOf moves) ≡ mostPlaces
+pub ends-long : (moves : List ℕ) → length moves ≡ movesSize → length (endsOf moves) ≡ mostStates
 unfolding endsOf
 ends-long moves long = length-take-le 16384 (drop 16384 moves) (omega (arith, length-drop 16384 moves))
 
@@ -35,11 +36,11 @@ pub cells-long : (moves : List ℕ) → length moves ≡ movesSize → length (c
 unfolding cellsOf
 cells-long moves long = omega (arith, length-drop 32768 moves)
 
-pub start-read : (moves : List ℕ) (i : ℕ) → i < mostPlaces → getD moves i 0 ≡ startAt moves i
+pub start-read : (moves : List ℕ) (i : ℕ) → i < mostStates → getD moves i 0 ≡ startAt moves i
 unfolding startsOf
 start-read moves i h = sym (getD-take 16384 moves i 0 h)
 
-pub end-read : (moves : List ℕ) (i : ℕ) → i < mostPlaces → getD moves (16384 + i) 0 ≡ endAt moves i
+pub end-read : (moves : List ℕ) (i : ℕ) → i < mostStates → getD moves (16384 + i) 0 ≡ endAt moves i
 unfolding endsOf
 end-read moves i h = sym (getD-take 16384 (drop 16384 moves) i 0 h ∙ getD-drop 16384 moves i 0)
 
@@ -50,16 +51,16 @@ cell-read moves e = sym (getD-drop 32768 moves e 0)
 -- ---- one number is written
 
 -- into the starts,
-starts-set : (moves : List ℕ) (i v : ℕ) → i < mostPlaces → startsOf (set moves i v) ≡ set (startsOf moves) i v
+starts-set : (moves : List ℕ) (i v : ℕ) → i < mostStates → startsOf (set moves i v) ≡ set (startsOf moves) i v
 unfolding startsOf
 starts-set moves i v h = take-set-lt 16384 moves i v h
 
-ends-kept : (moves : List ℕ) (i v : ℕ) → i < mostPlaces → endsOf (set moves i v) ≡ endsOf moves
+ends-kept : (moves : List ℕ) (i v : ℕ) → i < mostStates → endsOf (set moves i v) ≡ endsOf moves
 unfolding endsOf
 ends-kept moves i v h = ap (λ (l : List ℕ). take 16384 l) (drop-set-lt 16384 moves i v h)
 
 -- into the ends,
-ends-set : (moves : List ℕ) (i v : ℕ) → i < mostPlaces → endsOf (set moves (16384 + i) v) ≡ set (endsOf moves) i v
+ends-set : (moves : List ℕ) (i v : ℕ) → i < mostStates → endsOf (set moves (16384 + i) v) ≡ set (endsOf moves) i v
 unfolding endsOf
 ends-set moves i v h =
     ap (λ (l : List ℕ). take 16384 l) (drop-set-add 16384 moves i v) ∙ take-set-lt 16384 (drop 16384 moves) i v h
@@ -88,7 +89,7 @@ ends-under moves e v =
     ∙ take-set-le 16384 (drop 16384 moves) (16384 + e) v (omega arith)
 
 -- A start and an end are written.
-pub row-set : (moves : List ℕ) (i start end : ℕ) → i < mostPlaces → RowSet i start end moves (set (set moves i start) (16384 + i) end)
+pub row-set : (moves : List ℕ) (i start end : ℕ) → i < mostStates → RowSet i start end moves (set (set moves i start) (16384 + i) end)
 row-set moves i start end h = record {
   starts = starts-kept (set moves i start) (16384 + i) end (omega arith) ∙ starts-set moves i start h;
   ends = ends-set (set moves i start) i end h ∙ ap (λ (l : List ℕ). set l i end) (ends-kept moves i start h);
@@ -102,7 +103,7 @@ row-set-as i start end first last old new p q w =
     subst (λ (x : ℕ). RowSet i first x old new) q (subst (λ (x : ℕ). RowSet i x end old new) p w)
 
 -- A cell and an end are written.
-pub appended : (moves : List ℕ) (i j e : ℕ) → i < mostPlaces → e ≡ endAt moves i → Appended i j moves (set (set moves (32768 + e) j) (16384 + i) (e + 1))
+pub appended : (moves : List ℕ) (i j e : ℕ) → i < mostStates → e ≡ endAt moves i → Appended i j moves (set (set moves (32768 + e) j) (16384 + i) (e + 1))
 appended moves i j e h q =
     subst (λ (x : ℕ). Appended i j moves (set (set moves (32768 + x) j) (16384 + i) (x + 1))) (sym q) (record {
       starts = starts-kept (set moves to j) (16384 + i) (endAt moves i + 1) (omega arith) ∙ starts-kept moves to j (omega arith);
@@ -162,5 +163,5 @@ unfolding cellsOf
 cells-part moves long = take-all (length moves - 32768) (drop 32768 moves) (omega (arith, length-drop 32768 moves))
 
 -- The ends, lent as room for counts, have a number for each place.
-pub ends-part : (moves : List ℕ) → length moves ≡ movesSize → length (take 16384 (drop 16384 moves)) ≡ mostPlaces
+pub ends-part : (moves : List ℕ) → length moves ≡ movesSize → length (take 16384 (drop 16384 moves)) ≡ mostStates
 ends-part moves long = length-take-le 16384 (drop 16384 moves) (omega (arith, length-drop 16384 moves))

@@ -6,10 +6,12 @@ use Prim.Native.Nat.{ℕ, suc, _+_, _≤_, _<_}
 use native.Mathlib.Decide.{decLt, ℕ-discrete}
 use native.Mathlib.Omega.{arith}
 use lib.ListN.{length, getD, set}
+use Rattle.ground.specs.Listed.{Rises}
+use Rattle.ground.proofs.Rising.{rises-apart, rises-le}
 use Rattle.listing.specs.Listing.{Listing}
 use Rattle.listing.proofs.Front.{front-long, front-rises, front-there, front-sound}
-use Rattle.lookup.specs.Lookup.{Rises, Stands, Sorted, Cut}
-use Rattle.lookup.proofs.Places.{rises-apart, rises-le, cut-absent}
+use Rattle.lookup.specs.Lookup.{Stands, Sorted, Cut}
+use Rattle.lookup.proofs.Places.{cut-absent}
 use Rattle.rules.specs.Book.{bookSystem}
 use Rattle.web.specs.Web.{Storable}
 use Rattle.web.specs.Storing.{Listed, Nexts, Filled}

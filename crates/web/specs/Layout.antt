@@ -4,11 +4,9 @@ use mathlib.Core.Path.{_≡_}
 use mathlib.Core.List.{List}
 use Prim.Native.Nat.{ℕ, _+_, _≤_, _<_}
 use lib.ListN.{length, getD, set, take, drop}
+use Rattle.meaning.specs.Promises.{mostStates}
 
--- the most places whose moves are stored, and the most cells
-abbrev pub mostPlaces : ℕ
-mostPlaces = 16384
-
+-- the most cells; moves are stored for `mostStates` places at most
 abbrev pub mostCells : ℕ
 mostCells = 32768
 
@@ -18,10 +16,10 @@ movesSize = 65536
 
 -- its three parts
 unfoldable pub startsOf : List ℕ → List ℕ
-startsOf moves = take 16384 moves
+startsOf moves = take mostStates moves
 
 unfoldable pub endsOf : List ℕ → List ℕ
-endsOf moves = take 16384 (drop 16384 moves)
+endsOf moves = take mostStates (drop mostStates moves)
 
 unfoldable pub cellsOf : List ℕ → List ℕ
 cellsOf moves = drop 32768 moves
@@ -39,7 +37,7 @@ cellAt moves e = getD (cellsOf moves) e 0
 -- place i has a row that can be read
 pub record HasRow (moves : List ℕ) (i : ℕ) : Type 0 where
   pub long : length moves ≡ movesSize
-  pub place : i < mostPlaces
+  pub place : i < mostStates
   pub within : endAt moves i ≤ mostCells
 
 -- only cells have changed

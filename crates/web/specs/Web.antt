@@ -5,7 +5,8 @@ use mathlib.Core.List.{List}
 use Prim.Native.Nat.{ℕ, suc, _≤_, _<_}
 use lib.ListN.{length, getD}
 use Rattle.rules.specs.Book.{Shaped, bookLawful, bookSystem}
-use Rattle.web.specs.Layout.{mostPlaces, mostCells, movesSize, startsOf, endsOf, cellsOf, startAt, endAt, cellAt}
+use Rattle.meaning.specs.Promises.{mostStates}
+use Rattle.web.specs.Layout.{mostCells, movesSize, startsOf, endsOf, cellsOf, startAt, endAt, cellAt}
 
 -- a move leads from place i to place j
 abbrev pub To : (book table : List ℕ) (i j : ℕ) → Type 0
@@ -38,13 +39,13 @@ pub record Back (book table : List ℕ) (r : ℕ) (moves : List ℕ) : Type 0 wh
 pub record Storable (book table : List ℕ) (r : ℕ) : Type 0 where
   pub shaped : Shaped book
   pub in-table : r ≤ length table
-  pub few : r ≤ mostPlaces
+  pub few : r ≤ mostStates
   pub lawful : (i : ℕ) → i < r → bookLawful book (getD table i 0) ≡ true
   pub rises : (i j : ℕ) → i < j → j < r → getD table i 0 < getD table j 0
 
 -- rows that can be turned: every cell of a row is a place
 pub record Turnable (r : ℕ) (moves : List ℕ) : Type 0 where
-  pub few : r ≤ mostPlaces
+  pub few : r ≤ mostStates
   pub long : length moves ≡ movesSize
   pub in-cells : (i : ℕ) → i < r → endAt moves i ≤ mostCells
   pub places : (i e : ℕ) → i < r → startAt moves i ≤ e → e < endAt moves i → cellAt moves e < r

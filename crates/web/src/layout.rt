@@ -4,15 +4,14 @@
 ghost use mathlib.Core.Path.{_≡_};
 ghost use Prim.Native.Nat.{_<_, _≤_};
 ghost use lib.ListN.{length};
-ghost use Rattle.web.specs.Layout.{mostPlaces, mostCells, movesSize, startAt, endAt, cellAt, RowSet, Appended};
+ghost use Rattle.meaning.specs.Promises.{mostStates};
+ghost use Rattle.web.specs.Layout.{mostCells, movesSize, startAt, endAt, cellAt, RowSet, Appended};
 
-// The most places whose moves are stored, and the most cells.
-pub const MOST_PLACES: usize = 16384;
-
+// The most cells. Moves are stored for as many places as states are judged.
 pub const MOST_CELLS: usize = 32768;
 
 // Where the ends stand from, and the cells.
-pub const ENDS: usize = 16384;
+pub const ENDS: usize = ground::MOST_STATES;
 
 pub const CELLS: usize = 32768;
 
@@ -21,7 +20,7 @@ pub const SIZE: usize = 65536;
 
 // The cell that place i's row starts at.
 pub fn row_start(moves: &[u16], i: usize) -> usize
-    requires { ⌜ (length (now moves) ≡ movesSize) × (i < mostPlaces) ⌝ }
+    requires { ⌜ (length (now moves) ≡ movesSize) × (i < mostStates) ⌝ }
     ensures { λ e. ⌜ e ≡ startAt (now (moves .entry)) i ⌝ }
 {
     moves[i] as usize
@@ -29,7 +28,7 @@ pub fn row_start(moves: &[u16], i: usize) -> usize
 
 // The cell that place i's row ends before.
 pub fn row_end(moves: &[u16], i: usize) -> usize
-    requires { ⌜ (length (now moves) ≡ movesSize) × (i < mostPlaces) ⌝ }
+    requires { ⌜ (length (now moves) ≡ movesSize) × (i < mostStates) ⌝ }
     ensures { λ e. ⌜ (e ≡ endAt (now (moves .entry)) i) × (e ≤ 65535) ⌝ }
 {
     let at = ENDS + i;
@@ -47,7 +46,7 @@ pub fn cell(moves: &[u16], e: usize) -> usize
 
 // Sets row i to the cells from `start` up to `end`.
 pub fn set_row(moves: &mut [u16], i: usize, start: usize, end: usize)
-    requires { ⌜ (length (now moves) ≡ movesSize) × (i < mostPlaces) × (start ≤ mostCells) × (end ≤ mostCells) ⌝ }
+    requires { ⌜ (length (now moves) ≡ movesSize) × (i < mostStates) × (start ≤ mostCells) × (end ≤ mostCells) ⌝ }
     ensures { λ _. ⌜ RowSet i start end (now (moves .entry)) (now (moves .exit)) ⌝ }
 {
     let at = ENDS + i;
@@ -57,7 +56,7 @@ pub fn set_row(moves: &mut [u16], i: usize, start: usize, end: usize)
 
 // Puts j into the cell behind the end of row i.
 pub fn append(moves: &mut [u16], i: usize, j: usize)
-    requires { ⌜ (length (now moves) ≡ movesSize) × (i < mostPlaces) × (j < mostPlaces) × (endAt (now moves) i < mostCells) ⌝ }
+    requires { ⌜ (length (now moves) ≡ movesSize) × (i < mostStates) × (j < mostStates) × (endAt (now moves) i < mostCells) ⌝ }
     ensures { λ _. ⌜ Appended i j (now (moves .entry)) (now (moves .exit)) ⌝ }
 {
     let e = row_end(moves, i);

@@ -2,7 +2,8 @@
 use mathlib.Core.Path.{_≡_, refl}
 use mir.Facts.{clash}
 use borrow.Author.Tests.{ltb-true, ltb-false}
-use Rattle.audit.proofs.Telling.{past-alone, past-with, true-not-false}
+use Rattle.ground.proofs.Saying.{says-yes}
+use Rattle.audit.proofs.Telling.{past-alone, past-with}
 use borrow.Author.Needs.{needs}
 use Rattle.audit.proofs.count_past.Statement.{statement}
 use Rattle.audit.proofs.count_past.Tie as tie
@@ -10,7 +11,7 @@ use Rattle.audit.proofs.count_past.Reads as reads
 use Rattle.audit.proofs.count_past.Lts as lts
 
 returns : tie.Need-returns
-returns c = (λ _. past-alone _ _ (c .if1 .taken), λ e. true-not-false e)
+returns c = says-yes (past-alone _ _ (c .if1 .taken))
 
 cast-result : tie.Need-cast-result
 cast-result c = search needs
@@ -18,7 +19,7 @@ cast-result c = search needs
 returns-2 : tie.Need-returns-2
 returns-2 c =
     let with = past-with (c .before .args .count) (c .before .args .more) _ (c .if1 .left) refl in
-    (λ e. with .0 (ltb-true _ _ e), λ e p. clash (with .1 p) (ltb-false _ _ e))
+    record { yes = λ e. with .0 (ltb-true _ _ e); never = λ e p. clash (with .1 p) (ltb-false _ _ e) }
 
 pub count-past-spec : {M : Type 1} → statement M
 count-past-spec = tie.close (tie.spec returns cast-result returns-2)

@@ -2,7 +2,8 @@
 use mathlib.Core.Path.{_≡_, refl}
 use Prim.Native.Nat.{_-_, _≤_}
 use native.Mathlib.Omega.{arith}
-use Rattle.audit.proofs.Telling.{NonePast, none-past-next, none-past-all, true-not-false, false-not-true}
+use Rattle.ground.proofs.Saying.{says-yes, says-no}
+use Rattle.audit.proofs.Telling.{NonePast, none-past-next, none-past-all}
 use Rattle.audit.proofs.some_past.Statement.{statement}
 use Rattle.audit.proofs.some_past.Tie as tie
 use Rattle.audit.proofs.some_past.Reads as reads
@@ -15,7 +16,7 @@ abbrev μ-loop : tie.MeasureT-loop
 μ-loop tallies i₀ i = 255 - i
 
 returns : tie.Need-returns Inv-loop μ-loop
-returns c = (λ _. record { at = c .before .before .before .loop .i; within = c .before .before .loop-test .taken; past = c .if1 .taken }, λ e. true-not-false e)
+returns c = says-yes (record { at = c .before .before .before .loop .i; within = c .before .before .loop-test .taken; past = c .if1 .taken })
 
 loop-again : tie.Need-loop-again Inv-loop μ-loop
 loop-again c = (omega arith, none-past-next (c .before .before .before .before .args .tallies .now) _ (c .before .before .before .loop .inv .1) (c .if1 .left))
@@ -33,4 +34,4 @@ some-past-spec =
     (λ c. omega arith)
     (λ c. omega arith)
     loop-again
-    (λ c. (λ e. false-not-true e, λ _. none-past-all _ _ (c .before .loop .inv .1) (c .loop-test .left))))
+    (λ c. says-no (none-past-all _ _ (c .before .loop .inv .1) (c .loop-test .left))))

@@ -10,7 +10,7 @@ returns c =
     let words = scratch .before .before .before .before in
     let table = words .before .before .before .before in
     let a = table .before .before .before .before .before .args in
-    cleared-three (a .table .now) (a .words .now) (a .scratch .now) (table .wipe .ensures) (words .wipe2 .ensures) (scratch .wipe3 .ensures)
+    cleared-three (a .table .now) (a .words .now) (a .scratch .now) (table .wipe-from .ensures) (words .wipe-from2 .ensures) (scratch .wipe-from3 .ensures)
 
 pub clear-spec : {M : Type 1} → statement M
 clear-spec =

@@ -1,6 +1,7 @@
 -- `deadends::counts` meets its contract. Assumes nothing.
 use mathlib.Core.Logic.{inl}
-use Rattle.deadends.proofs.Answers.{says-yes, counts-equal}
+use Rattle.ground.proofs.Saying.{says-yes}
+use Rattle.deadends.proofs.Answers.{counts-equal}
 use Rattle.deadends.proofs.counts.Statement.{statement}
 use Rattle.deadends.proofs.counts.Tie as tie
 

@@ -13,5 +13,5 @@ pending-spec =
     (λ c. omega arith)
     (λ c. hit refl (c .if1 .taken))
     (λ c κs. c .before .before .before .pre .1 (c .if1 .left))
-    (λ c. settled refl (c .before .before .if1 .left) (c .before .points .ensures .yes-so (c .if2 .taken)))
-    (λ c. open-yet refl (c .before .before .if1 .left) (c .before .points .ensures .no-so (c .if2 .left))))
+    (λ c. settled refl (c .before .before .if1 .left) (c .before .points .ensures .yes (c .if2 .taken)))
+    (λ c. open-yet refl (c .before .before .if1 .left) (c .before .points .ensures .never (c .if2 .left))))

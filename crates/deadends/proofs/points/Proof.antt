@@ -1,7 +1,7 @@
 -- `deadends::points` meets its contract. Assumes nothing.
 use native.Mathlib.Omega.{arith}
 use borrow.Author.Needs.{needs}
-use Rattle.deadends.proofs.Answers.{says-no, says-same}
+use Rattle.ground.proofs.Saying.{says-no, says-as}
 use Rattle.deadends.proofs.points.Statement.{statement}
 use Rattle.deadends.proofs.points.Tie as tie
 
@@ -14,4 +14,4 @@ points-spec =
     (λ c. omega arith)
     (λ c. omega arith)
     (λ c κs. search needs)
-    (λ c. says-same (c .counts .ensures) (λ k. (omega arith, k)) (λ p. p .1)))
+    (λ c. says-as (λ k. (omega arith, k)) (λ p. p .1) (c .counts .ensures)))

@@ -43,7 +43,7 @@ returns c =
     let at-gather-next = at-loop .before .before .before in
     let entry = at-gather-next .before .before .before .before .before .before in (
       sought-found _ _ _ _ _ _ _ (entry .pre .0) (entry .pre .2) _ _ (at-gather-next .gather-next .ensures .0) _ (at-loop .loop .inv) (omega arith)
-          (c .before .goes .ensures .yes-so (c .if1 .taken)),
+          (c .before .goes .ensures .yes (c .if1 .taken)),
       at-gather-next .gather-next .ensures .1,
     )
 
@@ -53,7 +53,7 @@ loop-again c =
     let at-gather-next = at-loop .before .before .before in
     let entry = at-gather-next .before .before .before .before .before .before in
     passed-more _ _ _ _ _ _ _ (entry .pre .0) (entry .pre .2) _ _ (at-gather-next .gather-next .ensures .0) _ (at-loop .loop .inv)
-    (c .before .goes .ensures .no-so (c .if1 .left))
+    (c .before .goes .ensures .never (c .if1 .left))
 
 same-length-2 : tie.Need-same-length-2 Inv-loop μ-loop
 same-length-2 c =

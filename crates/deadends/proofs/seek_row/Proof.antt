@@ -34,7 +34,7 @@ returns : tie.Need-returns Inv-loop μ-loop
 returns c =
     let at-cell = c .before .before in
     let at-loop-test = at-cell .before in
-    row-found _ _ _ _ _ _ _ (at-cell .cell .ensures) (at-loop-test .before .loop .inv) (inside at-loop-test) (c .before .stands .ensures .yes-so (c .if1 .taken))
+    row-found _ _ _ _ _ _ _ (at-cell .cell .ensures) (at-loop-test .before .loop .inv) (inside at-loop-test) (c .before .stands .ensures .yes (c .if1 .taken))
 
 add-e : tie.Need-add-e Inv-loop μ-loop
 add-e c = omega (arith, inside (c .before .before .before), c .before .before .before .before .before .before .before .before .before .pre .row .within)
@@ -42,7 +42,7 @@ add-e c = omega (arith, inside (c .before .before .before), c .before .before .b
 loop-again : tie.Need-loop-again Inv-loop μ-loop
 loop-again c =
     let at-cell = c .before .before in
-    row-passed-more _ _ _ _ _ _ _ (at-cell .cell .ensures) (at-cell .before .before .loop .inv) (c .before .stands .ensures .no-so (c .if1 .left))
+    row-passed-more _ _ _ _ _ _ _ (at-cell .cell .ensures) (at-cell .before .before .loop .inv) (c .before .stands .ensures .never (c .if1 .left))
 
 returns-2 : tie.Need-returns-2 Inv-loop μ-loop
 returns-2 c = row-none _ _ _ _ _ _ (c .before .loop .inv) (omega (arith, c .loop-test .left, c .before .before .before .row-end .ensures .0))

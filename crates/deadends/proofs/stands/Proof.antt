@@ -1,7 +1,7 @@
 -- `deadends::stands` meets its contract. Assumes nothing.
 use borrow.Author.Needs.{needs}
 use native.Mathlib.Omega.{arith}
-use Rattle.deadends.proofs.Answers.{says-no, says-same}
+use Rattle.ground.proofs.Saying.{says-no, says-as}
 use Rattle.deadends.proofs.stands.Statement.{statement}
 use Rattle.deadends.proofs.stands.Tie as tie
 
@@ -13,4 +13,4 @@ stands-spec =
     (λ c. search needs)
     (λ c. search needs)
     (λ c κs. search needs)
-    (λ c. says-same (c .counts .ensures) (λ p. (omega arith, p)) (λ p. p .1)))
+    (λ c. says-as (λ p. (omega arith, p)) (λ p. p .1) (c .counts .ensures)))

@@ -1,6 +1,6 @@
 -- `distances::start` meets its contract: one constructor for each way out. Assumes nothing.
 use mathlib.Core.Path.{_∙_, sym}
-use Rattle.rules.proofs.Facts.{passes}
+use Rattle.ground.proofs.Tests.{passes}
 use Rattle.distances.specs.Layers.{out, there, waits}
 use Rattle.distances.proofs.start.Statement.{statement}
 use Rattle.distances.proofs.start.Tie as tie

@@ -9,7 +9,7 @@ returns c =
     let scratch = c .before .before in
     let words = scratch .before .before .before .before in
     let table = words .before .before .before .before in
-    wiped-left (table .wipe .ensures) (words .wipe2 .ensures) (scratch .wipe3 .ensures)
+    wiped-left (table .wipe-from .ensures) (words .wipe-from2 .ensures) (scratch .wipe-from3 .ensures)
 
 pub leave-spec : {M : Type 1} → statement M
 leave-spec =

@@ -3,7 +3,7 @@ use mathlib.Core.Path.{ap}
 use Prim.Native.Nat.{ℕ}
 use borrow.Author.Needs.{needs}
 use lib.Dec.{eqb}
-use Rattle.marks.proofs.Marks.{bit-shifted}
+use Rattle.ground.proofs.Bits.{bit-shifted}
 use Rattle.marks.proofs.met.Statement.{statement}
 use Rattle.marks.proofs.met.Tie as tie
 

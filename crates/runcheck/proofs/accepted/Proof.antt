@@ -2,8 +2,8 @@
 use native.Mathlib.Omega.{arith}
 use borrow.Author.Needs.{needs}
 use borrow.Author.Tests.{not-true, not-false}
-use Rattle.papers.proofs.Tests.{first-says, move-says}
-use Rattle.papers.proofs.Verdict.{says-no}
+use Rattle.ground.proofs.Saying.{says-no}
+use Rattle.rules.proofs.Saying.{first-says, move-says}
 use Rattle.runcheck.proofs.Running.{promises-decide}
 use Rattle.runcheck.proofs.accepted.Statement.{statement}
 use Rattle.runcheck.proofs.accepted.Tie as tie

@@ -2,9 +2,9 @@
 use Prim.Native.Nat.{_-_}
 use native.Mathlib.Omega.{arith}
 use borrow.Author.Needs.{needs}
+use Rattle.ground.proofs.Saying.{says-yes, says-no}
 use Rattle.rules.specs.Book.{bookSystem}
-use Rattle.papers.proofs.Tests.{kept-says}
-use Rattle.papers.proofs.Verdict.{says-yes, says-no}
+use Rattle.rules.proofs.Saying.{kept-says}
 use Rattle.papers.specs.Paper.{paper}
 use Rattle.runcheck.proofs.Running.{Missed, missed-begins, missed-more, missed-all}
 use Rattle.runcheck.proofs.keeps.Statement.{statement}

@@ -2,9 +2,9 @@
 use Prim.Native.Nat.{_-_}
 use native.Mathlib.Omega.{arith}
 use borrow.Author.Tests.{not-true, not-false}
+use Rattle.ground.proofs.Saying.{says-yes, says-no}
 use Rattle.rules.specs.Book.{bookSystem}
 use Rattle.papers.proofs.Loops.{Passed, passed-none, passed-more, passed-all, failed-not-all}
-use Rattle.papers.proofs.Verdict.{says-yes, says-no}
 use Rattle.papers.specs.Paper.{paper}
 use Rattle.runcheck.specs.Run.{KeptFrom}
 use Rattle.runcheck.proofs.keeps_all.Statement.{statement}

@@ -4,10 +4,10 @@ use native.Mathlib.Omega.{arith}
 use borrow.Author.Needs.{needs}
 use borrow.Author.Tests.{not-true, not-false}
 use lib.ListN.{length}
+use Rattle.ground.proofs.Saying.{says-yes, says-no}
 use Rattle.rules.specs.Book.{bookSystem}
 use Rattle.papers.proofs.Loops.{Passed, passed-none, passed-more, passed-all, failed-not-all}
-use Rattle.papers.proofs.Tests.{move-says}
-use Rattle.papers.proofs.Verdict.{says-yes, says-no}
+use Rattle.rules.proofs.Saying.{move-says}
 use Rattle.papers.specs.Paper.{paper}
 use Rattle.runcheck.proofs.Running.{MovesAt, next-moves, next-stuck, all-move, each-moves}
 use Rattle.runcheck.proofs.moves_on.Statement.{statement}

@@ -2,13 +2,12 @@
 use Prim.Native.Nat.{_-_, _≤_}
 use native.Mathlib.Omega.{arith}
 use lib.ListN.{length, length-set}
-use Rattle.steer.specs.Walk.{Wiped}
-use Rattle.steer.proofs.Wiping.{wiped-more, wiped-none, wiped-to}
+use Rattle.ground.proofs.Wiping.{Zeroed, zeroed-none, zeroed-more, zeroed-front}
 use Rattle.steer.proofs.no_distances.Statement.{statement}
 use Rattle.steer.proofs.no_distances.Tie as tie
 
 abbrev Inv-loop : tie.InvT-loop
-Inv-loop dist₀ k x₀ dist x = (k ≤ length dist) × (x ≤ k) × Wiped x dist₀ dist
+Inv-loop dist₀ k x₀ dist x = (k ≤ length dist) × (x ≤ k) × Zeroed 0 x dist₀ dist
 
 abbrev μ-loop : tie.MeasureT-loop
 μ-loop dist₀ k x₀ dist x = k - x
@@ -18,7 +17,7 @@ loop-again c =
     let head = c .before in (
       simp length-set (head .loop .inv .0),
       omega arith,
-      wiped-more (head .before .args .dist .now) (head .loop .dist) (head .loop .x) (omega arith) (head .loop .inv .2),
+      zeroed-more _ _ _ _ (head .loop .inv .2) (omega arith),
     )
 
 pub no-distances-spec : {M : Type 1} → statement M
@@ -27,11 +26,11 @@ no-distances-spec =
     (tie.spec
     Inv-loop
     μ-loop
-    (λ c. (c .pre, omega arith, wiped-none (c .args .dist .now)))
+    (λ c. (c .pre, omega arith, zeroed-none 0 _))
     (λ c. omega arith)
     (λ c. omega arith)
     (λ c. omega arith)
     (λ c. omega arith)
     loop-again
     (λ c. c .before .loop .inv .2 .long)
-    (λ c. wiped-to (omega arith) (c .before .loop .inv .2)))
+    (λ c. zeroed-front _ _ _ _ (c .before .loop .inv .2) (omega arith)))

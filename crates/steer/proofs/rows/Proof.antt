@@ -25,7 +25,7 @@ returns c =
     let start = at-no-distances .before .before .before .before .before .before .before .before .before .before in
     record {
       rowed = rowed-of-none (start .pre .0 .livables) (omega (arith, promises-are (start .args .book .now)))
-          (at-no-distances .no-distances .ensures .zero-below);
+          (at-no-distances .no-distances .ensures .zeros);
       long = at-no-distances .no-distances .ensures .long;
     }
 

@@ -10,7 +10,7 @@ rows-requires : tie.Need-rows-requires
 rows-requires c κs =
     let at-wipe = c .before .before .before .before .before in
     let start = at-wipe .before .before .before .before .before .before .before .before .before .before in
-    (ground-of (start .pre .0) (at-wipe .wipe .ensures), start .pre .1, start .pre .3)
+    (ground-of (start .pre .0) (at-wipe .wipe-front .ensures), start .pre .1, start .pre .3)
 
 find-end-requires : tie.Need-find-end-requires
 find-end-requires c κs =
@@ -18,8 +18,8 @@ find-end-requires c κs =
     let at-wipe = at-rows .before .before .before .before .before .before in
     let start = at-wipe .before .before .before .before .before .before .before .before .before .before in (
       laid-of (start .args .dist .now) (at-rows .rows .last .1 .1 .1 .0) (start .pre .0) (start .pre .1) (at-rows .rows .ensures),
-      ground-of (start .pre .0) (at-wipe .wipe .ensures) .in-words,
-      at-wipe .wipe .ensures .zero-below,
+      ground-of (start .pre .0) (at-wipe .wipe-front .ensures) .in-words,
+      at-wipe .wipe-front .ensures .zeros,
       start .pre .2,
     )
 
@@ -41,7 +41,7 @@ write-run-requires c κs =
 same-length : tie.Need-same-length
 same-length c =
     let at-find-end = c .before .before .before .before .before .before .before .before in
-    at-find-end .find-end .ensures .long ∙ at-find-end .before .before .before .before .before .before .before .before .before .before .before .before .before .wipe .ensures .long
+    at-find-end .find-end .ensures .long ∙ at-find-end .before .before .before .before .before .before .before .before .before .before .before .before .before .wipe-front .ensures .long
 
 returns : tie.Need-returns
 returns c =
@@ -53,7 +53,7 @@ returns c =
     record {
       steered = steered-written (start .args .run .now) (at-write-run .write-run .last .1 .1 .0) (at-write-run .write-run .result)
           (at-write-run .write-run .ensures) (omega (arith, at-if1 .if1 .taken));
-      long = at-find-end .find-end .ensures .long ∙ at-wipe .wipe .ensures .long;
+      long = at-find-end .find-end .ensures .long ∙ at-wipe .wipe-front .ensures .long;
     }
 
 returns-2 : tie.Need-returns-2
@@ -63,7 +63,7 @@ returns-2 c =
     let start = at-wipe .before .before .before .before .before .before .before .before .before .before in
     record {
       steered = steered-short (start .args .run .now) 0 (at-find-end .find-end .ensures .cut) (omega (arith, c .if1 .left));
-      long = at-find-end .find-end .ensures .long ∙ at-wipe .wipe .ensures .long;
+      long = at-find-end .find-end .ensures .long ∙ at-wipe .wipe-front .ensures .long;
     }
 
 pub walk-spec : {M : Type 1} → statement M

@@ -3,7 +3,7 @@ use mathlib.Core.Path.{sym, _∙_}
 use native.Mathlib.Omega.{arith}
 use borrow.Author.Needs.{needs}
 use borrow.Author.Tests.{not-true, not-false}
-use Rattle.papers.proofs.Verdict.{says-no}
+use Rattle.ground.proofs.Saying.{says-no}
 use Rattle.strikecheck.proofs.Entries.{entries-decide, accepted-rising, accepted-fit}
 use Rattle.strikecheck.proofs.accepted.Statement.{statement}
 use Rattle.strikecheck.proofs.accepted.Tie as tie

@@ -3,7 +3,7 @@ use mathlib.Core.Path.{refl}
 use mathlib.Core.Logic.{inr}
 use Prim.Native.Nat.{_-_}
 use native.Mathlib.Omega.{arith}
-use Rattle.papers.proofs.Verdict.{clash}
+use Rattle.ground.proofs.Tests.{no-both}
 use Rattle.papers.specs.Paper.{paper}
 use Rattle.strikecheck.specs.Windows.{pastAll, Settled}
 use Rattle.strikecheck.proofs.Windows.{settled-none}
@@ -24,7 +24,7 @@ all-different-spec =
     μ-loop
     (λ c. settled-none _)
     (λ c κs. c .loop-test .taken)
-    (λ c. λ e. absurd (clash e refl))
+    (λ c. λ e. absurd (no-both e refl))
     (λ c. omega (arith, c .before .window .ensures .rises))
     (λ c. c .before .window .ensures .settles (c .if1 .left) (c .before .before .before .loop .inv))
     (λ c. λ e j h. c .before .loop .inv j h (inr (c .loop-test .left))))

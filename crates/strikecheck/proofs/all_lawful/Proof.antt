@@ -4,10 +4,10 @@ use native.Mathlib.Omega.{arith}
 use borrow.Author.Needs.{needs}
 use borrow.Author.Tests.{not-true, not-false}
 use lib.ListN.{length, getD}
+use Rattle.ground.proofs.Saying.{says-yes, says-no}
 use Rattle.rules.specs.Book.{bookSystem}
 use Rattle.papers.proofs.Loops.{Passed, passed-none, passed-more, passed-all, failed-not-all}
-use Rattle.papers.proofs.Tests.{lawful-says}
-use Rattle.papers.proofs.Verdict.{says-yes, says-no}
+use Rattle.rules.proofs.Saying.{lawful-says}
 use Rattle.papers.specs.Paper.{paper}
 use Rattle.strikecheck.proofs.all_lawful.Statement.{statement}
 use Rattle.strikecheck.proofs.all_lawful.Tie as tie

@@ -6,10 +6,10 @@ use lib.ListN.{length}
 use native.Mathlib.Omega.{arith}
 use borrow.Author.Needs.{needs}
 use borrow.Author.Tests.{not-true, not-false}
+use Rattle.ground.proofs.Saying.{says-yes, says-no}
 use Rattle.rules.specs.Book.{bookSystem}
 use Rattle.classes.specs.Classes.{fewPlaces}
 use Rattle.papers.proofs.Loops.{passed-all, failed-not-all}
-use Rattle.papers.proofs.Verdict.{says-yes, says-no}
 use Rattle.papers.specs.Paper.{paper}
 use Rattle.strikecheck.proofs.Entries.{Entered, entered-none, entered-more, entry-asks, entry-says, near-start, far-start}
 use Rattle.strikecheck.proofs.Entries.{follows-within}

@@ -1,8 +1,8 @@
 -- `strikecheck::kept_by` meets its contract: reason 0 has no promise, reason k + 1 promise k. Assumes nothing.
 use mathlib.Core.Path.{refl}
 use borrow.Author.Needs.{needs}
-use Rattle.papers.proofs.Tests.{kept-says}
-use Rattle.papers.proofs.Verdict.{says-no}
+use Rattle.ground.proofs.Saying.{says-no}
+use Rattle.rules.proofs.Saying.{kept-says}
 use Rattle.strikecheck.proofs.Entries.{zero-keeps-none, kept-by-says}
 use Rattle.strikecheck.proofs.kept_by.Statement.{statement}
 use Rattle.strikecheck.proofs.kept_by.Tie as tie

@@ -4,9 +4,9 @@ use Prim.Native.Nat.{_-_, _%_, _≤_, ℕ}
 use native.Mathlib.Omega.{arith}
 use borrow.Author.Needs.{needs}
 use lib.ListN.{length, getD}
+use Rattle.ground.proofs.Saying.{says-yes, says-no}
 use Rattle.rules.specs.Book.{bookSystem, promisesOf}
 use Rattle.papers.proofs.Loops.{Passed, passed-none, passed-more, passed-all, failed-not-all}
-use Rattle.papers.proofs.Verdict.{says-yes, says-no}
 use Rattle.papers.specs.Paper.{paper}
 use Rattle.strikecheck.proofs.reasons_fit.Statement.{statement}
 use Rattle.strikecheck.proofs.reasons_fit.Tie as tie

@@ -1,7 +1,7 @@
 -- `strikecheck::shown_by` meets its contract. Assumes nothing.
 use mathlib.Core.Path.{refl}
 use borrow.Author.Needs.{needs}
-use Rattle.papers.proofs.Verdict.{clash}
+use Rattle.ground.proofs.Tests.{no-both}
 use Rattle.strikecheck.proofs.Entries.{follows-at}
 use Rattle.strikecheck.proofs.shown_by.Statement.{statement}
 use Rattle.strikecheck.proofs.shown_by.Tie as tie
@@ -17,4 +17,4 @@ shown-by-spec =
     (λ c κs. search needs)
     (λ c κs. search needs)
     returns
-    (λ c. λ e. absurd (clash e refl)))
+    (λ c. λ e. absurd (no-both e refl)))

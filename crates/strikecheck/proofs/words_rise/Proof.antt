@@ -2,7 +2,7 @@
 use Prim.Native.Nat.{_-_}
 use native.Mathlib.Omega.{arith}
 use borrow.Author.Needs.{needs}
-use Rattle.papers.proofs.Verdict.{says-yes, says-no}
+use Rattle.ground.proofs.Saying.{says-yes, says-no}
 use Rattle.papers.specs.Paper.{paper}
 use Rattle.strikecheck.proofs.Entries.{Risen, risen-begins, risen-more, risen-all, fall-not-rising}
 use Rattle.strikecheck.proofs.words_rise.Statement.{statement}

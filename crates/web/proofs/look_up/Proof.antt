@@ -57,7 +57,7 @@ cast-cells : tie.Need-cast-cells Inv-loop μ-loop
 cast-cells c =
     let at-if1 = c .before in
     let at-stands = at-if1 .before in
-    let a = at-stands .stands .ensures .yes-so (at-if1 .if1 .taken) .inside in omega arith
+    let a = at-stands .stands .ensures .yes (at-if1 .if1 .taken) .inside in omega arith
 
 mul-cells : tie.Need-mul-cells Inv-loop μ-loop
 mul-cells c =
@@ -93,7 +93,7 @@ loop-again c =
     let entry = at-loop .before .before .before .before in (
       omega arith,
       listed-more (entry .args .list .now) (entry .args .table .now) (entry .args .r) (entry .pre .0 .rises) _ _ _ _ _ _ _ (entry .pre .2 .rises) (at-loop-test .loop-test .taken)
-          (at-stands .stands .ensures .yes-so (at-if1 .if1 .taken)) (let a = at-loop .loop .inv .1 .inside in let b = at-loop .loop .inv .1 .long in omega arith)
+          (at-stands .stands .ensures .yes (at-if1 .if1 .taken)) (let a = at-loop .loop .inv .1 .inside in let b = at-loop .loop .inv .1 .long in omega arith)
           (at-loop .loop .inv .1),
     )
 

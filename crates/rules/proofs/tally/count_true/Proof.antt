@@ -5,8 +5,8 @@ use native.Mathlib.Omega.{arith}
 use borrow.Author.Needs.{needs}
 use lib.Bits.{bitAnd}
 use lib.Count.{ones, ones-le}
+use Rattle.ground.proofs.Ones.{ones-and-le, ones-parted}
 use Rattle.rules.specs.Book.{countOf}
-use Rattle.rules.proofs.Bit.{ones-and-le, ones-parted}
 use Rattle.rules.proofs.tally.count_true.Statement.{statement}
 use Rattle.rules.proofs.tally.count_true.Tie as tie
 

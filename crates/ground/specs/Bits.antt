@@ -1,4 +1,4 @@
--- What a mark is: a bit of a word. Assumes nothing.
+-- A bit of a number. Assumes nothing.
 use Prim.Native.Nat.{ℕ, zero, suc, _/_, _%_}
 
 -- bit k of x: 0 or 1

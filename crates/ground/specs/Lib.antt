@@ -1,0 +1,4 @@
+pub mod Says
+pub mod Listed
+pub mod Wiping
+pub mod Bits

@@ -1,0 +1,44 @@
+// The ground: what several crates use alike. A state's type, the most states that are judged, the lesser of two numbers, and wiping. Beside
+// the code stand what a test says, what stands in a list, bits, and their laws.
+ghost use mathlib.Core.Path.{_≡_};
+ghost use Prim.Native.Nat.{_≤_, min};
+ghost use lib.ListN.{length, take};
+ghost use Rattle.meaning.specs.Promises.{over, zeros};
+ghost use Rattle.ground.specs.Wiping.{Wiped};
+
+// A state, and a mask: a bit for each letter.
+pub type State = u32;
+
+// The most states that are judged: `mostStates` of the meaning.
+pub const MOST_STATES: usize = 16384;
+
+// The lesser of two numbers.
+pub fn lesser(a: usize, b: usize) -> usize
+    ensures { λ r. ⌜ r ≡ min a b ⌝ }
+{
+    if a < b { a } else { b }
+}
+
+// Zeros in the first n places; the rest is as it was.
+pub fn wipe_front(l: &mut [u32], n: usize)
+    requires { ⌜ n ≤ length (now l) ⌝ }
+    ensures { λ _. ⌜ Wiped n (now (l .entry)) (now (l .exit)) ⌝ }
+{
+    let mut i: usize = 0;
+    while i < n {
+        l[i] = 0;
+        i += 1;
+    }
+}
+
+// Zeros from a place on; what is before it is as it was.
+pub fn wipe_from(l: &mut [u32], from: usize)
+    requires { ⌜ from ≤ length (now l) ⌝ }
+    ensures { λ _. ⌜ now (l .exit) ≡ over (take from (now (l .entry))) (zeros (now (l .entry))) ⌝ }
+{
+    let mut i = from;
+    while i < l.len() {
+        l[i] = 0;
+        i += 1;
+    }
+}
