@@ -25,38 +25,38 @@ use Rattle.judge.proofs.Findings.{listed-room, crowded-judged}
 -- ---- after exploring
 
 -- Exploring keeps every length.
-pub returned-alike : {S : System} {cap r : ℕ} {table table′ words words′ scratch scratch′ : List ℕ} (run : List ℕ)
-    → Returned S cap table table′ words words′ scratch scratch′ r → Alike (lentOf table′ words′ scratch′ run) (lentOf table words scratch run)
-returned-alike run t = record { table-long = t .table-long; words-long = t .words-long; scratch-long = t .scratch-long; run-same = refl }
+pub returned-alike : {S : System} {cap r : ℕ} {table table′ scratch scratch′ : List ℕ} (words run : List ℕ)
+    → Returned S cap table table′ scratch scratch′ r → Alike (lentOf table′ words scratch′ run) (lentOf table words scratch run)
+returned-alike words run t = record { table-long = t .table-long; words-long = refl; scratch-long = t .scratch-long; run-same = refl }
 
 -- Above cap states were found, so R is above C.
-pub returned-crowded : {S : System} {cap r : ℕ} {table table₁ table′ words words₁ words′ scratch scratch₁ scratch′ : List ℕ} {j : Judgement} (run : List ℕ)
+pub returned-crowded : {S : System} {cap r : ℕ} {table table₁ table′ words words′ scratch scratch₁ scratch′ : List ℕ} {j : Judgement} (run : List ℕ)
     → j ≡ refused 11 0 0 → cap ≡ min (min (length table) (length words)) (min (length scratch / 2) mostStates)
-    → Returned S cap table table₁ words words₁ scratch scratch₁ r → cap < r → LeftOver 0 0 table₁ words₁ scratch₁ table′ words′ scratch′
+    → Returned S cap table table₁ scratch scratch₁ r → cap < r → LeftOver 0 0 table₁ words scratch₁ table′ words′ scratch′
     → JudgedBy S (lentOf table words scratch run) (outcomeOf j (lentOf table′ words′ scratch′ run))
-returned-crowded {S} {cap} {r} {table} {table₁} {words = words} {words₁} {scratch = scratch} {scratch₁} run numbers is t above L =
+returned-crowded {S} {cap} {r} {table} {table₁} {words = words} {scratch = scratch} {scratch₁} run numbers is t above L =
     judged-alike alike (crowded-judged run numbers (many (t .explored)) L)
   where
-    alike : Alike (lentOf table₁ words₁ scratch₁ run) (lentOf table words scratch run)
-    alike = returned-alike run t
+    alike : Alike (lentOf table₁ words scratch₁ run) (lentOf table words scratch run)
+    alike = returned-alike words run t
 
-    room : cap ≡ capacity (lentOf table₁ words₁ scratch₁ run)
+    room : cap ≡ capacity (lentOf table₁ words scratch₁ run)
     room = is ∙ capacity-is table words scratch run ∙ sym (capacity-same alike)
 
-    many : Explored S cap table₁ r → (n : ℕ) → IsR S n → capacity (lentOf table₁ words₁ scratch₁ run) < n
+    many : Explored S cap table₁ r → (n : ℕ) → IsR S n → capacity (lentOf table₁ words scratch₁ run) < n
     many (all few lists) n number = absurd (omega arith)
     many (more e high) n number = subst (λ c. c < n) room (high n number)
 
 -- At most cap states were found: they are listed.
-pub returned-reached : {book : List ℕ} {cap r : ℕ} {table table₁ words words₁ scratch scratch₁ : List ℕ} (run : List ℕ) → Shaped book
+pub returned-reached : {book : List ℕ} {cap r : ℕ} {table table₁ scratch scratch₁ : List ℕ} (words run : List ℕ) → Shaped book
     → cap ≡ min (min (length table) (length words)) (min (length scratch / 2) mostStates)
-    → Returned (bookSystem book) cap table table₁ words words₁ scratch scratch₁ r → r ≤ cap → Reached book (lentOf table₁ words₁ scratch₁ run) r
-returned-reached {book} {cap} {r} {table} {table₁} {words} {words₁} {scratch} {scratch₁} run shaped is t few = by (t .explored)
+    → Returned (bookSystem book) cap table table₁ scratch scratch₁ r → r ≤ cap → Reached book (lentOf table₁ words scratch₁ run) r
+returned-reached {book} {cap} {r} {table} {table₁} {scratch} {scratch₁} words run shaped is t few = by (t .explored)
   where
-    room : cap ≡ capacity (lentOf table₁ words₁ scratch₁ run)
-    room = is ∙ capacity-is table words scratch run ∙ sym (capacity-same (returned-alike run t))
+    room : cap ≡ capacity (lentOf table₁ words scratch₁ run)
+    room = is ∙ capacity-is table words scratch run ∙ sym (capacity-same (returned-alike words run t))
 
-    by : Explored (bookSystem book) cap table₁ r → Reached book (lentOf table₁ words₁ scratch₁ run) r
+    by : Explored (bookSystem book) cap table₁ r → Reached book (lentOf table₁ words scratch₁ run) r
     by (all l lists) = record { shaped = shaped; lists = lists; room = subst (λ c. r ≤ c) room few }
     by (more e high) = absurd (omega arith)
 

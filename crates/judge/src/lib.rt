@@ -141,7 +141,7 @@ fn judge_book(
         (outcomeOf j (lentOf (now (table .exit)) (now (words .exit)) (now (scratch .exit)) (now (run .exit)))) ⌝ }
 {
     let cap = room(table.len(), words.len(), scratch.len());
-    let r = explore::explore(book, table, words, scratch, cap);
+    let r = explore::explore(book, table, scratch, cap);
     if cap < r {
         leave(table, words, scratch, 0, 0);
         return refusal(11, 0, 0);

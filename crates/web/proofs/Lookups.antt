@@ -10,8 +10,8 @@ use Rattle.ground.specs.Listed.{Rises}
 use Rattle.ground.proofs.Rising.{rises-apart, rises-le}
 use Rattle.listing.specs.Listing.{Listing}
 use Rattle.listing.proofs.Front.{front-long, front-rises, front-there, front-sound}
-use Rattle.lookup.specs.Lookup.{Stands, Sorted, Cut}
-use Rattle.lookup.proofs.Places.{cut-absent}
+use Rattle.lookup.specs.Lookup.{StandsAt, Sorted, Splits}
+use Rattle.lookup.proofs.Places.{split-absent}
 use Rattle.rules.specs.Book.{bookSystem}
 use Rattle.web.specs.Web.{Storable}
 use Rattle.web.specs.Storing.{Listed, Nexts, Filled}
@@ -43,7 +43,7 @@ module _ (list table : List ℕ) (r : ℕ) (sorted : Rises table r) where
   listed-none j (l, (m, a, e)) = omega arith
 
   -- The place where the next state stands is written.
-  pub listed-more : (n k p at to : ℕ) (old new : List ℕ) → Rises list n → k < n → Stands table r p (getD list k 0) → to < length old
+  pub listed-more : (n k p at to : ℕ) (old new : List ℕ) → Rises list n → k < n → StandsAt table r p (getD list k 0) → to < length old
       → Filling (Upto k) at old new to → Filling (Upto (k + 1)) at old (set new to p) (to + 1)
   listed-more n k p at to old new R h st room w =
       filling-more (Upto k) (Upto (k + 1)) at to p old new room w above (up k) (st .inside, (k, omega arith, sym (st .there))) back
@@ -65,7 +65,7 @@ module _ (list table : List ℕ) (r : ℕ) (sorted : Rises table r) where
           by (no d) = inl (l, (m, omega arith, e))
 
   -- A state that does not stand where it belongs is left out.
-  pub listed-past : (k p at to : ℕ) (old new : List ℕ) → Cut table r (getD list k 0) p → (Stands table r p (getD list k 0) → ⊥)
+  pub listed-past : (k p at to : ℕ) (old new : List ℕ) → Splits table r (getD list k 0) p → (StandsAt table r p (getD list k 0) → ⊥)
       → Filling (Upto k) at old new to → Filling (Upto (k + 1)) at old new to
   listed-past k p at to old new cut out w = filling-same (Upto k) (Upto (k + 1)) (up k) back w
     where
@@ -74,7 +74,7 @@ module _ (list table : List ℕ) (r : ℕ) (sorted : Rises table r) where
         where
           by : Dec (m ≡ k) → Upto k i
           by (yes d) =
-              absurd (cut-absent table r (getD list k 0) p sorted cut out (i, l, sym e ∙ ap (λ (x : ℕ). getD list x 0) d))
+              absurd (split-absent table r (getD list k 0) p sorted cut out (i, l, sym e ∙ ap (λ (x : ℕ). getD list x 0) d))
           by (no d) = (l, (m, omega arith, e))
 
   -- Once all states are looked up the row is filled.
