@@ -7,17 +7,7 @@ use mathlib.Core.List.{List}
 use Prim.Native.Nat.{ℕ, _≤_}
 use lib.ListN.{take}
 use Rattle.meaning.specs.Bytes.{bytesOf}
-use Rattle.meaning.specs.Promises.{
-  stateBytes,
-  wordBytes,
-  accepted,
-  RunChecked,
-  StrikesChecked,
-  RunBytesChecked,
-  StrikesBytesChecked,
-  Lent,
-  Judged,
-}
+use Rattle.meaning.specs.Promises.{stateBytes, wordBytes, accepted, RunChecked, StrikesChecked, RunBytesChecked, StrikesBytesChecked, Lent, Judged}
 use Rattle.meaning.proofs.Lasso.{run-accepted-exactly}
 use Rattle.meaning.proofs.Demands.{roomy-at-0, roomy-at-13}
 use Rattle.meaning.proofs.Sizes.{b-at-most}

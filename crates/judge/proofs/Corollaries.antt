@@ -11,16 +11,7 @@ use Rattle.meaning.specs.Strike.{StrikeList}
 use Rattle.meaning.specs.Sample.{RunPaper}
 use Rattle.meaning.specs.Papers.{RunAccepted, StrikesAccepted}
 use Rattle.meaning.specs.Promises.{systemIn, Lent, Outcome, Roomy, outcome, Judged}
-use Rattle.meaning.proofs.Demands.{
-  RunFits,
-  KeepsInTime,
-  kept-hands-over,
-  kept-run-accepted,
-  cannot-hands-over,
-  demand-2,
-  demand-3,
-  short-run-leaves,
-}
+use Rattle.meaning.proofs.Demands.{RunFits, KeepsInTime, kept-hands-over, kept-run-accepted, cannot-hands-over, demand-2, demand-3, short-run-leaves}
 use Rattle.judge.specs.declared.Judgement.{Judgement}
 use Rattle.judge.specs.Judging.{outcomeOf}
 

@@ -32,19 +32,9 @@ unfolding outcome cleared
 crowded-judged {table = table} {words} {table′ = table′} {words′} run is many L = record {
   finding = crowded;
   found = many;
-  returned = λ i. record {
-    answer = is i .answer;
-    count = is i .count;
-    a = is i .a;
-    b = is i .b;
-    place = is i .place;
-    leaves = record {
-      table = wiped-whole table′ table (L .table-is) i;
-      words = wiped-whole words′ words (L .words-is) i;
-      scratch = L .scratch-is i;
-      run = run;
-    };
-  };
+  returned = λ i.
+      let leaves = lentOf (wiped-whole table′ table (L .table-is) i) (wiped-whole words′ words (L .words-is) i) (L .scratch-is i) run in
+      outcomeOf (is i) leaves;
 }
 
 -- 12: it can be kept, but the run needs b places.
@@ -56,19 +46,9 @@ unfolding outcome cleared
 short-judged {table = table} {words} {words₁ = words₁} {table′ = table′} {words′} {b = b} is room kept steered long few L = record {
   finding = short b;
   found = (room, kept, (steered .states, steered .back, steered .paper, steered .long), few);
-  returned = λ i. record {
-    answer = is i .answer;
-    count = is i .count;
-    a = is i .a;
-    b = is i .b;
-    place = is i .place;
-    leaves = record {
-      table = wiped-whole table′ table (L .table-is) i;
-      words = (wiped-whole words′ words₁ (L .words-is) ∙ zeros-same words₁ words long) i;
-      scratch = L .scratch-is i;
-      run = steered .short few i;
-    };
-  };
+  returned = λ i.
+      let none = wiped-whole words′ words₁ (L .words-is) ∙ zeros-same words₁ words long in
+      outcomeOf (is i) (lentOf (wiped-whole table′ table (L .table-is) i) (none i) (L .scratch-is i) (steered .short few i));
 }
 
 -- 0: it can be kept, and the run fits.
@@ -80,19 +60,10 @@ unfolding outcome
 kept-judged {table = table} {words} {run = run} {words₁ = words₁} {words′ = words′} {k = k} room kept lists fits steered long enough L = record {
   finding = can (take k table) (steered .states) (steered .back);
   found = (room, kept, lists, steered .paper, subst (λ n. n ≤ length run) (sym (steered .long)) enough);
-  returned = λ i. record {
-    answer = 0;
-    count = sym (length-take-le k table fits) i;
-    a = steered .fits enough .1 i;
-    b = sym (steered .long) i;
-    place = 0;
-    leaves = record {
-      table = L .table-is i;
-      words = (wiped-whole words′ words₁ (L .words-is) ∙ zeros-same words₁ words long) i;
-      scratch = L .scratch-is i;
-      run = steered .fits enough .0 i;
-    };
-  };
+  returned = λ i.
+      let none = wiped-whole words′ words₁ (L .words-is) ∙ zeros-same words₁ words long in
+      let leaves = lentOf (L .table-is i) (none i) (L .scratch-is i) (steered .fits enough .0 i) in
+      record { answer = 0; count = sym (length-take-le k table fits) i; a = steered .fits enough .1 i; b = sym (steered .long) i; place = 0; leaves = leaves };
 }
 
 -- 13: it cannot be kept.
@@ -105,19 +76,11 @@ unfolding outcome
 cannot-judged {S} {table} {words} {scratch} {words₁} {scratch₁} {r = r} run room lists marked words-long scratch-long W = record {
   finding = cannot (take r (W .states)) (take r (W .marks));
   found = (listed-room (lentOf table words scratch run) r lists room, strike-list-no-run strikes, strikes);
-  returned = λ i. record {
-    answer = 13;
-    count = sym (length-take-le r (W .states) (omega (arith, places .in-table, W .in-order .long-table))) i;
-    a = 0;
-    b = 0;
-    place = 0;
-    leaves = record {
-      table = W .table-is i;
-      words = (W .words-is ∙ ap (over (take r (W .marks))) (zeros-same words₁ words words-long)) i;
-      scratch = (W .scratch-is ∙ zeros-same scratch₁ scratch scratch-long) i;
-      run = run;
-    };
-  };
+  returned = λ i.
+      let count = length-take-le r (W .states) (omega (arith, places .in-table, W .in-order .long-table)) in
+      let marks = W .words-is ∙ ap (over (take r (W .marks))) (zeros-same words₁ words words-long) in
+      let leaves = lentOf (W .table-is i) (marks i) ((W .scratch-is ∙ zeros-same scratch₁ scratch scratch-long) i) run in
+      record { answer = 13; count = sym count i; a = 0; b = 0; place = 0; leaves = leaves };
 }
   where
     places : Places (lentOf table words scratch run) r

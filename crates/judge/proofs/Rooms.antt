@@ -6,7 +6,7 @@ use Prim.Native.Nat.{ℕ, _*_, _/_, _≤_, _<_, min}
 use native.Mathlib.Omega.{arith}
 use lib.ListN.{length}
 use Rattle.meaning.specs.System.{System}
-use Rattle.meaning.specs.Promises.{Lent, Outcome, Finding, bad, crowded, short, can, cannot, capacity, mostStates, over, cleared, outcome}
+use Rattle.meaning.specs.Promises.{Lent, Outcome, Finding, bad, crowded, short, can, cannot, capacity, mostStates, over, zeros, cleared, outcome}
 use Rattle.judge.specs.Judging.{RoomFor, FoundBy, JudgedBy, lentOf}
 use Rattle.judge.proofs.Wiping.{zeros-same}
 
@@ -52,61 +52,32 @@ found-same S s (can livable states a) (room, kept, lists, paper, fits) =
     (room-same s room, kept, lists, paper, subst (λ (l : List ℕ). length states ≤ length l) (s .run-same) fits)
 found-same S s (cannot states words) (room, never, list) = (room-same s room, never, list)
 
+-- Slices as long become the same zeros.
+module _ {lent lent′ : Lent} (s : Alike lent lent′) where
+  table-zeros : zeros (lent .table) ≡ zeros (lent′ .table)
+  table-zeros = zeros-same (lent .table) (lent′ .table) (s .table-long)
+
+  words-zeros : zeros (lent .words) ≡ zeros (lent′ .words)
+  words-zeros = zeros-same (lent .words) (lent′ .words) (s .words-long)
+
+  scratch-zeros : zeros (lent .scratch) ≡ zeros (lent′ .scratch)
+  scratch-zeros = zeros-same (lent .scratch) (lent′ .scratch) (s .scratch-long)
+
 outcome-same : (S : System) {lent lent′ : Lent} → Alike lent lent′ → (x : Finding) → FoundBy S lent x → outcome lent x ≡ outcome lent′ x
 unfolding outcome cleared
-outcome-same S {lent} {lent′} s (bad f) never = absurd never
-outcome-same S {lent} {lent′} s crowded found = λ i. record {
-  answer = 11;
-  count = 0;
-  a = 0;
-  b = 0;
-  place = 0;
-  leaves = record {
-    table = zeros-same (lent .table) (lent′ .table) (s .table-long) i;
-    words = zeros-same (lent .words) (lent′ .words) (s .words-long) i;
-    scratch = zeros-same (lent .scratch) (lent′ .scratch) (s .scratch-long) i;
-    run = s .run-same i;
-  };
-}
-outcome-same S {lent} {lent′} s (short b) found = λ i. record {
-  answer = 12;
-  count = 0;
-  a = 0;
-  b = b;
-  place = 0;
-  leaves = record {
-    table = zeros-same (lent .table) (lent′ .table) (s .table-long) i;
-    words = zeros-same (lent .words) (lent′ .words) (s .words-long) i;
-    scratch = zeros-same (lent .scratch) (lent′ .scratch) (s .scratch-long) i;
-    run = s .run-same i;
-  };
-}
-outcome-same S {lent} {lent′} s (can livable states a) found = λ i. record {
-  answer = 0;
-  count = length livable;
-  a = a;
-  b = length states;
-  place = 0;
-  leaves = record {
-    table = over livable (zeros-same (lent .table) (lent′ .table) (s .table-long) i);
-    words = zeros-same (lent .words) (lent′ .words) (s .words-long) i;
-    scratch = zeros-same (lent .scratch) (lent′ .scratch) (s .scratch-long) i;
-    run = over states (s .run-same i);
-  };
-}
-outcome-same S {lent} {lent′} s (cannot states words) found = λ i. record {
-  answer = 13;
-  count = length states;
-  a = 0;
-  b = 0;
-  place = 0;
-  leaves = record {
-    table = over states (zeros-same (lent .table) (lent′ .table) (s .table-long) i);
-    words = over words (zeros-same (lent .words) (lent′ .words) (s .words-long) i);
-    scratch = zeros-same (lent .scratch) (lent′ .scratch) (s .scratch-long) i;
-    run = s .run-same i;
-  };
-}
+outcome-same S s (bad f) never = absurd never
+outcome-same S s crowded found = λ i.
+    let leaves = lentOf (table-zeros s i) (words-zeros s i) (scratch-zeros s i) (s .run-same i) in
+    record { answer = 11; count = 0; a = 0; b = 0; place = 0; leaves = leaves }
+outcome-same S s (short b) found = λ i.
+    let leaves = lentOf (table-zeros s i) (words-zeros s i) (scratch-zeros s i) (s .run-same i) in
+    record { answer = 12; count = 0; a = 0; b = b; place = 0; leaves = leaves }
+outcome-same S s (can livable states a) found = λ i.
+    let leaves = lentOf (over livable (table-zeros s i)) (words-zeros s i) (scratch-zeros s i) (over states (s .run-same i)) in
+    record { answer = 0; count = length livable; a = a; b = length states; place = 0; leaves = leaves }
+outcome-same S s (cannot states words) found = λ i.
+    let leaves = lentOf (over states (table-zeros s i)) (over words (words-zeros s i)) (scratch-zeros s i) (s .run-same i) in
+    record { answer = 13; count = length states; a = 0; b = 0; place = 0; leaves = leaves }
 
 -- The promise holds of slices as long with the same run.
 pub judged-alike : {S : System} {lent lent′ : Lent} {o : Outcome} → Alike lent lent′ → JudgedBy S lent o → JudgedBy S lent′ o

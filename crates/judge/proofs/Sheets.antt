@@ -5,21 +5,7 @@ use mathlib.Core.List.{List}
 use Prim.Native.Nat.{ℕ}
 use Rattle.meaning.specs.Sheet.{firstFault, decode}
 use Rattle.meaning.specs.Rules.{systemOf}
-use Rattle.meaning.specs.Promises.{
-  systemIn,
-  Lent,
-  Outcome,
-  Finding,
-  bad,
-  crowded,
-  short,
-  can,
-  cannot,
-  Roomy,
-  Found,
-  outcome,
-  Judged,
-}
+use Rattle.meaning.specs.Promises.{systemIn, Lent, Outcome, Finding, bad, crowded, short, can, cannot, Roomy, Found, outcome, Judged}
 use Rattle.meaning.proofs.SheetSystem.{finite-in}
 use Rattle.meaning.proofs.Judging.{number-of-reachable}
 use Rattle.reader.specs.declared.Fault as F
@@ -37,14 +23,10 @@ unfolding outcome
 bad-judged lent faulty number is = record {
   finding = bad (faulty .fault);
   found = faulty .first;
-  returned = λ i. record {
-    answer = (ap (λ (k : Judgement). k .answer) is ∙ number ∙ faulty .number) i;
-    count = is i .count;
-    a = is i .a;
-    b = is i .b;
-    place = (ap (λ (k : Judgement). k .place) is ∙ faulty .place) i;
-    leaves = lent;
-  };
+  returned = λ i.
+      let answer = ap (λ (k : Judgement). k .answer) is ∙ number ∙ faulty .number in
+      let place = ap (λ (k : Judgement). k .place) is ∙ faulty .place in
+      record { answer = answer i; count = is i .count; a = is i .a; b = is i .b; place = place i; leaves = lent };
 }
 
 roomy : {sheet : List ℕ} {lent : Lent} → firstFault sheet ≡ none → RoomFor (systemIn sheet) lent → Roomy sheet lent

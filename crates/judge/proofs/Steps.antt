@@ -15,7 +15,8 @@ use Rattle.strike.specs.Phases.{Strikable}
 use Rattle.arrange.specs.Arranged.{InFront}
 use Rattle.arrange.specs.Placing.{Keepable, Orderable}
 use Rattle.arrange.proofs.Fronts.{front-rises, front-sound}
-use Rattle.steer.specs.Walk.{Ready}
+use Rattle.steer.specs.Walk.{Steerable}
+use Rattle.steer.proofs.Papers.{steerable-of}
 use Rattle.judge.specs.declared.Judgement.{Judgement}
 use Rattle.judge.specs.Judging.{lentOf, outcomeOf, refused, JudgedBy, Reached, Kept, LeftOver}
 use Rattle.judge.proofs.Rooms.{Places, capacity-places, capacity-is, Alike, capacity-same, room-same, judged-alike}
@@ -142,15 +143,8 @@ pub kept-in-table : {book : List ℕ} {lent : Lent} {k : ℕ} → Kept book lent
 kept-in-table h = kept-places h .in-table
 
 -- What steering asks.
-pub kept-ready : {book : List ℕ} {lent : Lent} {k : ℕ} → Kept book lent k → Ready book (lent .table) (lent .words) k
-kept-ready h = let p = kept-places h in record {
-  shaped = h .shaped;
-  some = h .some;
-  few = p .small;
-  in-table = p .in-table;
-  in-words = p .in-words;
-  livable = h .lists;
-}
+pub kept-steerable : {book : List ℕ} {lent : Lent} {k : ℕ} → Kept book lent k → Steerable book (lent .table) (lent .words) k
+kept-steerable h = let p = kept-places h in steerable-of (h .shaped) (h .some) (p .small) (p .in-table) (p .in-words) (h .lists)
 
 -- A livable state's run keeps the sheet.
 pub kept-can : {book : List ℕ} {lent : Lent} {k : ℕ} → Kept book lent k → CanBeKept (bookSystem book)

@@ -5,16 +5,17 @@ use mathlib.Core.List.{List, [], _∷_, _++_}
 use Prim.Native.Nat.{ℕ, zero, suc, _+_, _-_, _*_, _≤_, _<_}
 use native.Mathlib.Decide.{decLt}
 use native.Mathlib.Omega.{arith}
-use lib.ListN.{length, getD, drop, length-append, length-drop, List·getD-append}
+use lib.ListN.{length, getD, take, drop, length-append, length-drop, List·getD-append}
 use lib.Seq.{ext-getD, getD-append-add, getD-drop}
-use Rattle.meaning.specs.System.{System}
+use Rattle.meaning.specs.System.{System, Livable, Lists}
 use Rattle.meaning.specs.Sample.{RunPaper}
-use Rattle.meaning.specs.Promises.{over}
+use Rattle.meaning.specs.Promises.{over, mostStates}
 use Rattle.ground.specs.Wiping.{Wiped}
-use Rattle.rules.specs.Book.{bookSystem}
+use Rattle.rules.specs.Book.{Shaped, bookSystem}
+use Rattle.best.specs.Rows.{aimsOf, Rowable, RowsMeasured, Walkable}
+use Rattle.best.proofs.Places.{livables-of}
 use Rattle.steer.specs.Steered.{Steered}
-use Rattle.steer.specs.Walk.{Ready, aimsOf, Ground, Rows, Laid, Cut, Written}
-use Rattle.steer.proofs.Places.{livables-of}
+use Rattle.steer.specs.Walk.{Steerable, LoopCut, RunWritten}
 
 -- ---- the paper
 
@@ -34,7 +35,7 @@ getD-states-of f zero i h = absurd (omega arith)
 getD-states-of f (suc b) zero h = refl
 getD-states-of f (suc b) (suc i) h = getD-states-of (λ i. f (suc i)) b i (omega arith)
 
-cut-paper : {S : System} {table : List ℕ} {b place aim : ℕ} (c : Cut S table b place aim) → RunPaper S (states-of (c .run) b) (c .back)
+cut-paper : {S : System} {table : List ℕ} {b place aim : ℕ} (c : LoopCut S table b place aim) → RunPaper S (states-of (c .run) b) (c .back)
 cut-paper {b = b} c = record {
   run = c .run;
   aim = c .aims;
@@ -50,7 +51,7 @@ cut-paper {b = b} c = record {
     size = length-states-of (c .run) b
 
 -- A run that does not fit is told by its length alone.
-pub steered-short : {S : System} {table : List ℕ} {b place aim : ℕ} (run : List ℕ) (a : ℕ) → Cut S table b place aim → length run < b → Steered S run run a b
+pub steered-short : {S : System} {table : List ℕ} {b place aim : ℕ} (run : List ℕ) (a : ℕ) → LoopCut S table b place aim → length run < b → Steered S run run a b
 steered-short {b = b} run a c h = record {
   states = states-of (c .run) b;
   back = c .back;
@@ -61,7 +62,7 @@ steered-short {b = b} run a c h = record {
 }
 
 -- A run that fits is written.
-pub steered-written : {S : System} {table : List ℕ} {b place aim : ℕ} (run new : List ℕ) (a : ℕ) → Written S table b place aim run new a → b ≤ length run
+pub steered-written : {S : System} {table : List ℕ} {b place aim : ℕ} (run new : List ℕ) (a : ℕ) → RunWritten S table b place aim run new a → b ≤ length run
     → Steered S run new a b
 unfolding over
 steered-written {b = b} run new a w h = record {
@@ -95,27 +96,19 @@ steered-written {b = b} run new a w h = record {
 
 -- ---- the parts put together
 
--- What is asked, with the words wiped, is what the distances are measured over.
-pub ground-of : {book table words words′ : List ℕ} {k : ℕ} → Ready book table words k → Wiped k words words′ → Ground book table words′ k
-ground-of {table = table} {k = k} r w = record {
-  shaped = r .shaped;
-  some = r .some;
-  few = r .few;
-  in-table = r .in-table;
-  in-words = omega (arith, w .long, r .in-words);
-  livables = livables-of table k (r .in-table) (r .livable);
-  unmarked = w .zeros;
+-- The list of the livable states is what steering asks for.
+pub steerable-of : {book table words : List ℕ} {r : ℕ} → Shaped book → 1 ≤ r → r ≤ mostStates → r ≤ length table → r ≤ length words
+    → Lists (Livable (bookSystem book)) (take r table) → Steerable book table words r
+steerable-of {table = table} {r = r} shaped some few in-table in-words lists = record {
+  states = record { shaped = shaped; some = some; few = few; in-table = in-table; livables = livables-of table r in-table lists };
+  in-words = in-words;
 }
 
--- With the rows measured, the walk can begin.
-pub laid-of : {book table words : List ℕ} {k : ℕ} (old dist : List ℕ) → Ready book table words k → aimsOf (bookSystem book) * k ≤ length old
-    → Rows book table k old dist → Laid book table dist k
-laid-of {table = table} {k = k} old dist r h w = record {
-  shaped = r .shaped;
-  some = r .some;
-  few = r .few;
-  in-table = r .in-table;
-  in-dist = omega (arith, h, w .long);
-  livables = livables-of table k (r .in-table) (r .livable);
-  rowed = w .rowed;
-}
+module _ {book table words : List ℕ} {r : ℕ} (s : Steerable book table words r) where
+  -- With the words wiped, distances can be measured.
+  pub rowable-of : {words′ : List ℕ} → Wiped r words words′ → Rowable book table words′ r
+  rowable-of w = record { states = s .states; in-words = omega (arith, w .long, s .in-words); unmarked = w .zeros }
+
+  -- With the rows measured, the walk can begin.
+  pub walkable-of : {old dist : List ℕ} → aimsOf (bookSystem book) * r ≤ length old → RowsMeasured book table r old dist → Walkable book table dist r
+  walkable-of h m = record { states = s .states; in-dist = omega (arith, h, m .long); rowed = m .rowed }

@@ -1,3 +1,2 @@
 pub mod Steered
-pub mod Stored
 pub mod Walk

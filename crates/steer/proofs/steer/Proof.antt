@@ -3,29 +3,28 @@ use mathlib.Core.Path.{subst}
 use Prim.Native.Nat.{ℕ, _*_, _≤_}
 use native.Mathlib.Omega.{arith}
 use borrow.Author.Needs.{needs}
+use Rattle.steer.specs.Walk.{fewDistances}
 use Rattle.steer.proofs.Trails.{few-rows}
 use Rattle.steer.proofs.steer.Statement.{statement}
 use Rattle.steer.proofs.steer.Tie as tie
 
-mul-room : tie.Need-mul-room
-mul-room c =
-    let start = c .before .before .before .before .before in
-    omega (arith, few-rows (start .pre .shaped) (c .count-aims .result) (start .args .k) (c .count-aims .ensures) (start .pre .few))
+abbrev start : tie.After-count-aims → tie.Start
+start c = c .before .before .before .before .before
 
 walk-small-requires : tie.Need-walk-small-requires
 walk-small-requires c κs =
-    let at-if1 = c .before .before in
-    let at-is-small = at-if1 .before in
-    let at-count-aims = at-is-small .before in
-    let start = at-count-aims .before .before .before .before .before in
-    (start .pre, subst (λ (y : ℕ). y * start .args .k ≤ 8192) (at-count-aims .count-aims .ensures) (at-is-small .is-small .ensures (at-if1 .if1 .taken)))
+    let small = c .before .before .before in
+    let counted = small .before in (
+      start counted .pre,
+      subst (λ (y : ℕ). y * start counted .args .r ≤ fewDistances) (counted .count-aims .ensures) (small .is-small .ensures (c .before .before .if1 .taken)),
+    )
 
 pub steer-spec : {M : Type 1} → statement M
 steer-spec =
     tie.close
     (tie.spec
     (λ c κs. search needs)
-    mul-room
+    (λ c. omega (arith, few-rows (start c .pre .states) (c .count-aims .result) (c .count-aims .ensures)))
     (λ c κs. search needs)
     walk-small-requires
     (λ c. search needs)

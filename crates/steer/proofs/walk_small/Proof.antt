@@ -4,15 +4,6 @@ use borrow.Author.Needs.{needs}
 use Rattle.steer.proofs.walk_small.Statement.{statement}
 use Rattle.steer.proofs.walk_small.Tie as tie
 
-walk-requires : tie.Need-walk-requires
-walk-requires c κs =
-    let start = c .before .before .before .before .before .before .before .before .before in (
-      start .pre .0,
-      start .pre .1,
-      λ some. absurd (some refl),
-      λ some. absurd (some refl),
-    )
-
 pub walk-small-spec : {M : Type 1} → statement M
 walk-small-spec =
     tie.close
@@ -21,7 +12,7 @@ walk-small-spec =
     (λ c. search needs)
     (λ c. search needs)
     (λ c. search needs)
-    walk-requires
+    (λ c κs. let pre = c .before .before .before .before .before .before .before .before .before .pre in (pre .0, pre .1, λ some. absurd (some refl), λ some. absurd (some refl)))
     (λ c. search needs)
     (λ c. search needs)
     (λ c. search needs))

@@ -2,60 +2,36 @@
 use Prim.Native.Nat.{_-_, _≤_}
 use native.Mathlib.Omega.{arith}
 use Rattle.rules.specs.Book.{bookSystem}
-use Rattle.steer.proofs.Writings.{Writing, writing-aimed, writing-ends, writing-goes, writing-starts}
+use Rattle.best.specs.Step.{Onward}
+use Rattle.steer.specs.Walk.{Known}
+use Rattle.steer.proofs.Trails.{moment-aim}
+use Rattle.steer.proofs.Writings.{Writing, writing-ends, writing-goes, writing-starts}
 use Rattle.steer.proofs.write_run.Statement.{statement}
 use Rattle.steer.proofs.write_run.Tie as tie
 
 abbrev Inv-loop : tie.InvT-loop
-Inv-loop book table run₀ dist k b last goal forth place₀ aim₀ a₀ i₀ run place aim a i =
-    (i ≤ b) × Writing (bookSystem book) table b last goal run₀ run k i place aim a
+Inv-loop book table run₀ dist r b last goal forth place₀ aim₀ a₀ i₀ run place aim a i =
+    Known book table dist run₀ r b last goal × Onward book table r forth × (i ≤ b) × Writing (bookSystem book) table b last goal run₀ run r i place aim a
 
 abbrev μ-loop : tie.MeasureT-loop
-μ-loop book table run₀ dist k b last goal forth place₀ aim₀ a₀ i₀ run place aim a i = b - i
-
-first-place-requires : tie.Need-first-place-requires Inv-loop μ-loop
-first-place-requires c κs = (c .before .before .before .before .before .pre .0 .laid .shaped, c .before .before .before .before .before .pre .0 .laid .in-table)
+μ-loop book table run₀ dist r b last goal forth place₀ aim₀ a₀ i₀ run place aim a i = b - i
 
 loop-holds : tie.Need-loop-holds Inv-loop μ-loop
 loop-holds c =
-    let start = c .before .before .before .before .before .before in (
-      omega arith,
-      writing-starts (start .args .run .now) (start .pre .0 .laid .livables) (start .pre .0 .laid .some) (c .first-place .result)
-          (c .first-place .ensures) (start .pre .0 .cut),
-    )
-
-mul-run : tie.Need-mul-run Inv-loop μ-loop
-mul-run c = omega (arith, c .before .loop .inv .1 .inside, c .before .before .before .before .before .before .before .before .pre .0 .laid .few)
-
-shared-slice-read-run : tie.Need-shared-slice-read-run Inv-loop μ-loop
-shared-slice-read-run c =
-    let start = c .before .before .before .before .before .before .before .before .before in
-    omega (arith, c .before .before .loop .inv .1 .inside, start .pre .0 .laid .in-table)
-
-slice-write-run : tie.Need-slice-write-run Inv-loop μ-loop
-slice-write-run c =
-    let start = c .before .before .before .before .before .before .before .before .before in
-    omega (arith, c .before .before .loop .inv .1 .long, start .pre .0 .fits, c .before .loop-test .taken)
-
-step-requires : tie.Need-step-requires Inv-loop μ-loop
-step-requires c κs =
-    let head = c .before .before .before in
-    let start = head .before .before .before .before .before .before .before in
-    (start .pre .0 .laid, head .loop .inv .1 .inside, writing-aimed (start .pre .0 .laid .livables) (head .loop .inv .1), start .pre .1)
+    let start = c .before .before .before .before .before .before in
+    let known = start .pre .0 in
+    (known, start .pre .1, omega arith, writing-starts (start .args .run .now) (known .walkable .states) (c .first-place .result) (c .first-place .ensures) (known .cut))
 
 loop-again : tie.Need-loop-again Inv-loop μ-loop
 loop-again c =
-    let at-loop-test = c .before .before .before in
-    let head = at-loop-test .before in
-    let start = head .before .before .before .before .before .before .before in (
+    let test = c .before .before .before in
+    let inv = test .before .loop .inv in (
+      inv .0,
+      inv .1,
       omega arith,
-      writing-goes (start .pre .0 .laid .livables) (head .loop .inv .1) (start .pre .0 .inside)
-          (omega (arith, head .loop .inv .1 .long, start .pre .0 .fits, at-loop-test .loop-test .taken))
-          (c .before .back-from .result) (c .step .result .place) (c .step .result .aim) (c .before .back-from .ensures) (c .step .ensures),
+      writing-goes (inv .0 .walkable .states .livables) (inv .3) (inv .0 .inside) (omega (arith, inv .3 .long, inv .0 .fits, test .loop-test .taken))
+          _ _ _ (c .before .back-from .ensures) (c .step .ensures),
     )
-
-returns : tie.Need-returns Inv-loop μ-loop
-returns c = writing-ends (c .before .before .before .before .before .before .before .before .pre .0 .laid .livables) (c .before .loop .inv .1) (omega arith)
 
 pub write-run-spec : {M : Type 1} → statement M
 write-run-spec =
@@ -63,16 +39,16 @@ write-run-spec =
     (tie.spec
     Inv-loop
     μ-loop
-    first-place-requires
+    (λ c κs. let states = c .before .before .before .before .before .pre .0 .walkable .states in (states .shaped, states .in-table))
     loop-holds
-    mul-run
-    shared-slice-read-run
-    (λ c. omega (arith, c .before .before .before .before .before .before .before .before .before .pre .0 .cut .few))
-    slice-write-run
+    (λ c. let inv = c .before .loop .inv in omega (arith, inv .3 .at .inside, inv .0 .walkable .states .few))
+    (λ c. let inv = c .before .before .loop .inv in omega (arith, inv .3 .at .inside, inv .0 .walkable .states .in-table))
+    (λ c. omega (arith, c .before .before .loop .inv .0 .cut .few))
+    (λ c. let inv = c .before .before .loop .inv in omega (arith, inv .3 .long, inv .0 .fits, c .before .loop-test .taken))
     (λ c κs. tt)
-    step-requires
+    (λ c κs. let inv = c .before .before .before .loop .inv in (inv .0 .walkable, inv .3 .at .inside, moment-aim (inv .3 .at), inv .1))
     (λ c. omega arith)
     (λ c. omega arith)
     loop-again
-    (λ c. c .before .loop .inv .1 .long)
-    returns)
+    (λ c. c .before .loop .inv .3 .long)
+    (λ c. let inv = c .before .loop .inv in writing-ends (inv .0 .walkable .states .livables) (inv .3) (omega arith)))

@@ -1,0 +1,5 @@
+pub mod Books
+pub mod Places
+pub mod Distances
+pub mod Scans
+pub mod Nexts
