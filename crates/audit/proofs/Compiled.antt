@@ -11,7 +11,8 @@ use lib.Dec.{eqb}
 use lib.ListN.{length, getD, set}
 use Rattle.meaning.specs.Sheet.{Sheet, StepRule, stepOf}
 use Rattle.meaning.specs.Rules.{lawful, firstState, allTrue, someTrue, stepHolds}
-use Rattle.rules.specs.Book.{BookOf, bookLawful, bookFirst, allAt, someAt, stepAt, stepsOf, ruleOf}
+use Rattle.rules.specs.Book.{bookLawful, bookFirst, allAt, someAt, stepAt, stepsOf}
+use Rattle.compile.specs.Promise.{BookOf, ruleOf}
 use Rattle.audit.specs.Account.{Account, nothing, unlawful, brokeFirst, brokeStep, firstBroken, firstIs, nextIs, ruleIs}
 use Rattle.audit.specs.Carry.{isNext, breaksNext, isBreach, oneMore, keepsNext, breaksRule, noted, carried}
 use Rattle.audit.specs.Book.{

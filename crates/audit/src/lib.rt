@@ -108,7 +108,7 @@ fn audit_good(sheet: &[u8], account: Account, states: &[u32]) -> Report
         };
     }
     let mut book = [0u32; rules::BOOK_SIZE];
-    rules::compile(sheet, &mut book);
+    compile::compile(sheet, &mut book);
     let back = carry::carry(&book, account, states);
     Report {
         answer: 0,

@@ -11,8 +11,9 @@ use Rattle.meaning.proofs.Judging.{number-of-reachable}
 use Rattle.reader.specs.declared.Fault as F
 use Rattle.reader.specs.Answer.{whyNumber}
 use Rattle.reader.proofs.Good.{Faulty}
-use Rattle.rules.specs.Book.{BookOf, bookSystem}
-use Rattle.rules.proofs.Same.{book-system}
+use Rattle.rules.specs.Book.{bookSystem}
+use Rattle.compile.specs.Promise.{BookOf}
+use Rattle.compile.proofs.Same.{book-system}
 use Rattle.judge.specs.declared.Judgement.{Judgement}
 use Rattle.judge.specs.Judging.{outcomeOf, refused, RoomFor, FoundBy, JudgedBy}
 

@@ -163,7 +163,7 @@ fn judge_good(
         (outcomeOf r (lentOf (now (table .exit)) (now (words .exit)) (now (scratch .exit)) (now (run .exit)))) ⌝ }
 {
     let mut book = [0u32; rules::BOOK_SIZE];
-    rules::compile(sheet, &mut book);
+    compile::compile(sheet, &mut book);
     judge_book(&book, table, words, scratch, run)
 }
 

@@ -21,8 +21,8 @@ use Rattle.meaning.specs.Sheet.{notAscending, surplus, numberOf, Fault, unless,
 use Rattle.meaning.specs.Sheet.{literalsFault, listFault, recordFault, recordsFault, firstFault, Kind, aLimit, aFirst, aStep, aPromise}
 use Rattle.meaning.specs.Sheet.{Limit, StepRule, limitOf, stepOf, promiseOf, byte, bodyAt, nextAt, afterAt, bodies}
 use Rattle.meaning.specs.Sheet.{lettersIn, firstsAt, stepsAt, promisesAt, endAt, decode}
+use Rattle.meaning.proofs.FirstFault.{bounds}
 use Rattle.meaning.proofs.Placing.{place-within}
-use Rattle.ground.proofs.Tests.{and-both}
 use Rattle.reader.specs.declared.Fault as F
 use Rattle.reader.specs.declared.Answer.{Answer}
 use Rattle.reader.specs.declared.Answer.the-variants.{Good, Bad}
@@ -117,16 +117,12 @@ passed false why at e = let z : _≡_ {A = ℕ} 0 1 = cc in absurd (omega arith)
 pub first-passed : (t : Bool) (why : Why) (at : ℕ) (later : Option Fault) → (unless t why at then later) ≡ none → (t ≡ true) × (later ≡ none)
 first-passed t why at later e = let both = then-none (unless t why at) later e in (passed t why at (both .0), both .1)
 
--- two bounds tested together
-pub within : (a b c d : ℕ) → leb a b && leb c d ≡ true → (a ≤ b) × (c ≤ d)
-within a b c d e = let both = and-both (leb a b) (leb c d) e in (leb-true a b (both .0), leb-true c d (both .1))
-
 -- ---- literals
 
 -- A literal that names one of n letters: its letter.
 pub names-letter : (n b : ℕ) → names n b ≡ true → (1 ≤ size b) × (size b ≤ n)
 unfolding names
-names-letter n b e = within 1 (size b) (size b) n e
+names-letter n b e = bounds 1 (size b) (size b) n e
 
 -- -128 names no letter.
 pub not-least : (n b : ℕ) → n < 128 → names n b ≡ true → b ≡ 128 → ⊥
@@ -196,8 +192,8 @@ pub limit-good : (n at : ℕ) (body : List ℕ) → recordFault aLimit n at body
 unfolding recordFault
 limit-good n at body e =
     let shape = first-passed (leb 2 (length body) && leb (getD body 0 0) 1) badShape at _ e in
-    let bounds = within 2 (length body) (getD body 0 0) 1 (shape .0) in
-    record { long = bounds .0; kind = bounds .1; among = list-good n (at + 3) (limitOf body .among) (shape .1) }
+    let shaped = bounds 2 (length body) (getD body 0 0) 1 (shape .0) in
+    record { long = shaped .0; kind = shaped .1; among = list-good n (at + 3) (limitOf body .among) (shape .1) }
 
 -- A first rule's literals are good.
 pub first-good : (n at : ℕ) (body : List ℕ) → recordFault aFirst n at body ≡ none → LiteralsGood n body
@@ -209,11 +205,11 @@ pub step-good : (n at : ℕ) (body : List ℕ) → recordFault aStep n at body �
 unfolding recordFault
 step-good n at body e =
     let shape = first-passed (leb 1 (length body) && leb (getD body 0 0) (length body - 1)) badShape at _ e in
-    let bounds = within 1 (length body) (getD body 0 0) (length body - 1) (shape .0) in
+    let shaped = bounds 1 (length body) (getD body 0 0) (length body - 1) (shape .0) in
     let sides = then-none (listFault n (at + 2) (stepOf body .left)) (listFault n (at + 2 + getD body 0 0) (stepOf body .right)) (shape .1) in
     record {
-      long = bounds .0;
-      count = bounds .1;
+      long = shaped .0;
+      count = shaped .1;
       left = list-good n (at + 2) (stepOf body .left) (sides .0);
       right = list-good n (at + 2 + getD body 0 0) (stepOf body .right) (sides .1);
     }
@@ -321,8 +317,8 @@ good-header s e =
     let p8 = then-none (recordsFault aFirst (lettersIn s) s (byte s 5) (firstsAt s)) _ (p7 .1) in
     let p9 = then-none (recordsFault aStep (lettersIn s) s (byte s 6) (stepsAt s)) _ (p8 .1) in
     let p10 = then-none (recordsFault aPromise (lettersIn s) s (byte s 7) (promisesAt s)) _ (p9 .1) in
-    let sizes = within 8 (length s) (length s) 4096 (p1 .0) in
-    let letters = within 1 (lettersIn s) (lettersIn s) 24 (p4 .0) in
+    let sizes = bounds 8 (length s) (length s) 4096 (p1 .0) in
+    let letters = bounds 1 (lettersIn s) (lettersIn s) 24 (p4 .0) in
     record {
       least = sizes .0;
       most = sizes .1;

@@ -22,7 +22,8 @@ use Rattle.reader.specs.Answer.{faultOf, answerOf, stepTo, recordsStep, 
 use Rattle.reader.specs.Place.{SheetAsks}
 use Rattle.reader.proofs.Sections.{onwards-records, onwards-end, records-within, onwards-within}
 use Rattle.reader.proofs.Reading.{moved, refused}
-use Rattle.reader.proofs.Good.{first-passed, within}
+use Rattle.meaning.proofs.FirstFault.{bounds}
+use Rattle.reader.proofs.Good.{first-passed}
 use Rattle.reader.specs.Whole.{headerFault, sectionsFault}
 
 -- ---- two bounds
@@ -140,8 +141,8 @@ header-passed s q =
     let p4 = first-passed (leb 1 (byte s 3) && leb (byte s 3) 24) badLetters 3 _ (p3 .1) in
     record {
       behind = m .1;
-      least = within 8 (length s) (length s) 4096 (p1 .0) .0;
-      letters = within 1 (byte s 3) (byte s 3) 24 (p4 .0) .1;
+      least = bounds 8 (length s) (length s) 4096 (p1 .0) .0;
+      letters = bounds 1 (byte s 3) (byte s 3) 24 (p4 .0) .1;
     }
 
 -- the sheet's fault is then that of its sections

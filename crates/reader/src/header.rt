@@ -6,6 +6,7 @@ use super::cursor::Step;
 ghost use mathlib.Core.Path.{_≡_};
 ghost use Prim.Native.Nat.{_+_, _*_};
 ghost use lib.Dec.{eqb};
+ghost use Rattle.meaning.specs.Sheet.{leastBytes};
 ghost use Rattle.reader.specs.Answer.{stepTo, refusal};
 ghost use Rattle.reader.specs.Whole.{headerFault};
 
@@ -20,7 +21,7 @@ pub const MOST_LIMITS: u8 = 32;
 
 pub const MOST_PROMISES: u8 = 16;
 
-pub const RECORDS_AT: usize = 8;
+pub const RECORDS_AT: usize = LEAST_BYTES;
 
 // Whether a sheet of this version is read.
 pub fn version_ok(version: u8) -> bool
@@ -45,7 +46,7 @@ fn refuse(why: Why, at: usize) -> Step
 
 // The header's first fault, or a cursor at the first record.
 pub fn header(s: &[u8]) -> Step
-    ensures { λ r. ⌜ r ≡ stepTo 8 (headerFault (now (s .entry))) ⌝ }
+    ensures { λ r. ⌜ r ≡ stepTo leastBytes (headerFault (now (s .entry))) ⌝ }
 {
     let len = s.len();
     if len < LEAST_BYTES || len > MOST_BYTES {

@@ -1,5 +1,6 @@
 // Sheets too large to write out, built in a local array. A write past its end is dropped.
 use super::show;
+use reader::header::RECORDS_AT;
 
 const ROOM: usize = 4097;
 
@@ -93,7 +94,7 @@ pub fn longest() {
     let mut sheet = [0u8; ROOM];
     head(&mut sheet, 16, 0, 24);
     counts(&mut sheet, 0, 255, 0, 0);
-    let at = first_rules(&mut sheet, 8, 8, 16);
+    let at = first_rules(&mut sheet, RECORDS_AT, 8, 16);
     first_rules(&mut sheet, at, 247, 15);
     show_front(b"4,096 bytes", &sheet, 4096);
     show_front(b"1: 4,097 bytes", &sheet, 4097);
@@ -113,7 +114,7 @@ pub fn fullest() {
     let mut sheet = [0u8; ROOM];
     head(&mut sheet, 3, 133, 1);
     counts(&mut sheet, 32, 255, 255, 16);
-    let firsts = repeat(&mut sheet, 8, 32, 3, 2, 0, 0);
+    let firsts = repeat(&mut sheet, RECORDS_AT, 32, 3, 2, 0, 0);
     let steps = repeat(&mut sheet, firsts, 255, 1, 0, 0, 0);
     let promises = repeat(&mut sheet, steps, 255, 2, 1, 0, 0);
     repeat(&mut sheet, promises, 16, 2, 1, 1, 0);
@@ -134,8 +135,8 @@ pub fn fullest() {
 pub fn long_records() {
     let mut sheet = [0u8; ROOM];
     head(&mut sheet, 1, 8, 24);
-    put(&mut sheet, 8, 255);
-    rising(&mut sheet, 9, 24);
+    put(&mut sheet, RECORDS_AT, 255);
+    rising(&mut sheet, RECORDS_AT + 1, 24);
     counts(&mut sheet, 0, 1, 0, 0);
     show_front(b"8: a first rule of 255 bytes, zeros behind", &sheet, 264);
     put(&mut sheet, 33, 24);

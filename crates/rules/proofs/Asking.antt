@@ -36,6 +36,13 @@ all-same f g (suc n) h = ap₂ (λ (a b : Bool). a && b) (all-same f g n (λ i l
 pub all-done : (test : ℕ → Bool) (i n : ℕ) → i ≤ n → n ≤ i → allBelow i test ≡ true → allBelow n test ≡ true
 all-done test i n h k e = let q : i ≡ n = omega arith in subst (λ (x : ℕ). allBelow x test ≡ true) q e
 
+-- What a loop over `count` numbers returns, n being how many there are: one failed, or all passed.
+pub one-failed : (test : ℕ → Bool) {count n i : ℕ} → count ≡ n → i < count → test i ≡ false → false ≡ allBelow n test
+one-failed test {n = n} {i} e h f = sym (all-broken test n i (omega arith) f)
+
+pub all-passed : (test : ℕ → Bool) {count n i : ℕ} → count ≡ n → i ≤ count → count ≤ i → allBelow i test ≡ true → true ≡ allBelow n test
+all-passed test {n = n} {i} e h k all = sym (all-done test i n (omega arith) (omega arith) all)
+
 -- A number is below 2 ^ n if nothing is left of it above its n lowest bits.
 pub shifted-out : (s n : ℕ) → s / 2 ^ n ≡ 0 → s < 2 ^ n
 shifted-out s n e =

@@ -44,14 +44,14 @@ module _ (test : ℕ → ℕ → ℕ → Bool) (asks : ℕ → ℕ → Bool) (le
   copied-row book from l l′ n i so c m here =
       subst₂ (Sofar test asks letters l′) (sym (add-one n)) (sym (add-one i)) (record { few = omega arith; masks = masks; says = says })
     where
-      old : (j : ℕ) → j < n → (getD l′ (2 * j) 0 ≡ getD l (2 * j) 0) × (getD l′ (2 * j + 1) 0 ≡ getD l (2 * j + 1) 0)
-      old j h = (c .keeps .same (2 * j) (omega arith), c .keeps .same (2 * j + 1) (omega arith))
+      old : (j : ℕ) → j < n → (getD l′ (gatheredAt j) 0 ≡ getD l (gatheredAt j) 0) × (getD l′ (gatheredAt j + 1) 0 ≡ getD l (gatheredAt j + 1) 0)
+      old j h = (c .keeps .same (gatheredAt j) (omega arith), c .keeps .same (gatheredAt j + 1) (omega arith))
 
-      masks : (j : ℕ) → j < suc n → Masks l′ letters (2 * j)
+      masks : (j : ℕ) → j < suc n → Masks l′ letters (gatheredAt j)
       masks j h = by (ℕ-discrete j n)
         where
-          by : Dec (j ≡ n) → Masks l′ letters (2 * j)
-          by (yes e) = subst (λ (j : ℕ). Masks l′ letters (2 * j)) (sym e) (record {
+          by : Dec (j ≡ n) → Masks l′ letters (gatheredAt j)
+          by (yes e) = subst (λ (j : ℕ). Masks l′ letters (gatheredAt j)) (sym e) (record {
             held = subst (λ (x : ℕ). x < 2 ^ letters) (sym (c .held)) (m .held);
             unheld = subst (λ (x : ℕ). x < 2 ^ letters) (sym (c .unheld)) (m .unheld);
           })

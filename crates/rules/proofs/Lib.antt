@@ -1,13 +1,6 @@
-pub mod Same
-pub mod Masks
 pub mod Asking
 pub mod Rows
 pub mod Gathering
-pub mod Sorted
-pub mod Summing
-pub mod RowLaws
-pub mod SectionLaws
-pub mod BookLaws
 pub mod Counting
 pub mod Facts
 pub mod Saying

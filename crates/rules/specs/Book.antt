@@ -4,15 +4,14 @@
 -- crates above know of a book is the system that it describes (`bookSystem`) and its shape (`Shaped`). Assumes nothing.
 use mathlib.Core.Path.{_≡_}
 use mathlib.Core.Bool.{Bool, true, false, cond, not, _&&_, _||_}
-use mathlib.Core.List.{List, []}
+use mathlib.Core.List.{List}
 use Prim.Native.Nat.{ℕ, zero, suc, _+_, _-_, _*_, _^_, _≤_, _<_}
 use lib.Bits.{bitAnd}
 use lib.Count.{ones}
 use lib.Dec.{T, leb, ltb, eqb}
 use lib.ListN.{length, getD}
 use Rattle.meaning.specs.System.{System}
-use Rattle.meaning.specs.Sheet.{Sheet, StepRule, stepOf, mostLetters, mostLimits, mostPromises, Kind, aLimit, aFirst, aStep, aPromise}
-use Rattle.meaning.specs.Rules.{lawful, firstState, moves, kept, allTrue, someTrue}
+use Rattle.meaning.specs.Sheet.{mostLetters, mostLimits, mostPromises, Kind, aLimit, aFirst, aStep, aPromise}
 
 -- ---- where things stand in a book
 
@@ -52,7 +51,17 @@ promisesFrom = stepsFrom + stepWidth * mostRules
 abbrev pub bookSize : ℕ
 bookSize = promisesFrom + listWidth * mostPromises
 
--- row i of each kind begins here; a step rule's right side stands behind its left one
+-- within a row: a limit's least stands behind its masks, its most behind that; a step rule's right side stands behind its left one
+abbrev pub leastAt : ℕ → ℕ
+leastAt row = row + listWidth
+
+abbrev pub mostAt : ℕ → ℕ
+mostAt row = leastAt row + 1
+
+abbrev pub rightOf : ℕ → ℕ
+rightOf row = row + listWidth
+
+-- row i of each kind begins here, and a step rule's right side
 abbrev pub limitAt : ℕ → ℕ
 limitAt i = limitsFrom + limitWidth * i
 
@@ -63,7 +72,7 @@ abbrev pub stepAt : ℕ → ℕ
 stepAt i = stepsFrom + stepWidth * i
 
 abbrev pub rightAt : ℕ → ℕ
-rightAt i = stepAt i + listWidth
+rightAt i = rightOf (stepAt i)
 
 abbrev pub promiseAt : ℕ → ℕ
 promiseAt i = promisesFrom + listWidth * i
@@ -90,6 +99,14 @@ stepsOf book = getD book 3 0
 abbrev pub promisesOf : List ℕ → ℕ
 promisesOf book = getD book 4 0
 
+-- the five counts stand in a book
+pub record CountsAre (l : List ℕ) (a b c d e : ℕ) : Type 0 where
+  pub letters : lettersOf l ≡ a
+  pub limits : limitsOf l ≡ b
+  pub firsts : firstsOf l ≡ c
+  pub steps : stepsOf l ≡ d
+  pub promises : promisesOf l ≡ e
+
 -- numbers that were read: the two masks at a place, and limit i's row
 pub record MasksRead (l : List ℕ) (at held unheld : ℕ) : Type 0 where
   pub held-is : held ≡ getD l at 0
@@ -97,8 +114,8 @@ pub record MasksRead (l : List ℕ) (at held unheld : ℕ) : Type 0 where
 
 pub record LimitRead (book : List ℕ) (i held unheld least most : ℕ) : Type 0 where
   pub masks : MasksRead book (limitAt i) held unheld
-  pub least-is : least ≡ getD book (limitAt i + 2) 0
-  pub most-is : most ≡ getD book (limitAt i + 3) 0
+  pub least-is : least ≡ getD book (leastAt (limitAt i)) 0
+  pub most-is : most ≡ getD book (mostAt (limitAt i)) 0
 
 -- ---- two masks against a state
 
@@ -135,8 +152,8 @@ allAt l at s = allOf s (getD l at 0) (getD l (at + 1) 0)
 -- limit i holds in s
 unfoldable pub limitOk : List ℕ → ℕ → ℕ → Bool
 limitOk book s i =
-    leb (getD book (limitAt i + 2) 0) (countOf s (getD book (limitAt i) 0) (getD book (limitAt i + 1) 0))
-    && leb (countOf s (getD book (limitAt i) 0) (getD book (limitAt i + 1) 0)) (getD book (limitAt i + 3) 0)
+    leb (getD book (leastAt (limitAt i)) 0) (countOf s (getD book (limitAt i) 0) (getD book (limitAt i + 1) 0))
+    && leb (countOf s (getD book (limitAt i) 0) (getD book (limitAt i + 1) 0)) (getD book (mostAt (limitAt i)) 0)
 
 unfoldable pub limitsOk : List ℕ → ℕ → Bool
 limitsOk book s = allBelow (limitsOf book) (limitOk book s)
@@ -193,22 +210,6 @@ pub record Shaped (book : List ℕ) : Type 0 where
   pub lefts : (i : ℕ) → i < stepsOf book → Masks book (lettersOf book) (stepAt i)
   pub rights : (i : ℕ) → i < stepsOf book → Masks book (lettersOf book) (rightAt i)
   pub promises : (i : ℕ) → i < promisesOf book → Masks book (lettersOf book) (promiseAt i)
-
--- the sheet's step rule i, from 0 (past the last: one that asks nothing and allows nothing)
-abbrev pub ruleOf : Sheet → ℕ → StepRule
-ruleOf sheet i = getD (sheet .steps) i (stepOf [])
-
--- the book of a sheet: every test that it makes is the sheet's own (so its system is the sheet's: proofs/Same.antt)
-pub record BookOf (sheet : Sheet) (book : List ℕ) : Type 0 where
-  pub shaped : Shaped book
-  pub lawful-is : (s : ℕ) → bookLawful book s ≡ lawful sheet s
-  pub first-is : (s : ℕ) → bookFirst book s ≡ firstState sheet s
-  pub moves-is : (s t : ℕ) → bookMoves book s t ≡ moves sheet s t
-  pub promises-is : promisesOf book ≡ length (sheet .promises)
-  pub kept-is : (k s : ℕ) → bookKept book k s ≡ kept sheet k s
-  pub steps-is : stepsOf book ≡ length (sheet .steps)
-  pub left-is : (i s : ℕ) → i < stepsOf book → allAt book (stepAt i) s ≡ allTrue s (ruleOf sheet i .left)
-  pub right-is : (i s : ℕ) → i < stepsOf book → someAt book (rightAt i) s ≡ someTrue s (ruleOf sheet i .right)
 
 -- ---- rules gathered for one state
 

@@ -1,15 +1,11 @@
-// A book's layout: where each number of a compiled sheet stands. Where a row begins only this module knows; a row's numbers are written by
-// record.rt in the order in which they are read here. specs/Book.antt says the same under the same names.
-use reader::Kind;
+// A book's layout: where each number of a compiled sheet stands. Only this module knows where a row begins and where its numbers stand in it;
+// they are read and written here. specs/Book.antt says the same under the same names.
 ghost use mathlib.Core.Path.{_≡_};
-ghost use mathlib.Core.Option.{none};
 ghost use Prim.Native.Nat.{_+_, _≤_, _<_};
 ghost use lib.ListN.{length};
-ghost use Rattle.meaning.specs.Sheet.{firstFault};
-ghost use Rattle.reader.specs.Answer.{kindOf};
-ghost use Rattle.rules.specs.Book.{bookSize, gatherSize, mostRules, rowAt, limitAt, firstAt, stepAt, rightAt, promiseAt, gatheredAt};
-ghost use Rattle.rules.specs.Book.{lettersOf, limitsOf, firstsOf, stepsOf, promisesOf, Shaped, LimitRead, MasksRead};
-ghost use Rattle.rules.specs.Compile.{Counts};
+ghost use Rattle.rules.specs.Book.{bookSize, gatherSize, mostRules, limitWidth, leastAt, limitAt, firstAt, stepAt, rightAt, promiseAt, gatheredAt};
+ghost use Rattle.rules.specs.Book.{lettersOf, limitsOf, firstsOf, stepsOf, promisesOf, CountsAre, Shaped, LimitRead, MasksRead};
+ghost use Rattle.rules.specs.Rows.{Put};
 
 // A book's numbers are as wide as a state.
 pub use ground::State;
@@ -27,6 +23,11 @@ const LIST_WIDTH: usize = 2;
 const LIMIT_WIDTH: usize = 4;
 
 const STEP_WIDTH: usize = 4;
+
+// Where the numbers stand in a limit's row behind its masks, the most behind the least; and a step rule's right side in its row.
+const LEAST: usize = LIST_WIDTH;
+
+pub const RIGHT: usize = LIST_WIDTH;
 
 // Where the rows of each kind begin, the limits' behind the counts; and how many numbers a book has.
 const LIMITS_FROM: usize = 8;
@@ -96,16 +97,19 @@ pub fn promises(book: &[State]) -> usize
     book[4] as usize
 }
 
-// Writes the five counts of a good sheet.
-pub fn counts(sheet: &[u8], book: &mut [State])
-    requires { ⌜ (firstFault (now sheet) ≡ none) × (length (now book) ≡ bookSize) ⌝ }
-    ensures { λ _. ⌜ Counts (now (sheet .entry)) (now (book .exit)) × (length (now (book .exit)) ≡ bookSize) ⌝ }
+// Writes the five counts.
+pub fn put_counts(
+    book: &mut [State],
+    letters: State,
+    limits: State,
+    firsts: State,
+    steps: State,
+    promises: State,
+)
+    requires { ⌜ length (now book) ≡ bookSize ⌝ }
+    ensures counts { λ _. ⌜ CountsAre (now (book .exit)) letters limits firsts steps promises ⌝ }
+    ensures long { λ _. ⌜ length (now (book .exit)) ≡ bookSize ⌝ }
 {
-    let letters = sheet[3] as State;
-    let limits = sheet[4] as State;
-    let firsts = sheet[5] as State;
-    let steps = sheet[6] as State;
-    let promises = sheet[7] as State;
     book[0] = letters;
     book[1] = limits;
     book[2] = firsts;
@@ -142,7 +146,7 @@ pub fn right_at(i: usize) -> usize
     requires { ⌜ i ≤ mostRules ⌝ }
     ensures { λ r. ⌜ r ≡ rightAt i ⌝ }
 {
-    step_at(i) + LIST_WIDTH
+    step_at(i) + RIGHT
 }
 
 // Where promise i's masks stand.
@@ -151,19 +155,6 @@ pub fn promise_at(i: usize) -> usize
     ensures { λ r. ⌜ r ≡ promiseAt i ⌝ }
 {
     PROMISES_FROM + LIST_WIDTH * i
-}
-
-// Where row i of a kind begins.
-pub fn row_at(kind: Kind, i: usize) -> usize
-    requires { ⌜ i ≤ mostRules ⌝ }
-    ensures { λ r. ⌜ r ≡ rowAt (kindOf kind) i ⌝ }
-{
-    match kind {
-        Kind::Limit => limit_at(i),
-        Kind::FirstRule => first_at(i),
-        Kind::StepRule => step_at(i),
-        Kind::Promise => promise_at(i),
-    }
 }
 
 // Where gathered list i's masks stand.
@@ -185,6 +176,27 @@ pub fn masks_at(l: &[State], at: usize) -> Pair
     Pair { held, unheld }
 }
 
+// Writes two masks at a place.
+pub fn put_masks(l: &mut [State], at: usize, held: State, unheld: State)
+    requires { ⌜ at + 1 < length (now l) ⌝ }
+    ensures { λ _. ⌜ Put (now (l .entry)) at held unheld (now (l .exit)) ⌝ }
+{
+    let next = at + 1;
+    l[at] = held;
+    l[next] = unheld;
+}
+
+// Writes a limit's least and most into the row that begins at `row`.
+pub fn put_bounds(book: &mut [State], row: usize, least: State, most: State)
+    requires { ⌜ row + limitWidth ≤ length (now book) ⌝ }
+    ensures { λ _. ⌜ Put (now (book .entry)) (leastAt row) least most (now (book .exit)) ⌝ }
+{
+    let at = row + LEAST;
+    let next = at + 1;
+    book[at] = least;
+    book[next] = most;
+}
+
 // Gathered list i.
 pub fn gathered(l: &[State], i: usize) -> Pair
     requires { ⌜ (length (now l) ≡ gatherSize) × (i < mostRules) ⌝ }
@@ -201,8 +213,8 @@ pub fn limit(book: &[State], i: usize) -> Bounded
 {
     let at = limit_at(i);
     let m = masks_at(book, at);
-    let third = at + 2;
-    let fourth = at + 3;
+    let third = at + LEAST;
+    let fourth = third + 1;
     let least = book[third];
     let most = book[fourth];
     Bounded {

@@ -7,6 +7,8 @@ use super::book::State;
 use super::book::first_at;
 use super::book::firsts;
 use super::book::gathered_at;
+use super::book::masks_at;
+use super::book::put_masks;
 use super::book::right_at;
 use super::book::step_at;
 use super::book::steps;
@@ -23,12 +25,8 @@ fn copy(book: &[State], from: usize, l: &mut [State], to: usize)
     requires { ⌜ (from + 1 < length (now book)) × (to + 1 < length (now l)) ⌝ }
     ensures { λ _. ⌜ Copied (now (book .entry)) from (now (l .entry)) to (now (l .exit)) ⌝ }
 {
-    let held = book[from];
-    let from_next = from + 1;
-    let unheld = book[from_next];
-    l[to] = held;
-    let to_next = to + 1;
-    l[to_next] = unheld;
+    let m = masks_at(book, from);
+    put_masks(l, to, m.held, m.unheld);
 }
 
 // Gathers the clauses that a first state must make true, into a slice of GATHER_SIZE numbers; how many there are.

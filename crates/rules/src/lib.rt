@@ -1,12 +1,9 @@
-// Rules: a good sheet compiled into a book (two masks for each list of literals), and the tests of states against it. What the functions
-// promise is said in specs/Book.antt; that a book's system is its sheet's is proofs/Same.antt.
+// Rules: a sheet's rules as a book (two masks for each list of literals), and the tests of states against it. What the functions promise is
+// said in specs/Book.antt. How a sheet becomes a book is the crate compile.
 pub mod ask;
 pub mod book;
-pub mod build;
 pub mod freedom;
 pub mod gather;
-pub mod record;
-pub mod sections;
 pub mod tally;
 
 pub use ask::first_state;
@@ -29,4 +26,3 @@ pub use gather::fits;
 pub use gather::gather_before;
 pub use gather::gather_first;
 pub use gather::gather_next;
-pub use sections::compile;

@@ -63,7 +63,7 @@ fn check_paper(sheet: &[u8], bytes: &[u8], numbers: &[u32], a: u32) -> u32
         return 14;
     }
     let mut book = [0u32; rules::BOOK_SIZE];
-    rules::compile(sheet, &mut book);
+    compile::compile(sheet, &mut book);
     if accepted(&book, bytes, numbers, a as usize) {
         0
     } else {

@@ -12,8 +12,9 @@ use Rattle.meaning.specs.Promises.{Placed, Whole, stateBytes, wordBytes, Strike
 use Rattle.reader.specs.declared.Fault as F
 use Rattle.reader.specs.Answer.{whyNumber}
 use Rattle.reader.proofs.Good.{Faulty}
-use Rattle.rules.specs.Book.{BookOf, bookSystem}
-use Rattle.rules.proofs.Same.{book-system}
+use Rattle.rules.specs.Book.{bookSystem}
+use Rattle.compile.specs.Promise.{BookOf}
+use Rattle.compile.proofs.Same.{book-system}
 use Rattle.papers.specs.Paper.{paper}
 use Rattle.papers.proofs.Numbers.{paper-of-bytes, paper-of-numbers}
 use Rattle.papers.proofs.Verdict.{placed-faulty, placed-good, accepts, refuses, refuses-always, checked-as}

@@ -81,7 +81,7 @@ fn check_paper(sheet: &[u8], sb: &[u8], sn: &[u32], wb: &[u8], wn: &[u32]) -> u3
         return 14;
     }
     let mut book = [0u32; rules::BOOK_SIZE];
-    rules::compile(sheet, &mut book);
+    compile::compile(sheet, &mut book);
     if accepted(&book, sb, sn, wb, wn) {
         0
     } else {

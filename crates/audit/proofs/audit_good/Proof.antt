@@ -10,7 +10,7 @@ use Rattle.audit.proofs.audit_good.Reads as reads
 use Rattle.audit.proofs.audit_good.Lts as lts
 use Rattle.audit.proofs.carry.carry.Reads as carry-reads
 use Rattle.audit.proofs.past.Reads as past-reads
-use Rattle.rules.proofs.compile.Reads as compile-reads
+use Rattle.compile.proofs.compile.Reads as compile-reads
 
 carry-requires : tie.Need-carry-requires
 carry-requires c κs =

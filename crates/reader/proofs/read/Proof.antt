@@ -5,15 +5,6 @@ use Rattle.reader.proofs.Whole.{answers-good, answers-bad}
 use Rattle.reader.proofs.read.Statement.{statement}
 use Rattle.reader.proofs.read.Tie as tie
 
-walk-requires : tie.Need-walk-requires
-walk-requires c κs = search needs
-
-enum-told : tie.Need-enum-told
-enum-told c = search needs
-
-enum-known-f : tie.Need-enum-known-f
-enum-known-f c = search needs
-
 returns : tie.Need-returns
 returns c = answers-good (c .before .before .before .before .args .sheet .now) (sym (c .before .before .walk .ensures) ∙ c .enum-told .given .1)
 
@@ -21,4 +12,4 @@ returns-2 : tie.Need-returns-2
 returns-2 c = answers-bad (c .before .before .before .before .before .args .sheet .now) (sym (c .before .before .before .walk .ensures) ∙ c .before .f .given .1)
 
 pub read-spec : {M : Type 1} → statement M
-read-spec = tie.close (tie.spec walk-requires enum-told enum-known-f returns returns-2)
+read-spec = tie.close (tie.spec (λ c κs. search needs) (λ c. search needs) (λ c. search needs) returns returns-2)

@@ -5,20 +5,11 @@ use Rattle.reader.proofs.Whole.{header-passed, sections-are-whole, head
 use Rattle.reader.proofs.walk.Statement.{statement}
 use Rattle.reader.proofs.walk.Tie as tie
 
-header-requires : tie.Need-header-requires
-header-requires c κs = search needs
-
-enum-known-c : tie.Need-enum-known-c
-enum-known-c c = search needs
-
 sections-requires : tie.Need-sections-requires
 sections-requires c κs =
     let c3 = c .before .before .before in
     let c5 = c3 .before .before in
     header-passed (c5 .args .sheet .now) (sym (c3 .header .ensures) ∙ c .before .c .given .1)
-
-enum-known-f : tie.Need-enum-known-f
-enum-known-f c = search needs
 
 returns : tie.Need-returns
 returns c =
@@ -35,6 +26,4 @@ returns-2 c =
     header-refused (c5 .args .sheet .now) (sym (c3 .header .ensures) ∙ c .before .f .given .1)
 
 pub walk-spec : {M : Type 1} → statement M
-walk-spec =
-    tie.close
-    (tie.spec header-requires enum-known-c sections-requires enum-known-f returns returns-2)
+walk-spec = tie.close (tie.spec (λ c κs. search needs) (λ c. search needs) sections-requires (λ c. search needs) returns returns-2)

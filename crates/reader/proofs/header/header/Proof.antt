@@ -7,116 +7,102 @@ use lib.Dec.{leb, eqb}
 use lib.ListN.{length}
 use borrow.Author.Tests.{ltb-true, ltb-false, not-true, not-false, eq-eqb, ne-eqb, le-leb, lt-leb}
 use borrow.Author.Needs.{needs}
-use Rattle.meaning.specs.Sheet.{byte}
+use Rattle.meaning.specs.Sheet.{byte, leastBytes, mostBytes, mostLetters, mostLimits, mostPromises}
 use Rattle.reader.proofs.Whole.{between, below, above, size-bad, version-bad, length-bad, letters-bad, limits-bad, promises-bad, header-good}
 use Rattle.reader.proofs.header.header.Statement.{statement}
 use Rattle.reader.proofs.header.header.Tie as tie
 
--- what each passed check says of the sheet
-sized : (c : tie.Else2) → let s = c .before .before .before .args .s .now in leb 8 (length s) && leb (length s) 4096 ≡ true
-sized c = let s = c .before .before .before .args .s .now in between 8 (length s) 4096 (c .before .if1 .left) (ltb-false 4096 _ (c .if2 .left))
+-- each passed check, seen from the next
+abbrev start : tie.Else2 → tie.Start
+start c = c .before .before .before
 
-versioned : (c : tie.Else3) → let s = c .before .before .before .before .before .before .args .s .now in eqb (byte s 0) 1 ≡ true
+abbrev size : tie.Else3 → tie.Else2
+size c = c .before .before .before
+
+abbrev version : tie.Else4 → tie.Else3
+version c = c .before .before .before .before
+
+abbrev long : tie.Else6 → tie.Else4
+long c = c .before .before .before
+
+abbrev letters : tie.Else7 → tie.Else6
+letters c = c .before .before
+
+-- what each says of the sheet
+sized : (c : tie.Else2) → let s = start c .args .s .now in leb leastBytes (length s) && leb (length s) mostBytes ≡ true
+sized c = between leastBytes (length (start c .args .s .now)) mostBytes (c .before .if1 .left) (ltb-false mostBytes _ (c .if2 .left))
+
+versioned : (c : tie.Else3) → eqb (byte (start (size c) .args .s .now) 0) 1 ≡ true
 unfolding byte
 versioned c = sym (c .before .version-ok .ensures) ∙ not-false _ (c .if3 .left)
 
-stated :
-    (c : tie.Else4) → let s = c .before .before .before .before .before .before .before .before .before .before .args .s .now in
-    eqb (byte s 1 * 256 + byte s 2) (length s) ≡ true
+stated : (c : tie.Else4) → let s = start (size (version c)) .args .s .now in eqb (byte s 1 * 256 + byte s 2) (length s) ≡ true
 unfolding byte
 stated c = eq-eqb _ _ (sym (c .before .stated-length .ensures) ∙ c .if4 .left)
 
-lettered :
-    (c : tie.Else6) → let s = c .before .before .before .before .before .before .before .before .before .before .before .before .before .args .s .now in
-    leb 1 (byte s 3) && leb (byte s 3) 24 ≡ true
+lettered : (c : tie.Else6) → let s = start (size (version (long c))) .args .s .now in leb 1 (byte s 3) && leb (byte s 3) mostLetters ≡ true
 unfolding byte
-lettered c = between 1 _ 24 (c .before .if5 .left) (ltb-false 24 _ (c .if6 .left))
+lettered c = between 1 _ mostLetters (c .before .if5 .left) (ltb-false mostLetters _ (c .if6 .left))
 
-limited :
-    (c : tie.Else7) → let c7 = c .before .before .before .before .before .before .before in
-    let s = c7 .before .before .before .before .before .before .before .before .args .s .now in
-    leb (byte s 4) 32 ≡ true
+limited : (c : tie.Else7) → leb (byte (start (size (version (long (letters c)))) .args .s .now) 4) mostLimits ≡ true
 unfolding byte
-limited c = le-leb _ 32 (c .if7 .left)
+limited c = le-leb _ mostLimits (c .if7 .left)
 
 returns : tie.Need-returns
 returns c =
-    let d = c .before in
-    let s = d .before .before .args .s .now in
+    let s = c .before .before .before .args .s .now in
     c .refuse .ensures
-    ∙ size-bad s (⊎-elim (λ w. below 8 (length s) 4096 (w .taken)) (λ w. above 8 (length s) 4096 (ltb-true _ _ (w .1 .taken))) (d .if1 .came))
+    ∙ size-bad s (⊎-elim (λ w. below 8 (length s) 4096 (w .taken)) (λ w. above 8 (length s) 4096 (ltb-true _ _ (w .1 .taken))) (c .before .if1 .came))
 
 returns-2 : tie.Need-returns-2
 unfolding byte
 returns-2 c =
     let d = c .before in
-    let d3 = d .before .before .before in
-    let d6 = d3 .before .before .before in
-    c .refuse2 .ensures
-    ∙ version-bad (d6 .args .s .now) (sized (d3)) (sym (d .before .version-ok .ensures) ∙ not-true _ (d .if3 .taken))
+    c .refuse2 .ensures ∙ version-bad _ (sized (d .before .before .before)) (sym (d .before .version-ok .ensures) ∙ not-true _ (d .if3 .taken))
 
 returns-3 : tie.Need-returns-3
 unfolding byte
 returns-3 c =
     let d = c .before in
-    let d4 = d .before .before .before .before in
-    let d7 = d4 .before .before .before in
-    let d10 = d7 .before .before .before in
+    let v = d .before .before .before .before in
     c .refuse3 .ensures
-    ∙ length-bad (d10 .args .s .now) (sized (d7)) (versioned (d4))
-    (ne-eqb _ _ (λ e. d .if4 .taken (d .before .stated-length .ensures ∙ e)))
+    ∙ length-bad _ (sized (size v)) (versioned v) (ne-eqb _ _ (λ e. d .if4 .taken (d .before .stated-length .ensures ∙ e)))
 
 returns-4 : tie.Need-returns-4
 unfolding byte
 returns-4 c =
     let d = c .before in
-    let d2 = d .before .before in
-    let d6 = d2 .before .before .before .before in
-    let d9 = d6 .before .before .before in
-    let d12 = d9 .before .before .before in
-    let s = d12 .args .s .now in
+    let l = d .before .before in
+    let v = version l in
+    let n = byte (start (size v) .args .s .now) 3 in
     c .refuse4 .ensures
-    ∙ letters-bad s (sized (d9)) (versioned (d6)) (stated (d2))
-    (⊎-elim (λ w. below 1 (byte s 3) 24 (w .taken)) (λ w. above 1 (byte s 3) 24 (ltb-true _ _ (w .1 .taken))) (d .if5 .came))
+    ∙ letters-bad _ (sized (size v)) (versioned v) (stated l)
+    (⊎-elim (λ w. below 1 n 24 (w .taken)) (λ w. above 1 n 24 (ltb-true _ _ (w .1 .taken))) (d .if5 .came))
 
 returns-5 : tie.Need-returns-5
 unfolding byte
 returns-5 c =
-    let d = c .before in
-    let d2 = d .before .before in
-    let d5 = d2 .before .before .before in
-    let d9 = d5 .before .before .before .before in
-    let d12 = d9 .before .before .before in
-    let d15 = d12 .before .before .before in
+    let n = c .before .before .before in
+    let v = version (long n) in
     c .refuse5 .ensures
-    ∙ limits-bad (d15 .args .s .now) (sized (d12)) (versioned (d9)) (stated (d5)) (lettered (d2))
-    (lt-leb _ 32 (d .if7 .taken))
+    ∙ limits-bad _ (sized (size v)) (versioned v) (stated (long n)) (lettered n) (lt-leb _ mostLimits (c .before .if7 .taken))
 
 returns-6 : tie.Need-returns-6
 unfolding byte
 returns-6 c =
-    let d = c .before in
-    let d2 = d .before .before in
-    let d4 = d2 .before .before in
-    let d7 = d4 .before .before .before in
-    let d11 = d7 .before .before .before .before in
-    let d14 = d11 .before .before .before in
-    let d17 = d14 .before .before .before in
+    let m = c .before .before .before in
+    let n = letters m in
+    let v = version (long n) in
     c .refuse6 .ensures
-    ∙ promises-bad (d17 .args .s .now) (sized (d14)) (versioned (d11)) (stated (d7)) (lettered (d4)) (limited (d2))
-    (lt-leb _ 16 (d .if8 .taken))
+    ∙ promises-bad _ (sized (size v)) (versioned v) (stated (long n)) (lettered n) (limited m) (lt-leb _ mostPromises (c .before .if8 .taken))
 
 returns-7 : tie.Need-returns-7
 unfolding byte
 returns-7 c =
-    let c2 = c .before .before in
-    let c4 = c2 .before .before in
-    let c7 = c4 .before .before .before in
-    let c11 = c7 .before .before .before .before in
-    let c14 = c11 .before .before .before in
-    let c17 = c14 .before .before .before in
-    header-good (c17 .args .s .now) (sized (c14)) (versioned (c11)) (stated (c7)) (lettered (c4)) (limited (c2))
-    (le-leb _ 16 (c .if8 .left))
+    let m = c .before .before in
+    let n = letters m in
+    let v = version (long n) in
+    header-good _ (sized (size v)) (versioned v) (stated (long n)) (lettered n) (limited m) (le-leb _ mostPromises (c .if8 .left))
 
 pub header-spec : {M : Type 1} → statement M
 header-spec =

@@ -10,12 +10,9 @@ use Rattle.reader.proofs.Literals.{bits-of, sign-is-positive}
 use Rattle.reader.proofs.literal.is_positive.Statement.{statement}
 use Rattle.reader.proofs.literal.is_positive.Tie as tie
 
-signed-requires : tie.Need-signed-requires
-signed-requires c κs = search needs
-
 returns : tie.Need-returns
 returns c =
     ap (λ (n : ℕ). leZ (pos 0) (toZ w8 n)) (bits-of (c .signed .ensures) (c .before .fits .b)) ∙ sign-is-positive (c .before .args .b)
 
 pub is-positive-spec : {M : Type 1} → statement M
-is-positive-spec = tie.close (tie.spec signed-requires returns)
+is-positive-spec = tie.close (tie.spec (λ c κs. search needs) returns)

@@ -10,13 +10,6 @@ use Rattle.reader.proofs.Literals.{bits-of, not-least, size-is-letter}
 use Rattle.reader.proofs.literal.letter_of.Statement.{statement}
 use Rattle.reader.proofs.literal.letter_of.Tie as tie
 
-signed-requires : tie.Need-signed-requires
-signed-requires c κs = search needs
-
-returns : tie.Need-returns
-unfolding size positive
-returns c = ap size (sym (c .if1 .taken) ∙ bits-of (c .before .signed .ensures) (c .before .before .fits .b))
-
 size-requires : tie.Need-size-requires
 size-requires c κs =
     let b = bits-of (c .before .signed .ensures) (c .before .before .fits .b) in
@@ -31,4 +24,11 @@ returns-2 c =
     ∙ size-is-letter (s .args .b) (s .fits .b .fits)
 
 pub letter-of-spec : {M : Type 1} → statement M
-letter-of-spec = tie.close (tie.spec signed-requires returns size-requires returns-2)
+unfolding positive size
+letter-of-spec =
+    tie.close
+    (tie.spec
+    (λ c κs. search needs)
+    (λ c. ap size (sym (c .if1 .taken) ∙ bits-of (c .before .signed .ensures) (c .before .before .fits .b)))
+    size-requires
+    returns-2)

@@ -13,9 +13,6 @@ use Rattle.reader.proofs.Literals.{bits-of, not-least, size-is-letter, 
 use Rattle.reader.proofs.literal.names_letter.Statement.{statement}
 use Rattle.reader.proofs.literal.names_letter.Tie as tie
 
-signed-requires : tie.Need-signed-requires
-signed-requires c κs = search needs
-
 returns : tie.Need-returns
 returns c =
     least-names-none (c .before .before .args .n) (c .before .before .pre)
@@ -49,4 +46,4 @@ returns-3 c =
     ∙ names-by-size (s .args .n) (s .args .b) (letter (c .before))
 
 pub names-letter-spec : {M : Type 1} → statement M
-names-letter-spec = tie.close (tie.spec signed-requires returns size-requires returns-2 returns-3)
+names-letter-spec = tie.close (tie.spec (λ c κs. search needs) returns size-requires returns-2 returns-3)

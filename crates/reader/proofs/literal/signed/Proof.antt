@@ -6,11 +6,8 @@ use Rattle.reader.proofs.Literals.{difference-fits, difference-fits-8, 
 use Rattle.reader.proofs.literal.signed.Statement.{statement}
 use Rattle.reader.proofs.literal.signed.Tie as tie
 
-returns : tie.Need-returns
-unfolding signedOf
-returns c = refl
-
 pub signed-spec : {M : Type 1} → statement M
+unfolding signedOf
 signed-spec =
     tie.close
     (tie.spec
@@ -18,5 +15,5 @@ signed-spec =
     (λ c. search needs)
     (λ c. difference-fits (c .before .args .b) (c .if1 .left) (c .before .fits .b .fits))
     (λ c. difference-fits-8 (c .before .args .b) (c .if1 .left) (c .before .fits .b .fits))
-    returns
+    (λ c. refl)
     (λ c. difference-is-signed (c .before .args .b) (c .if1 .left) (c .before .fits .b .fits)))

@@ -9,12 +9,6 @@ use Rattle.reader.proofs.Literals.{bits-of, order-is-below}
 use Rattle.reader.proofs.literal.signed_below.Statement.{statement}
 use Rattle.reader.proofs.literal.signed_below.Tie as tie
 
-signed-requires : tie.Need-signed-requires
-signed-requires c κs = search needs
-
-signed-requires-2 : tie.Need-signed-requires-2
-signed-requires-2 c κs = search needs
-
 returns : tie.Need-returns
 returns c =
     let s = c .before .before in
@@ -23,4 +17,4 @@ returns c =
     ∙ order-is-below (s .args .a) (s .args .b) (s .fits .a .fits) (s .fits .b .fits)
 
 pub signed-below-spec : {M : Type 1} → statement M
-signed-below-spec = tie.close (tie.spec signed-requires signed-requires-2 returns)
+signed-below-spec = tie.close (tie.spec (λ c κs. search needs) (λ c κs. search needs) returns)

@@ -6,24 +6,22 @@ use Rattle.reader.proofs.Literals.{read-back, negative, not-negative}
 use Rattle.reader.proofs.literal.size.Statement.{statement}
 use Rattle.reader.proofs.literal.size.Tie as tie
 
-sub-result : tie.Need-sub-result
-sub-result c = negative (c .before .args .x) (c .before .fits .x) (c .before .pre) (c .if1 .taken) .fits
-
 cast-result : tie.Need-cast-result
 cast-result c =
     let d = negative (c .before .args .x) (c .before .fits .x) (c .before .pre) (c .if1 .taken) in
     (d .upward, d .small)
-
-cast-result-2 : tie.Need-cast-result-2
-cast-result-2 c = not-negative (c .before .args .x) (c .before .fits .x) (c .if1 .left)
 
 returns : tie.Need-returns
 returns c =
     negative (c .before .args .x) (c .before .fits .x) (c .before .pre) (c .if1 .taken) .same
     ∙ ap natAbs (read-back (c .before .args .x) (c .before .fits .x))
 
-returns-2 : tie.Need-returns-2
-returns-2 c = search needs
-
 pub size-spec : {M : Type 1} → statement M
-size-spec = tie.close (tie.spec sub-result cast-result cast-result-2 returns returns-2)
+size-spec =
+    tie.close
+    (tie.spec
+    (λ c. negative (c .before .args .x) (c .before .fits .x) (c .before .pre) (c .if1 .taken) .fits)
+    cast-result
+    (λ c. not-negative (c .before .args .x) (c .before .fits .x) (c .if1 .left))
+    returns
+    (λ c. search needs))

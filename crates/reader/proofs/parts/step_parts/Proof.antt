@@ -9,48 +9,21 @@ use Rattle.reader.proofs.Bodies.{step-read}
 use Rattle.reader.proofs.parts.step_parts.Statement.{statement}
 use Rattle.reader.proofs.parts.step_parts.Tie as tie
 
-shared-slice-read-len : tie.Need-shared-slice-read-len
-unfolding nextAt byte
-shared-slice-read-len c = omega arith
-
-cast-len : tie.Need-cast-len
-unfolding nextAt byte
-cast-len c = omega (arith, c .shared-slice-known .given (c .before .args .at))
-
-add-count : tie.Need-add-count
-unfolding nextAt byte
-add-count c = omega arith
-
-add-left : tie.Need-add-left
-unfolding nextAt byte
-add-left c = omega arith
-
-shared-slice-read-a : tie.Need-shared-slice-read-a
-unfolding nextAt byte
-shared-slice-read-a c = omega arith
-
-cast-a : tie.Need-cast-a
-unfolding nextAt byte
-cast-a c = omega (arith, c .shared-slice-known2 .given (c .before .before .args .at + 1))
-
-add-t10 : tie.Need-add-t10
-unfolding nextAt byte
-add-t10 c = omega (arith, add-one (c .before .before .args .at), ap (byte (c .before .before .args .s .now)) (add-one (c .before .before .args .at)))
-
-add-t11 : tie.Need-add-t11
-unfolding nextAt byte
-add-t11 c = omega arith
+-- the start, seen from behind the last read
+abbrev start : tie.After-shared-slice-known2 → tie.Start
+start c = c .before .before
 
 pub step-parts-spec : {M : Type 1} → statement M
+unfolding nextAt byte
 step-parts-spec =
     tie.close
     (tie.spec
-    shared-slice-read-len
-    cast-len
-    add-count
-    add-left
-    shared-slice-read-a
-    cast-a
-    add-t10
-    add-t11
-    (λ c. step-read (c .before .before .args .s .now) (c .before .before .args .at) (c .before .before .pre)))
+    (λ c. omega arith)
+    (λ c. omega (arith, c .shared-slice-known .given (c .before .args .at)))
+    (λ c. omega arith)
+    (λ c. omega arith)
+    (λ c. omega arith)
+    (λ c. omega (arith, c .shared-slice-known2 .given (start c .args .at + 1)))
+    (λ c. let a = start c .args in omega (arith, add-one (a .at), ap (byte (a .s .now)) (add-one (a .at))))
+    (λ c. omega arith)
+    (λ c. step-read (start c .args .s .now) (start c .args .at) (start c .pre)))

@@ -3,7 +3,7 @@ use mathlib.Core.Path.{ap, subst}
 use Prim.Native.Nat.{ℕ, _+_}
 use lib.ListN.{getD}
 use borrow.Author.Needs.{needs}
-use Rattle.rules.specs.Book.{MasksRead}
+use Rattle.rules.specs.Book.{MasksRead, leastAt, mostAt}
 use Rattle.rules.proofs.book.limit.Statement.{statement}
 use Rattle.rules.proofs.book.limit.Tie as tie
 
@@ -16,8 +16,8 @@ returns c =
     let e = after-limit-at .limit-at .ensures in
     record {
       masks = subst (λ (at : ℕ). MasksRead book at (m .result .held) (m .result .unheld)) e (m .ensures);
-      least-is = ap (λ (at : ℕ). getD book (at + 2) 0) e;
-      most-is = ap (λ (at : ℕ). getD book (at + 3) 0) e;
+      least-is = ap (λ (at : ℕ). getD book (leastAt at) 0) e;
+      most-is = ap (λ (at : ℕ). getD book (mostAt at) 0) e;
     }
 
 pub limit-spec : {M : Type 1} → statement M

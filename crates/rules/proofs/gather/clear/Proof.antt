@@ -40,13 +40,8 @@ loop-again c =
     let passes = turn-says (c .before) ∙ ap not (c .if1 .left) in
     (omega arith, all-more (test (head .before .before)) (head .loop .i) (head .loop .inv .1) passes)
 
-returns-2 : tie.Need-returns-2 Inv-loop μ-loop
-unfolding packClear
-returns-2 c =
-    let l = c .before .loop in
-    sym (all-done (test (c .before .before .before)) (l .i) _ (l .inv .0) (c .loop-test .left) (l .inv .1))
-
 pub clear-spec : {M : Type 1} → statement M
+unfolding packClear
 clear-spec =
     tie.close
     (tie.spec
@@ -59,4 +54,4 @@ clear-spec =
     (λ c. omega arith)
     (λ c. omega arith)
     loop-again
-    returns-2)
+    (λ c. sym (all-done _ _ _ (c .before .loop .inv .0) (c .loop-test .left) (c .before .loop .inv .1))))

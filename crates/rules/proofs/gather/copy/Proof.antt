@@ -1,30 +1,14 @@
--- The two numbers stand where they were put. Assumes nothing.
-use Prim.Native.Nat.{_+_}
-use lib.ListN.{getD}
+-- The two masks read are those put. Assumes nothing.
+use mathlib.Core.Path.{_∙_}
 use borrow.Author.Needs.{needs}
-use Rattle.rules.proofs.Rows.{put-two}
 use Rattle.rules.proofs.gather.copy.Statement.{statement}
 use Rattle.rules.proofs.gather.copy.Tie as tie
 
 returns : tie.Need-returns
 returns c =
-    let a = c .before .before .args in
-    let p = put-two (a .l .now) (a .to) (getD (a .book .now) (a .from) 0) (getD (a .book .now) (a .from + 1) 0) (c .before .before .pre .1) in
-    record { keeps = p .keeps; held = p .first; unheld = p .second }
+    let m = c .before .before .before .before .masks-at .ensures in
+    let p = c .before .before .put-masks .ensures in
+    record { keeps = p .keeps; held = p .first ∙ m .held-is; unheld = p .second ∙ m .unheld-is }
 
 pub copy-spec : {M : Type 1} → statement M
-copy-spec =
-    tie.close
-    (tie.spec
-    (λ c. search needs)
-    (λ c. search needs)
-    (λ c. search needs)
-    (λ c. search needs)
-    (λ c. search needs)
-    (λ c. search needs)
-    (λ c. search needs)
-    (λ c. search needs)
-    (λ c. search needs)
-    (λ c. search needs)
-    (λ c. search needs)
-    returns)
+copy-spec = tie.close (tie.spec (λ c κs. search needs) (λ c κs. search needs) (λ c. search needs) returns)

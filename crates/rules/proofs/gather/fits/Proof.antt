@@ -41,13 +41,8 @@ loop-again c =
     let passes = turn-says (c .before) ∙ not-false _ (c .if1 .left) in
     (omega arith, all-more (test (head .before .before)) (head .loop .i) (head .loop .inv .1) passes)
 
-returns-2 : tie.Need-returns-2 Inv-loop μ-loop
-unfolding clausesOk
-returns-2 c =
-    let l = c .before .loop in
-    sym (all-done (test (c .before .before .before)) (l .i) _ (l .inv .0) (c .loop-test .left) (l .inv .1))
-
 pub fits-spec : {M : Type 1} → statement M
+unfolding clausesOk
 fits-spec =
     tie.close
     (tie.spec
@@ -60,4 +55,4 @@ fits-spec =
     (λ c. omega arith)
     (λ c. omega arith)
     loop-again
-    returns-2)
+    (λ c. sym (all-done _ _ _ (c .before .loop .inv .0) (c .loop-test .left) (c .before .loop .inv .1))))

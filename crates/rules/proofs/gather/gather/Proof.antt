@@ -1,10 +1,9 @@
 -- What the first i step rules ask is gathered. Assumes nothing.
 use mathlib.Core.Path.{_≡_, sym, _∙_, subst₂}
-use mathlib.Core.Bool.{true}
 use Prim.Native.Nat.{ℕ, _-_, _≤_, _<_}
 use native.Mathlib.Omega.{arith}
 use lib.ListN.{length}
-use Rattle.rules.specs.Book.{gatherSize, stepsOf, asksToward}
+use Rattle.rules.specs.Book.{gatherSize, stepsOf}
 use Rattle.rules.specs.Rows.{Copied}
 use Rattle.rules.proofs.Gathering.{StepSofar, none-yet, far-within, step-copied, step-passed, steps-gathered}
 use Rattle.rules.proofs.gather.gather.Statement.{statement}
@@ -20,58 +19,57 @@ abbrev μ-loop : tie.MeasureT-loop
 turn-rule : (c : tie.In-loop Inv-loop μ-loop) → c .before .loop .i < stepsOf (c .before .before .before .before .before .args .book .now)
 turn-rule c = omega (arith, c .loop-test .taken, c .before .before .steps .ensures)
 
+-- a turn whose rule asks something, seen from behind the copy's place
+abbrev asking : tie.After-far-at Inv-loop μ-loop → tie.In-loop Inv-loop μ-loop
+asking c = c .before .before .before
+
+abbrev start : tie.In-loop Inv-loop μ-loop → tie.Start Inv-loop μ-loop
+start c = c .before .before .before .before .before
+
 copy-requires : tie.Need-copy-requires Inv-loop μ-loop
 copy-requires c κs =
-    let after-far-at = c .before .before in
-    let turn = after-far-at .before .before .before in
-    let start = turn .before .before .before .before .before in
+    let from = c .before .before in
+    let turn = asking from in
     let h = turn-rule turn in
-    let few = start .pre .0 .few-steps in
-    let far = far-within (start .args .ahead) (turn .before .loop .i) (omega arith) in
-    (omega (arith, after-far-at .far-at .ensures, start .pre .0 .long), omega (arith, c .before .gathered-at .ensures))
+    let book = start turn .pre .0 in
+    let few = book .few-steps in
+    let far = far-within (start turn .args .ahead) (turn .before .loop .i) (omega arith) in
+    (omega (arith, from .far-at .ensures, book .long), omega (arith, c .before .gathered-at .ensures))
 
 loop-again : tie.Need-loop-again Inv-loop μ-loop
 loop-again c =
-    let after-copy = c .before .before in
-    let after-gathered-at = after-copy .before .before in
-    let after-far-at = after-gathered-at .before in
-    let branch = after-far-at .before in
-    let after-asks = branch .before in
-    let turn = after-asks .before in
-    let head = turn .before in
-    let start = head .before .before .before .before in
-    let a = start .args in
-    let l = head .loop in
-    let after = after-copy .copy .last .1 .1 .0 in
-    let copied = subst₂ (λ (from to : ℕ). Copied (a .book .now) from (l .l) to after) (after-far-at .far-at .ensures)
-    (after-gathered-at .gathered-at .ensures) (after-copy .copy .ensures) in
-    let asked : asksToward (a .ahead) (a .book .now) (a .s) (l .i) ≡ true = sym (after-asks .asks-toward .ensures) ∙ branch .if1 .taken in (
+    let copied = c .before .before in
+    let to = copied .before .before in
+    let from = to .before in
+    let branch = from .before in
+    let turn = asking from in
+    let a = start turn .args in
+    let l = turn .before .loop in
+    let w = subst₂ (λ (from to : ℕ). Copied (a .book .now) from (l .l) to (copied .copy .last .1 .1 .0)) (from .far-at .ensures)
+    (to .gathered-at .ensures) (copied .copy .ensures) in
+    let asked = sym (branch .before .asks-toward .ensures) ∙ branch .if1 .taken in (
       omega arith,
-      omega (arith, after-copy .copy .ensures .keeps .long, l .inv .1),
-      step-copied (a .book .now) (start .pre .0) (a .ahead) (a .s) (l .l) after (l .n) (l .i) (turn-rule turn) (l .inv .2) asked copied,
+      omega (arith, w .keeps .long, l .inv .1),
+      step-copied _ (start turn .pre .0) (a .ahead) (a .s) _ _ (l .n) (l .i) (turn-rule turn) (l .inv .2) asked w,
     )
 
 loop-again-2 : tie.Need-loop-again-2 Inv-loop μ-loop
 loop-again-2 c =
-    let head = c .before .before .before in
-    let start = head .before .before .before .before in
-    let a = start .args in
-    let l = head .loop in (
-      omega arith,
-      l .inv .1,
-      step-passed (a .book .now) (start .pre .0) (a .ahead) (a .s) (l .l) (l .n) (l .i) (l .inv .2)
-          (sym (c .before .asks-toward .ensures) ∙ c .if1 .left),
-    )
+    let entry = start (c .before .before) in
+    let a = entry .args in
+    let l = c .before .before .before .loop in
+    let none = sym (c .before .asks-toward .ensures) ∙ c .if1 .left in
+    (omega arith, l .inv .1, step-passed _ (entry .pre .0) (a .ahead) (a .s) _ (l .n) (l .i) (l .inv .2) none)
 
 returns : tie.Need-returns Inv-loop μ-loop
 returns c =
-    let start = c .before .before .before .before .before in
-    let a = start .args in
     let l = c .before .loop in
     let e = c .before .before .steps .ensures in
     let within = l .inv .0 in
     let left = c .loop-test .left in
-    (steps-gathered (a .book .now) (start .pre .0) (a .ahead) (a .s) (l .l) (l .n) (l .i) (omega arith) (omega arith) (l .inv .2), l .inv .1)
+    let entry = c .before .before .before .before .before in
+    let a = entry .args in
+    (steps-gathered _ (entry .pre .0) (a .ahead) (a .s) _ (l .n) (l .i) (omega arith) (omega arith) (l .inv .2), l .inv .1)
 
 pub gather-spec : {M : Type 1} → statement M
 gather-spec =

@@ -17,36 +17,29 @@ abbrev μ-loop : tie.MeasureT-loop
 
 loop-again : tie.Need-loop-again Inv-loop μ-loop
 loop-again c =
-    let after-copy = c .before .before in
-    let after-gathered-at = after-copy .before .before in
-    let after-first-at = after-gathered-at .before in
-    let turn = after-first-at .before in
-    let head = turn .before in
-    let after-firsts = head .before in
-    let start = after-firsts .before .before .before in
-    let a = start .args in
-    let l = head .loop in
-    let after = after-copy .copy .last .1 .1 .0 in
-    let copied = subst₂ (λ (from to : ℕ). Copied (a .book .now) from (l .clauses) to after) (after-first-at .first-at .ensures)
-    (after-gathered-at .gathered-at .ensures) (after-copy .copy .ensures) in (
-      omega arith,
-      omega (arith, after-copy .copy .ensures .keeps .long, l .inv .1),
-      first-copied (a .book .now) (start .pre .0) (l .clauses) after (l .i) (omega (arith, turn .loop-test .taken, after-firsts .firsts .ensures))
-          (l .inv .2) copied,
-    )
+    let copied = c .before .before in
+    let to = copied .before .before in
+    let from = to .before in
+    let turn = from .before in
+    let firsts = turn .before .before in
+    let start = firsts .before .before .before in
+    let l = turn .before .loop in
+    let w = subst₂ (λ (from to : ℕ). Copied (start .args .book .now) from (l .clauses) to (copied .copy .last .1 .1 .0)) (from .first-at .ensures)
+    (to .gathered-at .ensures) (copied .copy .ensures) in
+    let h = turn .loop-test .taken in
+    let e = firsts .firsts .ensures in
+    (omega arith, omega (arith, w .keeps .long, l .inv .1), first-copied _ (start .pre .0) _ _ _ (omega arith) (l .inv .2) w)
 
 returns : tie.Need-returns Inv-loop μ-loop
 returns c =
-    let after-firsts = c .before .before in
-    let start = after-firsts .before .before .before in
+    let firsts = c .before .before in
+    let start = firsts .before .before .before in
     let l = c .before .loop in
-    let e = after-firsts .firsts .ensures in
+    let e = firsts .firsts .ensures in
     let within = l .inv .0 in
-    let left = c .loop-test .left in (
-      subst (FirstClauses (start .args .book .now) (l .clauses)) (sym e)
-          (first-gathered (start .args .book .now) (start .pre .0) (l .clauses) (l .i) (omega arith) (omega arith) (l .inv .2)),
-      l .inv .1,
-    )
+    let left = c .loop-test .left in
+    let all = first-gathered _ (start .pre .0) _ (l .i) (omega arith) (omega arith) (l .inv .2) in
+    (subst (FirstClauses (start .args .book .now) (l .clauses)) (sym e) all, l .inv .1)
 
 pub gather-first-spec : {M : Type 1} → statement M
 gather-first-spec =

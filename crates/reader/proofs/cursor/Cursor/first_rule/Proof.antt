@@ -8,26 +8,6 @@ use Rattle.reader.proofs.Reading.{first-shaped}
 use Rattle.reader.proofs.cursor.Cursor.first_rule.Statement.{statement}
 use Rattle.reader.proofs.cursor.Cursor.first_rule.Tie as tie
 
-add-start : tie.Need-add-start
-unfolding nextAt byte
-add-start c = omega arith
-
-shared-slice-read-end : tie.Need-shared-slice-read-end
-unfolding nextAt byte
-shared-slice-read-end c = omega arith
-
-cast-end : tie.Need-cast-end
-unfolding nextAt byte
-cast-end c = omega (arith, c .shared-slice-known2 .given (c .before .before .args .self .at))
-
-add-end : tie.Need-add-end
-unfolding nextAt byte
-add-end c = omega arith
-
-list-requires : tie.Need-list-requires
-unfolding nextAt byte
-list-requires c κs = record { letters = c .before .before .pre .letters; order = omega arith; within = omega arith }
-
 returns : tie.Need-returns
 unfolding nextAt byte
 returns c =
@@ -36,5 +16,13 @@ returns c =
     c .list .ensures ∙ first-shaped (a .s .now) (a .n) (a .self .at) (c .before .before .before .pre .fits) _ _ refl next
 
 pub first-rule-spec : {M : Type 1} → statement M
+unfolding byte nextAt
 first-rule-spec =
-    tie.close (tie.spec add-start shared-slice-read-end cast-end add-end list-requires returns)
+    tie.close
+    (tie.spec
+    (λ c. omega arith)
+    (λ c. omega arith)
+    (λ c. omega (arith, c .shared-slice-known2 .given (c .before .before .args .self .at)))
+    (λ c. omega arith)
+    (λ c κs. record { letters = c .before .before .pre .letters; order = omega arith; within = omega arith })
+    returns)

@@ -8,23 +8,11 @@ use Rattle.reader.proofs.Reading.{limit-short, limit-kind, limit-shaped
 use Rattle.reader.proofs.cursor.Cursor.limit.Statement.{statement}
 use Rattle.reader.proofs.cursor.Cursor.limit.Tie as tie
 
-shared-slice-read-if1 : tie.Need-shared-slice-read-if1
-unfolding nextAt byte
-shared-slice-read-if1 c = omega arith
-
 returns : tie.Need-returns
 unfolding byte
 returns c =
     let c3 = c .before .before .before in
     limit-short (c3 .args .s .now) (c3 .args .n) (c3 .args .self .at) (c3 .pre .fits) (c .if1 .taken)
-
-add-kind : tie.Need-add-kind
-unfolding nextAt byte
-add-kind c = omega arith
-
-shared-slice-read-if2 : tie.Need-shared-slice-read-if2
-unfolding nextAt byte
-shared-slice-read-if2 c = omega arith
 
 returns-2 : tie.Need-returns-2
 unfolding byte
@@ -32,10 +20,6 @@ returns-2 c =
     let c2 = c .before .before in
     let c5 = c2 .before .before .before in
     limit-kind (c5 .args .s .now) (c5 .args .n) (c5 .args .self .at) (c5 .pre .fits) (c2 .if1 .left) (c .if2 .taken)
-
-limit-parts-requires : tie.Need-limit-parts-requires
-unfolding byte
-limit-parts-requires c κs = record { fits = c .before .before .before .before .before .pre .fits; long = c .before .before .if1 .left }
 
 list-requires : tie.Need-list-requires
 list-requires c κs =
@@ -54,14 +38,15 @@ returns-3 c =
     (c .before .limit-parts .result) (c .before .limit-parts .ensures) (c4 .if1 .left) (c2 .if2 .left)
 
 pub limit-spec : {M : Type 1} → statement M
+unfolding byte nextAt
 limit-spec =
     tie.close
     (tie.spec
-    shared-slice-read-if1
+    (λ c. omega arith)
     returns
-    add-kind
-    shared-slice-read-if2
+    (λ c. omega arith)
+    (λ c. omega arith)
     returns-2
-    limit-parts-requires
+    (λ c κs. record { fits = c .before .before .before .before .before .pre .fits; long = c .before .before .if1 .left })
     list-requires
     returns-3)

@@ -14,47 +14,32 @@ Inv-loop s n end before₀ at₀ before at = Listing s n end at₀ before at
 abbrev μ-loop : tie.MeasureT-loop
 μ-loop s n end before₀ at₀ before at = end - at
 
-loop-holds : tie.Need-loop-holds Inv-loop μ-loop
-loop-holds c = listing-begins (c .before .args .s .now) (c .before .args .n) (c .before .args .self .at) (c .before .args .end) (c .before .pre .order)
+-- a turn that has begun, and the literal that names a letter
+abbrev start : tie.In-loop Inv-loop μ-loop → tie.Start Inv-loop μ-loop
+start c = c .before .before .before
+
+abbrev turn : tie.After-names-letter Inv-loop μ-loop → tie.In-loop Inv-loop μ-loop
+turn c = c .before .before
 
 returns : tie.Need-returns Inv-loop μ-loop
 returns c =
-    let c3 = c .before .before .before in
-    let c4 = c3 .before in
-    let c6 = c4 .before .before in
-    let a = c6 .args in
-    listing-names-none (a .s .now) (a .n) (a .end) (a .self .at) (c4 .loop .before) (c4 .loop .at) (c4 .loop .inv)
-    (c3 .loop-test .taken) (c6 .pre .within) (sym (c .before .names-letter .ensures) ∙ not-true _ (c .if1 .taken))
+    let t = turn (c .before) in
+    listing-names-none _ _ _ _ _ _ (t .before .loop .inv) (t .loop-test .taken) (start t .pre .within)
+    (sym (c .before .names-letter .ensures) ∙ not-true _ (c .if1 .taken))
 
 returns-2 : tie.Need-returns-2 Inv-loop μ-loop
 returns-2 c =
-    let c2 = c .before .before in
-    let c3 = c2 .before in
-    let c5 = c3 .before .before in
-    let c6 = c5 .before in
-    let c8 = c6 .before .before in
-    let a = c8 .args in
-    listing-falls (a .s .now) (a .n) (a .end) (a .self .at) (c6 .loop .before) (c6 .loop .at) (c6 .loop .inv)
-    (c5 .loop-test .taken) (c8 .pre .within)
-    (sym (c3 .names-letter .ensures) ∙ not-false _ (c2 .if1 .left)) (sym (c .before .signed-below .ensures) ∙ not-true _ (c .if2 .taken))
+    let named = c .before .before in
+    let t = turn (named .before) in
+    listing-falls _ _ _ _ _ _ (t .before .loop .inv) (t .loop-test .taken) (start t .pre .within)
+    (sym (named .before .names-letter .ensures) ∙ not-false _ (named .if1 .left)) (sym (c .before .signed-below .ensures) ∙ not-true _ (c .if2 .taken))
 
 loop-again : tie.Need-loop-again Inv-loop μ-loop
 loop-again c =
-    let c2 = c .before .before in
-    let c3 = c2 .before in
-    let c5 = c3 .before .before in
-    let c6 = c5 .before in
-    let c8 = c6 .before .before in
-    let a = c8 .args in
-    listing-goes-on (a .s .now) (a .n) (a .end) (a .self .at) (c6 .loop .before) (c6 .loop .at) (c6 .loop .inv)
-    (c5 .loop-test .taken) (c8 .pre .within)
-    (sym (c3 .names-letter .ensures) ∙ not-false _ (c2 .if1 .left)) (sym (c .before .signed-below .ensures) ∙ not-false _ (c .if2 .left))
-
-returns-3 : tie.Need-returns-3 Inv-loop μ-loop
-returns-3 c =
-    let a = c .before .before .before .args in
-    listing-done (a .s .now) (a .n) (a .end) (a .self .at) (c .before .loop .before) (c .before .loop .at) (c .before .loop .inv)
-    (c .loop-test .left)
+    let named = c .before .before in
+    let t = turn (named .before) in
+    listing-goes-on _ _ _ _ _ _ (t .before .loop .inv) (t .loop-test .taken) (start t .pre .within)
+    (sym (named .before .names-letter .ensures) ∙ not-false _ (named .if1 .left)) (sym (c .before .signed-below .ensures) ∙ not-false _ (c .if2 .left))
 
 pub list-spec : {M : Type 1} → statement M
 list-spec =
@@ -62,7 +47,7 @@ list-spec =
     (tie.spec
     Inv-loop
     μ-loop
-    loop-holds
+    (λ c. listing-begins _ _ _ _ (c .before .pre .order))
     (λ c. omega arith)
     (λ c κs. search needs)
     returns
@@ -71,4 +56,4 @@ list-spec =
     (λ c. omega arith)
     (λ c. omega arith)
     loop-again
-    returns-3)
+    (λ c. listing-done _ _ _ _ _ _ (c .before .loop .inv) (c .loop-test .left)))

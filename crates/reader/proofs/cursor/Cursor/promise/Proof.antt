@@ -7,27 +7,11 @@ use Rattle.reader.proofs.Reading.{promise-long, promise-shaped}
 use Rattle.reader.proofs.cursor.Cursor.promise.Statement.{statement}
 use Rattle.reader.proofs.cursor.Cursor.promise.Tie as tie
 
-shared-slice-read-if1 : tie.Need-shared-slice-read-if1
-unfolding nextAt byte
-shared-slice-read-if1 c = omega arith
-
 returns : tie.Need-returns
 unfolding byte
 returns c =
     let c3 = c .before .before .before in
     promise-long (c3 .args .s .now) (c3 .args .n) (c3 .args .self .at) (c3 .pre .fits) (c .if1 .taken)
-
-add-start : tie.Need-add-start
-unfolding nextAt byte
-add-start c = omega arith
-
-add-end : tie.Need-add-end
-unfolding nextAt byte
-add-end c = omega arith
-
-list-requires : tie.Need-list-requires
-unfolding nextAt byte
-list-requires c κs = record { letters = c .before .before .before .pre .letters; order = omega arith; within = omega arith }
 
 returns-2 : tie.Need-returns-2
 unfolding nextAt byte
@@ -37,5 +21,13 @@ returns-2 c =
     c .list .ensures ∙ promise-shaped (a .s .now) (a .n) (a .self .at) (c .before .before .before .before .pre .fits) _ _ refl next (c .before .if1 .left)
 
 pub promise-spec : {M : Type 1} → statement M
+unfolding byte nextAt
 promise-spec =
-    tie.close (tie.spec shared-slice-read-if1 returns add-start add-end list-requires returns-2)
+    tie.close
+    (tie.spec
+    (λ c. omega arith)
+    returns
+    (λ c. omega arith)
+    (λ c. omega arith)
+    (λ c κs. record { letters = c .before .before .before .pre .letters; order = omega arith; within = omega arith })
+    returns-2)

@@ -13,36 +13,19 @@ Inv-loop kind s n count c₀ left₀ c left = Section (kindOf kind) n s count (c
 abbrev μ-loop : tie.MeasureT-loop
 μ-loop kind s n count c₀ left₀ c left = left
 
-loop-holds : tie.Need-loop-holds Inv-loop μ-loop
-loop-holds c =
-    section-begins (kindOf (c .before .args .kind)) (c .before .args .n) (c .before .args .s .now) (c .before .args .count)
-    (c .before .args .self .at) (c .before .pre .within)
+-- a turn that has begun, seen from behind its record
+abbrev turn : tie.After-record Inv-loop μ-loop → tie.In-loop Inv-loop μ-loop
+turn c = c .before
 
 loop-again : tie.Need-loop-again Inv-loop μ-loop
 loop-again c =
-    let c3 = c .before .before .before in
-    let c4 = c3 .before in
-    let c5 = c4 .before in
-    let c7 = c5 .before .before in
-    let a = c7 .args in
-    section-goes-on (kindOf (a .kind)) (a .n) (a .s .now) (a .count) (a .self .at) (c5 .loop .left) (c5 .loop .c .at) (c5 .loop .inv)
-    (c4 .loop-test .taken) (sym (c3 .«record» .ensures) ∙ c .before .next .given .1)
+    let r = c .before .before .before in
+    section-goes-on _ _ _ _ _ _ _ (turn r .before .loop .inv) (turn r .loop-test .taken) (sym (r .«record» .ensures) ∙ c .before .next .given .1)
 
 returns : tie.Need-returns Inv-loop μ-loop
 returns c =
-    let c3 = c .before .before .before in
-    let c4 = c3 .before in
-    let c5 = c4 .before in
-    let c7 = c5 .before .before in
-    let a = c7 .args in
-    section-refused (kindOf (a .kind)) (a .n) (a .s .now) (a .count) (a .self .at) (c5 .loop .left) (c5 .loop .c .at) (c5 .loop .inv)
-    (c4 .loop-test .taken) (sym (c3 .«record» .ensures) ∙ c .before .f .given .1)
-
-returns-2 : tie.Need-returns-2 Inv-loop μ-loop
-returns-2 c =
-    let a = c .before .before .before .args in
-    section-done (kindOf (a .kind)) (a .n) (a .s .now) (a .count) (a .self .at) (c .before .loop .left) (c .before .loop .c .at) (c .before .loop .inv)
-    (c .loop-test .left)
+    let r = c .before .before .before in
+    section-refused _ _ _ _ _ _ _ (turn r .before .loop .inv) (turn r .loop-test .taken) (sym (r .«record» .ensures) ∙ c .before .f .given .1)
 
 pub records-spec : {M : Type 1} → statement M
 records-spec =
@@ -50,7 +33,7 @@ records-spec =
     (tie.spec
     Inv-loop
     μ-loop
-    loop-holds
+    (λ c. section-begins _ _ _ _ _ (c .before .pre .within))
     (λ c κs. record { letters = c .before .before .before .pre .letters; within = c .before .loop .inv .within })
     (λ c. search needs)
     (λ c. omega arith)
@@ -58,4 +41,4 @@ records-spec =
     loop-again
     (λ c. search needs)
     returns
-    returns-2)
+    (λ c. section-done _ _ _ _ _ _ _ (c .before .loop .inv) (c .loop-test .left)))

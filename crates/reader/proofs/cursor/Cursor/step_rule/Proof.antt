@@ -10,95 +10,66 @@ use Rattle.reader.proofs.Reading.{step-short, step-count, left-refused,
 use Rattle.reader.proofs.cursor.Cursor.step_rule.Statement.{statement}
 use Rattle.reader.proofs.cursor.Cursor.step_rule.Tie as tie
 
-shared-slice-read-len : tie.Need-shared-slice-read-len
-unfolding nextAt byte
-shared-slice-read-len c = omega arith
+-- what was passed before the left side was read
+abbrev parts : tie.After-list → tie.After-step-parts
+parts c = c .before
 
-returns : tie.Need-returns
-unfolding byte
-returns c =
-    let c3 = c .before .before .before in
-    step-short (c3 .args .s .now) (c3 .args .n) (c3 .args .self .at) (c3 .pre .fits) (c .if1 .taken)
+abbrev counted : tie.After-list → tie.Else2
+counted c = c .before .before
 
-add-count : tie.Need-add-count
-unfolding nextAt byte
-add-count c = omega arith
+abbrev sized : tie.After-list → tie.Else1
+sized c = counted c .before .before
 
-shared-slice-read-if2 : tie.Need-shared-slice-read-if2
-unfolding nextAt byte
-shared-slice-read-if2 c = omega arith
-
-returns-2 : tie.Need-returns-2
-unfolding byte
-returns-2 c =
-    let c2 = c .before .before in
-    let c5 = c2 .before .before .before in
-    step-count (c5 .args .s .now) (c5 .args .n) (c5 .args .self .at) (c5 .pre .fits) (c2 .if1 .left) (c .if2 .taken)
+abbrev start : tie.After-list → tie.Start
+start c = sized c .before .before .before
 
 step-parts-requires : tie.Need-step-parts-requires
 unfolding byte
 step-parts-requires c κs =
-    let a = c .before .before .before .before .before .args in
+    let at-start = c .before .before .before .before .before in
+    let s = at-start .args .s .now in
+    let at = at-start .args .self .at in
     record {
-      fits = c .before .before .before .before .before .pre .fits;
+      fits = at-start .pre .fits;
       long = c .before .before .if1 .left;
-      count = subst (λ (i : ℕ). getD (a .s .now) i 0 < getD (a .s .now) (a .self .at) 0) (add-one (a .self .at)) (c .if2 .left);
+      count = subst (λ (i : ℕ). getD s i 0 < getD s at 0) (add-one at) (c .if2 .left);
     }
 
 list-requires-2 : tie.Need-list-requires-2
 unfolding byte
 list-requires-2 c κs =
-    let c3 = c .before .before .before in
-    let c4 = c3 .before in
-    let c5 = c4 .before in
-    let c7 = c5 .before .before in
-    let c10 = c7 .before .before .before in
-    let p = c4 .step-parts .ensures in
+    let left = c .before .before .before in
+    let p = parts left .step-parts .ensures in
+    let asks = start left .pre in
     let m =
-    left-moved (c10 .args .s .now) (c10 .args .n) (c10 .args .self .at) (c10 .pre .fits)
-    (c4 .step-parts .result) (c4 .step-parts .ensures) (c7 .if1 .left) (c5 .if2 .left)
-    (sym (c3 .list .ensures) ∙ c .before .right .given .1) in
-    record {
-      letters = c10 .pre .letters;
-      order = omega (arith, m .0, p .order-2);
-      within = omega (arith, p .end, c10 .pre .fits);
-    }
+    left-moved _ _ _ (asks .fits) _ p (sized left .if1 .left) (counted left .if2 .left) (sym (left .list .ensures) ∙ c .before .right .given .1) in
+    record { letters = asks .letters; order = omega (arith, m .0, p .order-2); within = omega (arith, p .end, asks .fits) }
 
 returns-3 : tie.Need-returns-3
 unfolding byte
 returns-3 c =
-    let c2 = c .before .before in
-    let c4 = c2 .before .before in
-    let c5 = c4 .before in
-    let c6 = c5 .before in
-    let c8 = c6 .before .before in
-    let c11 = c8 .before .before .before in
+    let left = c .before .before .before .before in
     c .list2 .ensures
-    ∙ left-moved (c11 .args .s .now) (c11 .args .n) (c11 .args .self .at) (c11 .pre .fits)
-    (c5 .step-parts .result) (c5 .step-parts .ensures) (c8 .if1 .left) (c6 .if2 .left)
-    (sym (c4 .list .ensures) ∙ c2 .right .given .1) .1
+    ∙ left-moved _ _ _ (start left .pre .fits) _ (parts left .step-parts .ensures) (sized left .if1 .left) (counted left .if2 .left)
+    (sym (left .list .ensures) ∙ c .before .before .right .given .1) .1
 
 returns-4 : tie.Need-returns-4
 unfolding byte
 returns-4 c =
-    let c3 = c .before .before .before in
-    let c4 = c3 .before in
-    let c5 = c4 .before in
-    let c7 = c5 .before .before in
-    let c10 = c7 .before .before .before in
-    left-refused (c10 .args .s .now) (c10 .args .n) (c10 .args .self .at) (c10 .pre .fits)
-    (c4 .step-parts .result) (c4 .step-parts .ensures) (c7 .if1 .left) (c5 .if2 .left)
-    (sym (c3 .list .ensures) ∙ c .before .f .given .1)
+    let left = c .before .before .before in
+    left-refused _ _ _ (start left .pre .fits) _ (parts left .step-parts .ensures) (sized left .if1 .left) (counted left .if2 .left)
+    (sym (left .list .ensures) ∙ c .before .f .given .1)
 
 pub step-rule-spec : {M : Type 1} → statement M
+unfolding byte nextAt
 step-rule-spec =
     tie.close
     (tie.spec
-    shared-slice-read-len
-    returns
-    add-count
-    shared-slice-read-if2
-    returns-2
+    (λ c. omega arith)
+    (λ c. step-short _ _ _ (c .before .before .before .pre .fits) (c .if1 .taken))
+    (λ c. omega arith)
+    (λ c. omega arith)
+    (λ c. let sized = c .before .before in step-count _ _ _ (sized .before .before .before .pre .fits) (sized .if1 .left) (c .if2 .taken))
     step-parts-requires
     (λ c κs. search needs)
     (λ c. search needs)

@@ -7,12 +7,6 @@ use Rattle.reader.proofs.Sections.{at-end, not-at-end}
 use Rattle.reader.proofs.cursor.Step.then_end.Statement.{statement}
 use Rattle.reader.proofs.cursor.Step.then_end.Tie as tie
 
-enum-known-self : tie.Need-enum-known-self
-enum-known-self c = search needs
-
-enum-known-self-2 : tie.Need-enum-known-self-2
-enum-known-self-2 c = search needs
-
 returns : tie.Need-returns
 returns c =
     at-end (c .before .before .before .before .args .s .now) (c .before .before .self .given .0 .0 .at) (c .if1 .taken)
@@ -27,4 +21,4 @@ returns-3 : tie.Need-returns-3
 returns-3 c = ap (λ (t : Step). onwards t (endStep (c .before .before .before .args .s .now))) (sym (c .before .self2 .given .1))
 
 pub then-end-spec : {M : Type 1} → statement M
-then-end-spec = tie.close (tie.spec enum-known-self enum-known-self-2 returns returns-2 returns-3)
+then-end-spec = tie.close (tie.spec (λ c. search needs) (λ c. search needs) returns returns-2 returns-3)

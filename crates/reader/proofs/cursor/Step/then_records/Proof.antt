@@ -6,16 +6,10 @@ use Rattle.reader.specs.declared.cursor.Step.{Step}
 use Rattle.reader.proofs.cursor.Step.then_records.Statement.{statement}
 use Rattle.reader.proofs.cursor.Step.then_records.Tie as tie
 
-enum-known-self : tie.Need-enum-known-self
-enum-known-self c = search needs
-
 records-requires : tie.Need-records-requires
 records-requires c κs =
     let c4 = c .before .before .before .before in
     record { letters = c4 .pre .letters; within = subst (Within (c4 .args .s .now)) (c .before .self .given .1) (c4 .pre .within) }
-
-enum-known-self-2 : tie.Need-enum-known-self-2
-enum-known-self-2 c = search needs
 
 returns : tie.Need-returns
 returns c =
@@ -30,5 +24,4 @@ returns-2 c =
     ap (λ (t : Step). onwards t (recordsStep (kindOf (c4 .args .kind)) (c4 .args .n) (c4 .args .s .now) (c4 .args .count))) (sym (c .before .self2 .given .1))
 
 pub then-records-spec : {M : Type 1} → statement M
-then-records-spec =
-    tie.close (tie.spec enum-known-self records-requires enum-known-self-2 returns returns-2)
+then-records-spec = tie.close (tie.spec (λ c. search needs) records-requires (λ c. search needs) returns returns-2)
