@@ -3,7 +3,7 @@
  *
  * A rule sheet is a string of bytes (docs/FORMAT.md). The calls take any bytes and any numbers: none has a precondition, each
  * returns, and each is proved to keep the promise that is stated for it in crates/meaning/specs/Promises.antt (the audit:
- * crates/audit/specs/Carry.antt; the serial lead: crates/serial/specs/Serial.antt; which rules fight: crates/clash/specs/Clash.antt). Of the
+ * crates/accounts/specs/Carry.antt; the serial lead: crates/serial/specs/Serial.antt; which rules fight: crates/clash/specs/Clash.antt). Of the
  * pointers themselves C callers owe what is listed below.
  *
  * Numbers returned:

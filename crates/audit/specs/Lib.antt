@@ -1,3 +1,1 @@
-pub mod Account
-pub mod Carry
-pub mod Book
+pub mod Given

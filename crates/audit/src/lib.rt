@@ -1,22 +1,20 @@
 // The audit of a log: a monitor's recorded states held against a sheet, piece by piece. What an account tells of a whole log is said in
-// specs/Account.antt, what the call promises in specs/Carry.antt, and that cutting a log does not show in proofs/Audits.antt. It stands on the
-// sheet reader and the compiled rules alone.
+// crates/accounts/specs/Account.antt, what the call promises in Carry.antt there, and that cutting a log does not show in crates/accounts/proofs. It
+// stands on the sheet reader and the compiled rules alone.
 use reader::Answer;
 ghost use mathlib.Core.Path.{_≡_};
 ghost use mathlib.Core.Option.{none};
 ghost use lib.ListN.{length};
 ghost use Rattle.meaning.specs.Sheet.{firstFault};
 ghost use Rattle.ground.specs.Says.{Says};
-ghost use Rattle.audit.specs.Carry.{empty, SomePast, PastCount, PastBy, Audited, AuditedOut};
-ghost use Rattle.audit.specs.Book.{accountOf};
+ghost use Rattle.accounts.specs.Carry.{empty, SomePast, PastCount, PastBy, Audited, AuditedOut};
+ghost use Rattle.audit.specs.Given.{accountOf};
 
 mod carry;
 mod numbers;
-mod still;
-mod tally;
 
-// How many tallies an account has: one for each step rule that a sheet can have.
-pub const TALLIES: usize = 255;
+// How many tallies an account has.
+pub use follow::TALLIES;
 
 // The most moments that an account may count.
 pub const MOMENTS: u32 = 1000000;

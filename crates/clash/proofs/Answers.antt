@@ -1,8 +1,8 @@
 -- What the trials of a choice or of a plan come to: the answers of the check and of the planner. Assumes nothing.
 use mathlib.Core.Path.{_≡_, refl, sym, ap, subst, _∙_}
 use mathlib.Core.Bool.{Bool, true, false}
-use mathlib.Core.Option.{Option, none, some}
-use mathlib.Core.List.{List}
+use mathlib.Core.Option.{Option, none}
+use mathlib.Core.List.{List, []}
 use Prim.Native.Nat.{ℕ, zero, suc, _≤_, _<_}
 use native.Mathlib.Omega.{arith}
 use lib.ListN.{length, getD, take}
@@ -12,40 +12,16 @@ use Rattle.reader.specs.declared.Fault as F
 use Rattle.reader.specs.Answer.{whyNumber}
 use Rattle.reader.proofs.Good.{Faulty, good-header}
 use Rattle.judge.proofs.Wiping.{wiped-whole, zeros-same}
-use Rattle.clash.specs.Clash.{
-  mostRules,
-  rulesIn,
-  noMarks,
-  firstMarks,
-  marksOf,
-  Chosen,
-  leftOut,
-  lentThree,
-  Answered,
-  Proposal,
-  Fighting,
-  Crowded,
-  Weighed,
-  crowded,
-  accepted,
-  refused,
-  ClashChecked,
-  ends,
-  drops,
-  keeps,
-  Dropping,
-  Reduced,
-  Worked,
-  Planned,
-}
+use Rattle.proposals.specs.Proposals.{mostRules, noMarks, firstMarks, marksOf, Chosen, leftOut, Proposal, ProposalSays}
+use Rattle.proposals.proofs.Marks.{length-first}
+use Rattle.trials.specs.Trials.{lentThree, Answered, ends, drops, keeps, Dropping}
+use Rattle.trials.specs.Parts.{Lengths, Trial, EachTried, more, spare, needed, EachLeftOut, endOf, Drops}
+use Rattle.trials.proofs.Trials.{lengths-then, lengths-back, answered-same, answered-unique, answered-apart, answered-is, answered-13}
+use Rattle.trials.proofs.Loops.{dropping-length}
+use Rattle.clash.specs.Clash.{rulesIn, Fighting, Crowded, Weighed, crowded, accepted, refused, ClashChecked, Reduced, Worked, Planned}
 use Rattle.clash.specs.Clash as C
-use Rattle.clash.specs.Parts.{Lengths, Trial, ProposalSays, EachTried, more, spare, needed, EachLeftOut, Weighs, endOf, Drops}
-use Rattle.clash.specs.Parts.{Finds, Works}
+use Rattle.clash.specs.Parts.{Weighs, Finds, Works}
 use Rattle.clash.specs.Parts as P
-use Rattle.clash.proofs.Trials.{lengths-then, lengths-back, answered-same, answered-unique, answered-apart, answered-is, answered-13}
-use Rattle.clash.proofs.Loops.{dropping-long}
-use Rattle.clash.proofs.Dropped.{length-first}
-use Rattle.choice.proofs.Chosen.{chosen-good}
 
 -- ---- slices
 
@@ -77,8 +53,7 @@ count-is sheet = refl
 -- ---- a choice weighed
 
 -- The pass over a choice's rules, told of the slices as they were lent.
-each-later : {sheet marks t w c t′ w′ c′ : List ℕ} {n : ℕ} → Lengths (lentThree t w c) (lentThree t′ w′ c′)
-    → EachTried sheet (lentThree t′ w′ c′) marks n → EachTried sheet (lentThree t w c) marks n
+each-later : {sheet marks : List ℕ} {x y : Lent} {n : ℕ} → Lengths x y → EachTried sheet y marks n → EachTried sheet x marks n
 each-later L (more i chosen A e) = more i chosen (answered-same (lengths-back L) A) e
 each-later L (spare never i chosen A e) =
     spare (λ j c B. never j c (answered-same L B)) i chosen (answered-same (lengths-back L) A) e
@@ -115,34 +90,33 @@ pub weighed-at-once : {sheet marks : List ℕ} {lent after : Lent} {n : ℕ} →
     → Weighs sheet lent marks 17 after
 weighed-at-once T e = record { weighed = crowded (C.together (answered-is e (T .answered))) refl; lengths = T .lengths }
 
-module _ {sheet marks marks′ t w c t′ w′ c′ : List ℕ} {after : Lent} {n k : ℕ}
-    (T : Trial sheet (lentThree t w c) marks n (lentThree t′ w′ c′)) (E : EachLeftOut sheet (lentThree t′ w′ c′) marks k marks′ after) where
-  tried : EachTried sheet (lentThree t w c) marks k
+module _ {sheet marks marks′ : List ℕ} {lent later after : Lent} {n k : ℕ} (T : Trial sheet lent marks n later)
+    (E : EachLeftOut sheet later marks k marks′ after) where
+  tried : EachTried sheet lent marks k
   tried = each-later (T .lengths) (E .tried)
 
+  weighs : {m : ℕ} → Weighed sheet lent marks m → Weighs sheet lent marks m after
+  weighs W = record { weighed = W; lengths = lengths-then (T .lengths) (E .lengths) }
+
   -- 11 with one rule left out: 17.
-  pub weighed-one-less : k ≡ 11 → Weighs sheet (lentThree t w c) marks 17 after
+  pub weighed-one-less : k ≡ 11 → Weighs sheet lent marks 17 after
   weighed-one-less e =
       let (i, chosen, A) = each-crowded tried e in
-      record { weighed = crowded (C.one-less i chosen A) refl; lengths = lengths-then (T .lengths) (E .lengths) }
+      weighs (crowded (C.one-less i chosen A) refl)
 
   -- 13 together and 12 with each left out: 0.
-  pub weighed-fight : n ≡ 13 → k ≡ 12 → Weighs sheet (lentThree t w c) marks 0 after
-  weighed-fight e one = record {
-    weighed = accepted (record { together = answered-is e (T .answered); one-less = each-needed tried one }) refl;
-    lengths = lengths-then (T .lengths) (E .lengths);
-  }
+  pub weighed-fight : n ≡ 13 → k ≡ 12 → Weighs sheet lent marks 0 after
+  weighed-fight e one = weighs (accepted (record { together = answered-is e (T .answered); one-less = each-needed tried one }) refl)
 
   -- All else: 14.
-  pub weighed-else : (n ≡ 11 → ⊥) → (k ≡ 11 → ⊥) → (n ≡ 13 → k ≡ 12 → ⊥) → Weighs sheet (lentThree t w c) marks 14 after
-  weighed-else a b never =
-      record { weighed = refused roomy peace refl; lengths = lengths-then (T .lengths) (E .lengths) }
+  pub weighed-else : (n ≡ 11 → ⊥) → (k ≡ 11 → ⊥) → (n ≡ 13 → k ≡ 12 → ⊥) → Weighs sheet lent marks 14 after
+  weighed-else a b never = weighs (refused roomy peace refl)
     where
-      roomy : Crowded sheet (lentThree t w c) marks → ⊥
+      roomy : Crowded sheet lent marks → ⊥
       roomy (C.together A) = answered-apart (T .answered) a A
       roomy (C.one-less i chosen A) = each-roomy tried b i chosen A
 
-      peace : Fighting sheet (lentThree t w c) marks → ⊥
+      peace : Fighting sheet lent marks → ⊥
       peace F = never (answered-unique (T .answered) (F .together)) (each-of-fight tried F b)
 
 -- ---- the check's answers
@@ -169,8 +143,8 @@ checked-weighed {sheet} {numbers} {t = t} {w} {c} {n = n} good proposed same W e
 -- ---- a plan
 
 -- Dropping, told of the slices as they were lent.
-dropping-later : (sheet : List ℕ) {t w c t′ w′ c′ : List ℕ} (L : Lengths (lentThree t w c) (lentThree t′ w′ c′)) (i : ℕ) (marks : List ℕ)
-    (end : Option (List ℕ)) → Dropping sheet (lentThree t′ w′ c′) i marks end → Dropping sheet (lentThree t w c) i marks end
+dropping-later : (sheet : List ℕ) {x y : Lent} (L : Lengths x y) (i : ℕ) (marks : List ℕ) (end : Option (List ℕ))
+    → Dropping sheet y i marks end → Dropping sheet x i marks end
 unfolding Dropping
 dropping-later sheet L zero marks end d = d
 dropping-later sheet L (suc i) marks end (ends A e) = ends (answered-same (lengths-back L) A) e
@@ -182,65 +156,58 @@ dropping-later sheet L (suc i) marks end (keeps A d) = keeps (answered-same (len
 pub drops-long : {sheet marks marks′ : List ℕ} {lent after : Lent} {count : ℕ} {r : Bool} → Drops sheet lent count marks r marks′ after
     → r ≡ true → marks ≡ firstMarks count → count ≤ mostRules → length marks′ ≡ mostRules
 drops-long {sheet} {marks} {marks′} {lent} {after} {count} D e all few =
-    dropping-long sheet lent count marks marks′ (subst (λ (x : Bool). Dropping sheet lent count marks (endOf x marks′)) e (D .dropping))
+    dropping-length sheet lent count marks marks′ (subst (λ (x : Bool). Dropping sheet lent count marks (endOf x marks′)) e (D .dropping))
     ∙ ap length all ∙ length-first count few
 
 -- the whole sheet tried, with no rule left out
-whole-answered : {sheet marks : List ℕ} {lent after : Lent} {n : ℕ} → marks ≡ firstMarks (getD sheet 6 0)
-    → Trial sheet lent marks n after → Answered sheet lent (firstMarks (rulesIn sheet)) n
-whole-answered {sheet} {lent = lent} {n = n} all T =
-    subst (λ (m : List ℕ). Answered sheet lent m n) (all ∙ ap firstMarks (count-is sheet)) (T .answered)
+module _ {sheet marks : List ℕ} {lent later : Lent} {n : ℕ} (all : marks ≡ firstMarks (getD sheet 6 0)) (T : Trial sheet lent marks n later) where
+  whole-answered : Answered sheet lent (firstMarks (rulesIn sheet)) n
+  whole-answered = subst (λ (m : List ℕ). Answered sheet lent m n) (all ∙ ap firstMarks (count-is sheet)) (T .answered)
 
--- 11 for the whole sheet: 17. And 12 for it: 12.
-pub works-at-once : {sheet marks : List ℕ} (marks′ : List ℕ) {lent after : Lent} {n : ℕ} → marks ≡ firstMarks (getD sheet 6 0)
-    → Trial sheet lent marks n after → n ≡ 11 → Works sheet lent 17 marks′ after
-works-at-once marks′ all T e =
-    record { finds = P.more (C.at-once (answered-is e (whole-answered all T))) refl; lengths = T .lengths }
+  -- 11 for the whole sheet: 17. And 12 for it: 12.
+  pub works-at-once : (marks′ : List ℕ) → n ≡ 11 → Works sheet lent 17 marks′ later
+  works-at-once marks′ e = record { finds = P.more (C.at-once (answered-is e whole-answered)) refl; lengths = T .lengths }
 
-pub works-kept : {sheet marks : List ℕ} (marks′ : List ℕ) {lent after : Lent} {n : ℕ} → marks ≡ firstMarks (getD sheet 6 0)
-    → Trial sheet lent marks n after → n ≡ 12 → Works sheet lent 12 marks′ after
-works-kept marks′ all T e = record { finds = P.kept (answered-is e (whole-answered all T)) refl; lengths = T .lengths }
+  pub works-kept : (marks′ : List ℕ) → n ≡ 12 → Works sheet lent 12 marks′ later
+  works-kept marks′ e = record { finds = P.kept (answered-is e whole-answered) refl; lengths = T .lengths }
 
-module _ {sheet marks marks′ t w c t′ w′ c′ : List ℕ} {after : Lent} {n : ℕ} {r : Bool} (good : firstFault sheet ≡ none)
-    (all : marks ≡ firstMarks (getD sheet 6 0)) (T : Trial sheet (lentThree t w c) marks n (lentThree t′ w′ c′))
-    (a : n ≡ 11 → ⊥) (b : n ≡ 12 → ⊥) (D : Drops sheet (lentThree t′ w′ c′) (getD sheet 6 0) marks r marks′ after) where
-  -- What is neither 11 nor 12 is 13, and dropping goes on from all rules.
-  pub works-reduced : Reduced sheet (lentThree t w c) (endOf r marks′)
-  works-reduced = record {
-    whole = answered-13 (chosen-good sheet good (firstMarks (rulesIn sheet))) refl a b (whole-answered all T);
-    dropping = subst (λ (k : ℕ). Dropping sheet (lentThree t w c) k (firstMarks k) (endOf r marks′)) (count-is sheet)
-        (subst (λ (m : List ℕ). Dropping sheet (lentThree t w c) (getD sheet 6 0) m (endOf r marks′)) all
-        (dropping-later sheet (T .lengths) (getD sheet 6 0) marks (endOf r marks′) (D .dropping)));
-  }
+  -- what is neither 11 nor 12 is 13, and dropping goes on from all rules
+  module _ {marks′ : List ℕ} {after : Lent} {r : Bool} (good : firstFault sheet ≡ none) (no-run : lent .run ≡ []) (a : n ≡ 11 → ⊥) (b : n ≡ 12 → ⊥)
+      (D : Drops sheet later (getD sheet 6 0) marks r marks′ after) where
+    works-reduced : Reduced sheet lent (endOf r marks′)
+    works-reduced = record {
+      whole = answered-13 good no-run whole-answered a b;
+      dropping = subst (λ (k : ℕ). Dropping sheet lent k (firstMarks k) (endOf r marks′)) (count-is sheet)
+          (subst (λ (m : List ℕ). Dropping sheet lent (getD sheet 6 0) m (endOf r marks′)) all
+          (dropping-later sheet (T .lengths) (getD sheet 6 0) marks (endOf r marks′) (D .dropping)));
+    }
 
-  -- 11 while dropping: 17.
-  pub works-dropping : r ≡ false → Works sheet (lentThree t w c) 17 marks′ after
-  works-dropping e = record {
-    finds = P.more (C.dropping (subst (λ (x : Bool). Reduced sheet (lentThree t w c) (endOf x marks′)) e works-reduced)) refl;
-    lengths = lengths-then (T .lengths) (D .lengths);
-  }
+    reduced-to : {x : Bool} → r ≡ x → Reduced sheet lent (endOf x marks′)
+    reduced-to e = subst (λ (x : Bool). Reduced sheet lent (endOf x marks′)) e works-reduced
 
-module _ {sheet marks marks′ t w c t′ w′ c′ : List ℕ} {after : Lent} {k : ℕ} {r : Bool} (R : Reduced sheet (lentThree t w c) (endOf r marks))
-    (e : r ≡ true) (L : Lengths (lentThree t w c) (lentThree t′ w′ c′)) (E : EachLeftOut sheet (lentThree t′ w′ c′) marks k marks′ after) where
-  reduced : Reduced sheet (lentThree t w c) (some marks)
-  reduced = subst (λ (x : Bool). Reduced sheet (lentThree t w c) (endOf x marks)) e R
+    -- 11 while dropping: 17.
+    pub works-dropping : r ≡ false → Works sheet lent 17 marks′ after
+    works-dropping e =
+        record { finds = P.more (C.dropping (reduced-to e)) refl; lengths = lengths-then (T .lengths) (D .lengths) }
 
-  last-pass : EachTried sheet (lentThree t w c) marks k
-  last-pass = each-later L (E .tried)
+    -- the last pass, with each rule of the choice left out
+    module _ {marks″ : List ℕ} {end : Lent} {k : ℕ} (fits : r ≡ true) (E : EachLeftOut sheet after marks′ k marks″ end) where
+      long : Lengths lent after
+      long = lengths-then (T .lengths) (D .lengths)
 
-  -- 11 in the last pass: 17.
-  pub works-at-last : k ≡ 11 → Works sheet (lentThree t w c) 17 marks′ after
-  works-at-last eleven =
-      let (i, chosen, A) = each-crowded last-pass eleven in
-      record { finds = P.more (C.at-last marks reduced i chosen A) refl; lengths = lengths-then L (E .lengths) }
+      -- 11 in it: 17.
+      pub works-at-last : k ≡ 11 → Works sheet lent 17 marks″ end
+      works-at-last eleven =
+          let (i, chosen, A) = each-crowded (each-later long (E .tried)) eleven in
+          record { finds = P.more (C.at-last marks′ (reduced-to fits) i chosen A) refl; lengths = lengths-then long (E .lengths) }
 
-  -- Else the choice is found.
-  pub works-found : (k ≡ 11 → ⊥) → Works sheet (lentThree t w c) 0 marks′ after
-  works-found never = record {
-    finds = subst (λ (m : List ℕ). Finds sheet (lentThree t w c) 0 m) (sym (E .unmoved))
-        (P.found (record { reduced = reduced; roomy = each-roomy last-pass never }) refl);
-    lengths = lengths-then L (E .lengths);
-  }
+      -- Else the choice is found.
+      pub works-found : (k ≡ 11 → ⊥) → Works sheet lent 0 marks″ end
+      works-found never = record {
+        finds = subst (λ (m : List ℕ). Finds sheet lent 0 m) (sym (E .unmoved))
+            (P.found (record { reduced = reduced-to fits; roomy = each-roomy (each-later long (E .tried)) never }) refl);
+        lengths = lengths-then long (E .lengths);
+      }
 
 -- ---- the planner's answers
 

@@ -1,10 +1,1 @@
-pub mod Trials
-pub mod Marks
-pub mod Proposals
-pub mod Loops
 pub mod Answers
-pub mod Verdicts
-pub mod Outcomes
-pub mod Numbers
-pub mod Dropped
-pub mod Theorems

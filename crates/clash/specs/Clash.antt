@@ -1,61 +1,20 @@
--- Which rules fight. Document 02, order 5: what the check of a proposal and what the planner promise, for every input. A proposal is a list of
--- rule numbers; step rules are numbered from 1 in sheet order. Inside, a choice is a row of 255 marks, and rule i + 1 has mark i. Both promises
--- leave one outcome and every input has one (proofs/Outcomes.antt); what follows from them is in proofs/Theorems.antt. Assumes nothing.
+-- Which rules fight. Document 02, order 5: what the check of a proposal and what the planner promise, for every input. Proposals and marks are
+-- in crates/proposals/specs, `Answered` and `Dropping` in crates/trials/specs. Both promises leave one outcome and every input has one, and what
+-- follows from them is proved, in crates/fights/proofs. Assumes nothing.
 use mathlib.Core.Path.{_≡_}
 use mathlib.Core.Option.{Option, none, some}
-use mathlib.Core.List.{List, [], _∷_, _++_}
-use Prim.Native.Nat.{ℕ, zero, suc, _-_, _≤_, _<_}
-use lib.ListN.{length, getD, set, replicate}
+use mathlib.Core.List.{List}
+use Prim.Native.Nat.{ℕ}
 use Rattle.meaning.specs.Sheet.{Fault, numberOf, byte, firstFault}
-use Rattle.meaning.specs.Promises.{Lent, Outcome, Judged, cleared}
-use Rattle.choice.specs.Choice.{withChosen}
+use Rattle.meaning.specs.Promises.{Lent, cleared}
+use Rattle.proposals.specs.Proposals.{noMarks, firstMarks, marksOf, Chosen, leftOut, Proposal}
+use Rattle.trials.specs.Trials.{Answered, Dropping}
 
--- ---- choices
-
--- a sheet has at most 255 step rules: byte 6 counts them
-abbrev pub mostRules : ℕ
-mostRules = 255
-
+-- byte 6 counts a sheet's step rules
 abbrev pub rulesIn : List ℕ → ℕ
 rulesIn sheet = byte sheet 6
 
--- no rule; the first m rules; the rules with these numbers
-abbrev pub noMarks : List ℕ
-noMarks = replicate mostRules 0
-
-abbrev pub firstMarks : ℕ → List ℕ
-firstMarks m = replicate m 1 ++ replicate (mostRules - m) 0
-
-unfoldable pub marksOf : List ℕ → List ℕ
-marksOf [] = noMarks
-marksOf (k ∷ numbers) = set (marksOf numbers) (k - 1) 1
-
--- rule i + 1 is chosen; a choice with it left out
-abbrev pub Chosen : (i : ℕ) (marks : List ℕ) → Type 0
-Chosen i marks = getD marks i 0 ≡ 0 → ⊥
-
-abbrev pub leftOut : (i : ℕ) (marks : List ℕ) → List ℕ
-leftOut i marks = set marks i 0
-
--- ---- what the judge says of a choice
-
--- "all judged with no run room": three slices are lent, and the run slice has no room
-abbrev pub lentThree : (table words scratch : List ℕ) → Lent
-lentThree table words scratch = record { table = table; words = words; scratch = scratch; run = [] }
-
--- the sheet with these rules is answered n: by the judge's promise on its bytes, with the slices as they were lent
-pub record Answered (sheet : List ℕ) (lent : Lent) (marks : List ℕ) (n : ℕ) : Type 0 where
-  pub got : Outcome
-  pub promise : Judged (withChosen sheet marks) lent got
-  pub number : n ≡ got .answer
-
 -- ---- the check of a proposal
-
--- "numbers not rising or not in the sheet get 14": numbers that rise strictly, each from 1 to the number of the sheet's step rules
-pub record Proposal (rules : ℕ) (numbers : List ℕ) : Type 0 where
-  pub least : (j : ℕ) → j < length numbers → 1 ≤ getD numbers j 0
-  pub most : (j : ℕ) → j < length numbers → getD numbers j 0 ≤ rules
-  pub rising : (j : ℕ) → suc j < length numbers → getD numbers j 0 < getD numbers (suc j) 0
 
 -- "the sheet with the chosen rules is answered 13 and, with each single one left out, 12"
 pub record Fighting (sheet : List ℕ) (lent : Lent) (marks : List ℕ) : Type 0 where
@@ -84,18 +43,6 @@ pub data ClashChecked (sheet numbers : List ℕ) (before : Lent) (n place : ℕ)
       → after ≡ cleared before → ClashChecked sheet numbers before n place after
 
 -- ---- the planner
-
--- One rule tried, rule i + 1 of a choice: 11 ends the plan, 13 drops the rule, 12 keeps it. Next is what must hold of the choice it goes on with.
-pub data OneTried (sheet : List ℕ) (lent : Lent) (i : ℕ) (marks : List ℕ) (Next : List ℕ → Type 0) (end : Option (List ℕ)) : Type 0 where
-  ends : Answered sheet lent (leftOut i marks) 11 → end ≡ none → OneTried sheet lent i marks Next end
-  drops : Answered sheet lent (leftOut i marks) 13 → Next (leftOut i marks) → OneTried sheet lent i marks Next end
-  keeps : Answered sheet lent (leftOut i marks) 12 → Next marks → OneTried sheet lent i marks Next end
-
--- "drops rules from the last to the first wherever 13 stays": rules i, i - 1, .. 1 tried in turn, from this choice on. It ends in a choice, or in
--- none where a sheet that was tried gives 11.
-unfoldable pub Dropping : (sheet : List ℕ) (lent : Lent) (i : ℕ) (marks : List ℕ) (end : Option (List ℕ)) → Type 0
-Dropping sheet lent zero marks end = end ≡ some marks
-Dropping sheet lent (suc i) marks end = OneTried sheet lent i marks (λ (next : List ℕ). Dropping sheet lent i next end) end
 
 -- the whole sheet is answered 13, and dropping from all its rules ends so
 pub record Reduced (sheet : List ℕ) (lent : Lent) (end : Option (List ℕ)) : Type 0 where

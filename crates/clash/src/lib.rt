@@ -4,25 +4,15 @@
 use choice::RULES;
 use papers::answer::Verdict;
 use reader::Answer;
-use reader::header::MOST_BYTES;
 ghost use mathlib.Core.Path.{_≡_};
 ghost use mathlib.Core.Option.{none};
-ghost use Prim.Native.Nat.{_≤_, _<_};
-ghost use lib.ListN.{length, take};
-ghost use Rattle.meaning.specs.Sheet.{mostBytes, firstFault};
+ghost use lib.ListN.{length};
+ghost use Rattle.meaning.specs.Sheet.{firstFault};
 ghost use Rattle.meaning.specs.Promises.{cleared};
-ghost use Rattle.clash.specs.Clash.{lentThree, leftOut, firstMarks, marksOf, mostRules, rulesIn, Proposal, ClashChecked, Planned};
-ghost use Rattle.clash.specs.Parts.{
-  BytesJudged,
-  Trial,
-  ProposalSays,
-  EachLeftOut,
-  Weighs,
-  Drops,
-  Works,
-  ClashCheckedC,
-  PlannedC,
-};
+ghost use Rattle.proposals.specs.Proposals.{firstMarks, mostRules};
+ghost use Rattle.trials.specs.Trials.{lentThree};
+ghost use Rattle.clash.specs.Clash.{ClashChecked, Planned};
+ghost use Rattle.clash.specs.Parts.{Weighs, Works, ClashCheckedC, PlannedC};
 
 // Where a sheet counts its step rules.
 const STEPS: usize = 6;
@@ -34,42 +24,6 @@ pub struct Plan {
     pub marks: [u8; RULES],
 }
 
-// What the judge answers for the first `n` bytes of a buffer, with no room for a run.
-fn judge_front(
-    buffer: &[u8; MOST_BYTES],
-    n: usize,
-    table: &mut [u32],
-    words: &mut [u32],
-    scratch: &mut [u32],
-) -> u32
-    requires { ⌜ n ≤ mostBytes ⌝ }
-    ensures { λ a. ⌜ BytesJudged (take n (now (buffer .entry)))
-        (lentThree (now (table .entry)) (now (words .entry)) (now (scratch .entry))) a
-        (lentThree (now (table .exit)) (now (words .exit)) (now (scratch .exit))) ⌝ }
-{
-    let mut no_run = [0u32; 1];
-    let bytes: &[u8] = buffer;
-    let j = judge::judge(&bytes[..n], table, words, scratch, &mut no_run[..0]);
-    j.answer
-}
-
-// What the judge answers for the sheet with the chosen rules and no room for a run.
-fn trial(
-    sheet: &[u8],
-    marks: &[u8; RULES],
-    table: &mut [u32],
-    words: &mut [u32],
-    scratch: &mut [u32],
-) -> u32
-    requires { ⌜ firstFault (now sheet) ≡ none ⌝ }
-    ensures { λ n. ⌜ Trial (now (sheet .entry)) (lentThree (now (table .entry)) (now (words .entry)) (now (scratch .entry)))
-        (now (marks .entry)) n (lentThree (now (table .exit)) (now (words .exit)) (now (scratch .exit))) ⌝ }
-{
-    let mut buffer = [0u8; MOST_BYTES];
-    let n = choice::write_chosen(sheet, marks, &mut buffer);
-    judge_front(&buffer, n, table, words, scratch)
-}
-
 // Zeros in all three slices.
 fn clear(table: &mut [u32], words: &mut [u32], scratch: &mut [u32])
     ensures { λ _. ⌜ lentThree (now (table .exit)) (now (words .exit)) (now (scratch .exit))
@@ -78,93 +32,6 @@ fn clear(table: &mut [u32], words: &mut [u32], scratch: &mut [u32])
     ground::wipe_from(table, 0);
     ground::wipe_from(words, 0);
     ground::wipe_from(scratch, 0);
-}
-
-// Whether numbers rise strictly and are all numbers of step rules, from 1 to `count`.
-fn is_proposal(rules: &[u32], count: u32) -> bool
-    ensures { λ r. ⌜ ProposalSays count (now (rules .entry)) r ⌝ }
-{
-    let mut above: u32 = 0;
-    let mut i: usize = 0;
-    while i < rules.len() {
-        let number = rules[i];
-        if number <= above {
-            return false;
-        }
-        if count < number {
-            return false;
-        }
-        above = number;
-        i += 1;
-    }
-    true
-}
-
-// The marks of proposed rules.
-fn mark(rules: &[u32]) -> [u8; RULES]
-    requires { ⌜ Proposal mostRules (now rules) ⌝ }
-    ensures { λ r. ⌜ r ≡ marksOf (now (rules .entry)) ⌝ }
-{
-    let mut marks = [0u8; RULES];
-    let mut i = rules.len();
-    while 0 < i {
-        i -= 1;
-        let number = rules[i] as usize;
-        marks[number - 1] = 1;
-    }
-    marks
-}
-
-// What the judge answers for the choice with rule `i` + 1 left out. The marks are as they were.
-fn left_out(
-    sheet: &[u8],
-    marks: &mut [u8; RULES],
-    i: usize,
-    table: &mut [u32],
-    words: &mut [u32],
-    scratch: &mut [u32],
-) -> u32
-    requires { ⌜ (firstFault (now sheet) ≡ none) × (i < mostRules) ⌝ }
-    ensures { λ n. ⌜ Trial (now (sheet .entry)) (lentThree (now (table .entry)) (now (words .entry)) (now (scratch .entry)))
-        (leftOut i (now (marks .entry))) n (lentThree (now (table .exit)) (now (words .exit)) (now (scratch .exit)))
-        × (now (marks .exit) ≡ now (marks .entry)) ⌝ }
-{
-    let mark = marks[i];
-    marks[i] = 0;
-    let n = trial(sheet, marks, table, words, scratch);
-    marks[i] = mark;
-    n
-}
-
-// Tries the choice with each of its rules left out by itself: 11 if one of these sheets gives 11; or else 13 if one gives 13; or else 12, which
-// all of them give. The marks are as they were.
-fn each_left_out(
-    sheet: &[u8],
-    marks: &mut [u8; RULES],
-    table: &mut [u32],
-    words: &mut [u32],
-    scratch: &mut [u32],
-) -> u32
-    requires { ⌜ (firstFault (now sheet) ≡ none) × (length (now marks) ≡ mostRules) ⌝ }
-    ensures { λ n. ⌜ EachLeftOut (now (sheet .entry)) (lentThree (now (table .entry)) (now (words .entry)) (now (scratch .entry)))
-        (now (marks .entry)) n (now (marks .exit)) (lentThree (now (table .exit)) (now (words .exit)) (now (scratch .exit))) ⌝ }
-{
-    let mut worst: u32 = 12;
-    let mut next: usize = 0;
-    while next < RULES {
-        let i = next;
-        next += 1;
-        if marks[i] != 0 {
-            let n = left_out(sheet, marks, i, table, words, scratch);
-            if n == 11 {
-                return 11;
-            }
-            if n == 13 {
-                worst = 13;
-            }
-        }
-    }
-    worst
 }
 
 // What the check says of a choice: 17, 0 or 14.
@@ -179,11 +46,11 @@ fn weigh(
     ensures { λ n. ⌜ Weighs (now (sheet .entry)) (lentThree (now (table .entry)) (now (words .entry)) (now (scratch .entry)))
         (now (marks .entry)) n (lentThree (now (table .exit)) (now (words .exit)) (now (scratch .exit))) ⌝ }
 {
-    let together = trial(sheet, marks, table, words, scratch);
+    let together = trials::trial(sheet, marks, table, words, scratch);
     if together == 11 {
         return 17;
     }
-    let less = each_left_out(sheet, marks, table, words, scratch);
+    let less = trials::each_left_out(sheet, marks, table, words, scratch);
     if less == 11 {
         return 17;
     }
@@ -209,9 +76,9 @@ fn check_good(
         (lentThree (now (table .exit)) (now (words .exit)) (now (scratch .exit))) ⌝ }
 {
     let count = sheet[STEPS] as u32;
-    let proposed = is_proposal(rules, count);
+    let proposed = proposals::is_proposal(rules, count);
     if proposed {
-        let mut marks = mark(rules);
+        let mut marks = proposals::mark(rules);
         let answer = weigh(sheet, &mut marks, table, words, scratch);
         clear(table, words, scratch);
         return answer;
@@ -248,45 +115,6 @@ pub fn check_clash(
     }
 }
 
-// Marks the first `count` rules, all others being unmarked.
-fn mark_first(marks: &mut [u8; RULES], count: usize)
-    requires { ⌜ (count ≤ mostRules) × (now marks ≡ firstMarks 0) ⌝ }
-    ensures { λ _. ⌜ now (marks .exit) ≡ firstMarks count ⌝ }
-{
-    let mut i: usize = 0;
-    while i < count {
-        marks[i] = 1;
-        i += 1;
-    }
-}
-
-// Drops rules from the last of `count` to the first wherever 13 stays. False if a sheet that it tries gives 11.
-fn drop_rules(
-    sheet: &[u8],
-    marks: &mut [u8; RULES],
-    count: usize,
-    table: &mut [u32],
-    words: &mut [u32],
-    scratch: &mut [u32],
-) -> bool
-    requires { ⌜ (firstFault (now sheet) ≡ none) × (count ≤ mostRules) ⌝ }
-    ensures { λ r. ⌜ Drops (now (sheet .entry)) (lentThree (now (table .entry)) (now (words .entry)) (now (scratch .entry)))
-        count (now (marks .entry)) r (now (marks .exit)) (lentThree (now (table .exit)) (now (words .exit)) (now (scratch .exit))) ⌝ }
-{
-    let mut i = count;
-    while 0 < i {
-        i -= 1;
-        let without = left_out(sheet, marks, i, table, words, scratch);
-        if without == 11 {
-            return false;
-        }
-        if without == 13 {
-            marks[i] = 0;
-        }
-    }
-    true
-}
-
 // The plan for a good sheet, in marks that are all 0 before: 17, 12, or 0 with the choice.
 fn work(
     sheet: &[u8],
@@ -300,17 +128,17 @@ fn work(
         n (now (marks .exit)) (lentThree (now (table .exit)) (now (words .exit)) (now (scratch .exit))) ⌝ }
 {
     let count = sheet[STEPS] as usize;
-    mark_first(marks, count);
-    let whole = trial(sheet, marks, table, words, scratch);
+    proposals::mark_first(marks, count);
+    let whole = trials::trial(sheet, marks, table, words, scratch);
     if whole == 11 {
         return 17;
     }
     if whole == 12 {
         return 12;
     }
-    let fits = drop_rules(sheet, marks, count, table, words, scratch);
+    let fits = trials::drop_rules(sheet, marks, count, table, words, scratch);
     if fits {
-        let last = each_left_out(sheet, marks, table, words, scratch);
+        let last = trials::each_left_out(sheet, marks, table, words, scratch);
         if last == 11 {
             return 17;
         }

@@ -56,12 +56,8 @@ pub as-long-same : (lent : Lent) → AsLong lent lent
 as-long-same lent = record { table = refl; words = refl; scratch = refl; run = refl }
 
 pub as-long-then : {x y z : Lent} → AsLong x y → AsLong y z → AsLong x z
-as-long-then p q = record {
-  table = q .table ∙ p .table;
-  words = q .words ∙ p .words;
-  scratch = q .scratch ∙ p .scratch;
-  run = q .run ∙ p .run;
-}
+as-long-then p q =
+    record { table = q .table ∙ p .table; words = q .words ∙ p .words; scratch = q .scratch ∙ p .scratch; run = q .run ∙ p .run }
 
 -- Noting numbers keeps their slice's length.
 pub length-noted : (at : ℕ) (o : Outcome) (l : List ℕ) → length (noted at o l) ≡ length l

@@ -12,19 +12,19 @@ abbrev pub deskOf : (table words scratch run numbers : List ℕ) → Desk
 deskOf table words scratch run numbers = record { lent = lentOf table words scratch run; numbers = numbers }
 
 -- the ends cut an input of `size` bytes whole: none falls, none passes it, and the last is its length
-pub record Cut (size : ℕ) (ends : List ℕ) : Type 0 where
+pub record EndsFit (size : ℕ) (ends : List ℕ) : Type 0 where
   pub rise : (i : ℕ) → i < length ends → startOf ends i ≤ getD ends i 0
   pub within : (i : ℕ) → i < length ends → getD ends i 0 ≤ size
   pub last : startOf ends (length ends) ≡ size
 
 -- what a test of the ends says
-pub record CutSays (size : ℕ) (ends : List ℕ) (r : Bool) : Type 0 where
-  pub yes : r ≡ true → Cut size ends
+pub record EndsFitSays (size : ℕ) (ends : List ℕ) (r : Bool) : Type 0 where
+  pub yes : r ≡ true → EndsFit size ends
   pub never : r ≡ false → (room : ℕ) → Refused size ends room
 
 -- a class that is not refused
 pub record Fair (size : ℕ) (ends : List ℕ) (room : ℕ) : Type 0 where
-  pub cut : Cut size ends
+  pub ends-fit : EndsFit size ends
   pub few : length ends ≤ mostSheets
   pub fits : length ends * numbersEach ≤ room
 

@@ -4,7 +4,7 @@ ghost use mathlib.Core.Path.{_≡_};
 ghost use Prim.Native.Nat.{_≤_, _+_};
 ghost use lib.ListN.{length};
 ghost use Rattle.class.specs.Class.{stored, OneJudged, InTurn, ClassJudged};
-ghost use Rattle.class.specs.Steps.{deskOf, CutSays, Fair, FairSays};
+ghost use Rattle.class.specs.Steps.{deskOf, EndsFitSays, Fair, FairSays};
 
 // The most sheets in one call.
 pub const SHEETS: usize = 32;
@@ -17,7 +17,7 @@ const REFUSED: u32 = 16;
 
 // Whether no end falls, none passes an input of `size` bytes, and the last is its length.
 fn cut(size: usize, ends: &[u32]) -> bool
-    ensures { λ r. ⌜ CutSays size (now (ends .entry)) r ⌝ }
+    ensures { λ r. ⌜ EndsFitSays size (now (ends .entry)) r ⌝ }
 {
     let mut start: usize = 0;
     let mut i: usize = 0;

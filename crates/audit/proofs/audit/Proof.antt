@@ -1,19 +1,11 @@
 -- The sheet first; a good one is carried on. Assumes nothing.
-use mathlib.Core.Path.{_≡_, refl, sym, _∙_}
+use mathlib.Core.Path.{refl, _∙_}
 use native.Mathlib.Omega.{arith}
 use Rattle.reader.proofs.Good.{told}
-use Rattle.audit.specs.Carry.{faulty}
+use Rattle.accounts.specs.Carry.{faulty}
 use borrow.Author.Needs.{needs}
 use Rattle.audit.proofs.audit.Statement.{statement}
 use Rattle.audit.proofs.audit.Tie as tie
-use Rattle.audit.proofs.audit.Reads as reads
-use Rattle.audit.proofs.audit.Lts as lts
-use Rattle.audit.proofs.audit_good.Reads as audit-good-reads
-use Rattle.reader.proofs.number.Reads as number-reads
-use Rattle.reader.proofs.read.Reads as read-reads
-
-enum-told : tie.Need-enum-told
-enum-told c = search needs
 
 cast-place : tie.Need-cast-place
 cast-place c =
@@ -30,7 +22,7 @@ audit-spec =
     tie.close
     (tie.spec
     (λ c κs. search needs)
-    enum-told
+    (λ c. search needs)
     (λ c κs. told _ (c .before .before .read .ensures) (c .enum-told .given .1))
     (λ c. search needs)
     cast-place

@@ -1,16 +1,11 @@
 -- Refused whole, or carried on by the compiled sheet. Assumes nothing.
-use mathlib.Core.Path.{_≡_, refl, sym, _∙_}
-use Rattle.audit.specs.Carry.{past, done}
-use Rattle.audit.proofs.Telling.{carriable}
-use Rattle.audit.proofs.Compiled.{book-carried}
+use mathlib.Core.Path.{refl, _∙_}
+use Rattle.accounts.specs.Carry.{past, done}
+use Rattle.accounts.proofs.Telling.{carriable}
+use Rattle.accounts.proofs.Compiled.{book-carried}
 use borrow.Author.Needs.{needs}
 use Rattle.audit.proofs.audit_good.Statement.{statement}
 use Rattle.audit.proofs.audit_good.Tie as tie
-use Rattle.audit.proofs.audit_good.Reads as reads
-use Rattle.audit.proofs.audit_good.Lts as lts
-use Rattle.audit.proofs.carry.carry.Reads as carry-reads
-use Rattle.audit.proofs.past.Reads as past-reads
-use Rattle.compile.proofs.compile.Reads as compile-reads
 
 carry-requires : tie.Need-carry-requires
 carry-requires c κs =

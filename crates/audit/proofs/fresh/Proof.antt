@@ -1,10 +1,8 @@
 -- Assumes nothing.
 use mathlib.Core.Path.{refl}
-use Rattle.audit.specs.Carry.{empty}
+use Rattle.accounts.specs.Carry.{empty}
 use Rattle.audit.proofs.fresh.Statement.{statement}
 use Rattle.audit.proofs.fresh.Tie as tie
-use Rattle.audit.proofs.fresh.Reads as reads
-use Rattle.audit.proofs.fresh.Lts as lts
 
 returns : tie.Need-returns
 unfolding empty

@@ -1,16 +1,11 @@
 -- The count, the kept tallies or the broken ones. Assumes nothing.
-use mathlib.Core.Path.{_≡_, refl}
 use mathlib.Core.Logic.{inl, inr}
 use Rattle.ground.proofs.Saying.{says-yes}
-use Rattle.audit.specs.Book.{accountOf}
-use Rattle.audit.proofs.Telling.{past-by-broken}
+use Rattle.accounts.proofs.Telling.{past-by-broken}
+use Rattle.audit.specs.Given.{accountOf}
 use borrow.Author.Needs.{needs}
 use Rattle.audit.proofs.past.Statement.{statement}
 use Rattle.audit.proofs.past.Tie as tie
-use Rattle.audit.proofs.past.Reads as reads
-use Rattle.audit.proofs.past.Lts as lts
-use Rattle.audit.proofs.count_past.Reads as count-past-reads
-use Rattle.audit.proofs.some_past.Reads as some-past-reads
 
 returns-3 : tie.Need-returns-3
 returns-3 c =

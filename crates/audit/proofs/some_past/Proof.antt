@@ -1,13 +1,10 @@
 -- None before i is past the bound. Assumes nothing.
-use mathlib.Core.Path.{_≡_, refl}
 use Prim.Native.Nat.{_-_, _≤_}
 use native.Mathlib.Omega.{arith}
 use Rattle.ground.proofs.Saying.{says-yes, says-no}
-use Rattle.audit.proofs.Telling.{NonePast, none-past-next, none-past-all}
+use Rattle.accounts.proofs.Telling.{NonePast, none-past-next, none-past-all}
 use Rattle.audit.proofs.some_past.Statement.{statement}
 use Rattle.audit.proofs.some_past.Tie as tie
-use Rattle.audit.proofs.some_past.Reads as reads
-use Rattle.audit.proofs.some_past.Lts as lts
 
 abbrev Inv-loop : tie.InvT-loop
 Inv-loop tallies i₀ i = (i ≤ 255) × NonePast tallies i

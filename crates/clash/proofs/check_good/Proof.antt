@@ -1,7 +1,7 @@
 -- `check_good` meets its contract. Assumes nothing.
 use native.Mathlib.Omega.{arith}
-use Rattle.clash.specs.Clash.{lentThree}
-use Rattle.clash.proofs.Proposals.{proposal-wider}
+use Rattle.trials.specs.Trials.{lentThree}
+use Rattle.proposals.proofs.Proposals.{proposal-wider}
 use Rattle.clash.proofs.Answers.{has-count, checked-misnumbered, checked-weighed}
 use borrow.Author.Needs.{needs}
 use Rattle.clash.proofs.check_good.Statement.{statement}

@@ -1,47 +1,35 @@
 -- `clash` meets its contract: the number and the place of a bad sheet's fault, or what `plan_good` found. Assumes nothing.
 use native.Mathlib.Omega.{arith}
 use Rattle.reader.proofs.Good.{told}
-use Rattle.clash.specs.Clash.{lentThree}
+use Rattle.trials.specs.Trials.{lentThree}
 use Rattle.clash.proofs.Answers.{planned-bad}
 use borrow.Author.Needs.{needs}
 use Rattle.clash.proofs.clash.Statement.{statement}
 use Rattle.clash.proofs.clash.Tie as tie
 
-enum-told : tie.Need-enum-told
-enum-told c = search needs
-
-plan-good-requires : tie.Need-plan-good-requires
-plan-good-requires c κs =
-    let known = c .before .before .before in
-    let read = known .before .before in
-    let start = read .before .before .before .before .before in
-    told (start .args .sheet .now) (read .read .ensures) (known .enum-told .given .1)
+-- the entry, from where the reader answered
+abbrev start : tie.After-read → tie.Start
+start c = c .before .before .before .before .before
 
 cast-place : tie.Need-cast-place
 cast-place c =
-    let fault = c .before .before .before in
-    let read = fault .before .before in
-    let start = read .before .before .before .before .before in
-    let bad = told (start .args .sheet .now) (read .read .ensures) (fault .f .given .1) in
-    omega (arith, bad .small)
+    let read = c .before .before .before .before .before in
+    omega (arith, told (start read .args .sheet .now) (read .read .ensures) (c .before .before .before .f .given .1) .small)
 
 returns-2 : tie.Need-returns-2
 returns-2 c =
-    let fault = c .before .before .before in
-    let read = fault .before .before in
-    let start = read .before .before .before .before .before in
-    let a = start .args in
-    let lent = lentThree (a .table .now) (a .words .now) (a .scratch .now) in
-    let bad = told (a .sheet .now) (read .read .ensures) (fault .f .given .1) in
-    planned-bad lent bad (c .before .number .ensures)
+    let read = c .before .before .before .before .before in
+    let a = start read .args in
+    planned-bad (lentThree (a .table .now) (a .words .now) (a .scratch .now))
+    (told (a .sheet .now) (read .read .ensures) (c .before .before .before .f .given .1)) (c .before .number .ensures)
 
 pub clash-spec : {M : Type 1} → statement M
 clash-spec =
     tie.close
     (tie.spec
     (λ c κs. search needs)
-    enum-told
-    plan-good-requires
+    (λ c. search needs)
+    (λ c κs. told (start (c .before .before .before .before .before) .args .sheet .now) (c .before .before .before .before .before .read .ensures) (c .before .before .before .enum-told .given .1))
     (λ c. search needs)
     (λ c κs. search needs)
     cast-place

@@ -5,29 +5,22 @@ use borrow.Author.Needs.{needs}
 use Rattle.clash.proofs.weigh.Statement.{statement}
 use Rattle.clash.proofs.weigh.Tie as tie
 
-returns-2 : tie.Need-returns-2
-returns-2 c =
-    let each = c .before .before .before .before .before .before .before in
-    let whole = each .before .before .before .before .before .before .before .before .before .before .before .before in
-    weighed-one-less (whole .trial .ensures) (each .each-left-out .ensures) (omega arith)
+-- after both passes: the last one, and the trial of the whole choice before it
+abbrev each : tie.After-slice-known9 → tie.After-each-left-out
+each c = c .before .before .before .before .before .before
 
-returns-3 : tie.Need-returns-3
-returns-3 c =
-    let each = c .before .before .before .before .before .before .before .before .before in
-    let whole = each .before .before .before .before .before .before .before .before .before .before .before .before in
-    weighed-fight (whole .trial .ensures) (each .each-left-out .ensures) (omega arith) (omega arith)
+abbrev whole : tie.After-slice-known9 → tie.After-trial
+whole c = each c .before .before .before .before .before .before .before .before .before .before .before .before
 
 returns-4 : tie.Need-returns-4
 returns-4 c =
-    let each = c .before .before .before .before .before .before .before .before .before in
-    let whole = each .before .before .before .before .before .before .before .before .before .before .before .before in
-    weighed-else (whole .trial .ensures) (each .each-left-out .ensures) (λ e. omega arith) (λ e. omega arith) (λ e f. omega arith)
+    let both = c .before .before .before in
+    weighed-else (whole both .trial .ensures) (each both .each-left-out .ensures) (λ e. omega arith) (λ e. omega arith) (λ e f. omega arith)
 
 returns-5 : tie.Need-returns-5
 returns-5 c =
-    let each = c .before .before .before .before .before .before .before .before in
-    let whole = each .before .before .before .before .before .before .before .before .before .before .before .before in
-    weighed-else (whole .trial .ensures) (each .each-left-out .ensures) (λ e. omega arith) (λ e. omega arith) (λ e f. omega arith)
+    let both = c .before .before in
+    weighed-else (whole both .trial .ensures) (each both .each-left-out .ensures) (λ e. omega arith) (λ e. omega arith) (λ e f. omega arith)
 
 pub weigh-spec : {M : Type 1} → statement M
 weigh-spec =
@@ -42,11 +35,11 @@ weigh-spec =
     (λ c. search needs)
     (λ c. search needs)
     (λ c. search needs)
-    returns-2
+    (λ c. weighed-one-less (whole (c .before) .trial .ensures) (each (c .before) .each-left-out .ensures) (omega arith))
     (λ c. search needs)
     (λ c. search needs)
     (λ c. search needs)
-    returns-3
+    (λ c. weighed-fight (whole (c .before .before .before) .trial .ensures) (each (c .before .before .before) .each-left-out .ensures) (omega arith) (omega arith))
     (λ c. search needs)
     (λ c. search needs)
     (λ c. search needs)

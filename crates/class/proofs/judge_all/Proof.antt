@@ -20,32 +20,24 @@ loop-holds c =
     let a = c .before .before .before .before .before .before .before .args in
     turning-none (a .sheets .now) (a .ends .now) (deskOf (a .table .now) (a .words .now) (a .scratch .now) (a .run .now) (a .numbers .now))
 
-sub-judge-one : tie.Need-sub-judge-one Inv-loop μ-loop
-sub-judge-one c =
-    let at-loop = c .before .before in
-    let start = at-loop .before .before .before .before .before .before .before .before in
-    let t = turning-cut (at-loop .loop .inv) (start .pre) (omega arith) in
-    t .0
+-- where a sheet is cut out: the entry, and that it starts no later than it ends, within the input
+abbrev start : tie.At-loop Inv-loop μ-loop → tie.Start Inv-loop μ-loop
+start c = c .before .before .before .before .before .before .before .before
 
 part-judge-one-start : tie.Need-part-judge-one-start Inv-loop μ-loop
 part-judge-one-start c =
-    let at-loop = c .before .before in
-    let start = at-loop .before .before .before .before .before .before .before .before in
-    let t = turning-cut (at-loop .loop .inv) (start .pre) (omega arith) in
+    let t = turning-cut (c .before .before .loop .inv) (start (c .before .before) .pre) (omega arith) in
     omega (arith, t .0, t .1)
 
 part-judge-one-end : tie.Need-part-judge-one-end Inv-loop μ-loop
 part-judge-one-end c =
-    let at-loop = c .before .before in
-    let start = at-loop .before .before .before .before .before .before .before .before in
-    let t = turning-cut (at-loop .loop .inv) (start .pre) (omega arith) in
+    let t = turning-cut (c .before .before .loop .inv) (start (c .before .before) .pre) (omega arith) in
     omega (arith, t .0, t .1)
 
 judge-one-requires : tie.Need-judge-one-requires Inv-loop μ-loop
 judge-one-requires c κs =
     let at-loop = c .before .before .before .before .before .before .before .before in
-    let start = at-loop .before .before .before .before .before .before .before .before in
-    omega (arith, start .pre .fits, turning-room (at-loop .loop .inv) .numbers)
+    omega (arith, start at-loop .pre .fits, turning-room (at-loop .loop .inv) .numbers)
 
 loop-again : tie.Need-loop-again Inv-loop μ-loop
 loop-again c =
@@ -65,7 +57,7 @@ judge-all-spec =
     (λ c. omega (arith, c .shared-slice-known3 .given (c .before .before .loop .i)))
     (λ c. omega arith)
     (λ c. omega (arith, c .before .before .before .before .before .before .before .before .before .before .pre .few))
-    sub-judge-one
+    (λ c. turning-cut (c .before .before .loop .inv) (start (c .before .before) .pre) (omega arith) .0)
     part-judge-one-start
     part-judge-one-end
     judge-one-requires

@@ -6,11 +6,6 @@ use Rattle.class.proofs.Ends.{fair-not-refused}
 use Rattle.class.proofs.judge_class.Statement.{statement}
 use Rattle.class.proofs.judge_class.Tie as tie
 
-judge-all-requires : tie.Need-judge-all-requires
-judge-all-requires c κs =
-    let taken = c .before .before .before .before .before in
-    taken .before .fair .ensures .yes (taken .if1 .taken)
-
 returns : tie.Need-returns
 returns c =
     let judged = c .before .before .before .before .before .before .before .before .before .before in
@@ -22,7 +17,7 @@ judge-class-spec =
     tie.close
     (tie.spec
     (λ c κs. search needs)
-    judge-all-requires
+    (λ c κs. c .before .before .before .before .before .before .fair .ensures .yes (c .before .before .before .before .before .if1 .taken))
     (λ c. search needs)
     (λ c. search needs)
     (λ c. search needs)

@@ -1,16 +1,11 @@
 -- The account's numbers, carried on and joined again. Assumes nothing.
 use mathlib.Core.Path.{sym, _∙_, ap, subst}
 use lib.ListN.{length}
-use Rattle.audit.specs.Account.{Account}
-use Rattle.audit.specs.Book.{bookCarried, Carriable}
+use Rattle.accounts.specs.Account.{Account}
+use Rattle.accounts.specs.Book.{bookCarried, Carriable}
 use borrow.Author.Needs.{needs}
 use Rattle.audit.proofs.carry.carry.Statement.{statement}
 use Rattle.audit.proofs.carry.carry.Tie as tie
-use Rattle.audit.proofs.carry.carry.Reads as reads
-use Rattle.audit.proofs.carry.carry.Lts as lts
-use Rattle.audit.proofs.carry.follow.Reads as follow-reads
-use Rattle.audit.proofs.carry.head_of.Reads as head-of-reads
-use Rattle.audit.proofs.carry.joined.Reads as joined-reads
 
 head-of-requires : tie.Need-head-of-requires
 head-of-requires c κs = search needs

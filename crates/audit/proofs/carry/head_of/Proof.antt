@@ -3,8 +3,5 @@ use mathlib.Core.Path.{refl}
 use Rattle.audit.proofs.carry.head_of.Statement.{statement}
 use Rattle.audit.proofs.carry.head_of.Tie as tie
 
-returns : tie.Need-returns
-returns c = refl
-
 pub head-of-spec : {M : Type 1} → statement M
-head-of-spec = tie.close (tie.spec returns)
+head-of-spec = tie.close (tie.spec (λ c. refl))

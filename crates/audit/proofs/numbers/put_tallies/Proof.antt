@@ -1,14 +1,12 @@
 -- The first i numbers are written. Assumes nothing.
 use mathlib.Core.Path.{_≡_, refl, subst}
-use Prim.Native.Nat.{ℕ, _+_, _-_, _≤_}
+use Prim.Native.Nat.{ℕ, _-_, _≤_}
 use native.Mathlib.Omega.{arith}
 use lib.ListN.{length}
-use Rattle.audit.specs.Book.{Copied}
-use Rattle.audit.proofs.Written.{copied-none, copied-next}
+use Rattle.accounts.specs.Book.{Copied}
+use Rattle.accounts.proofs.Written.{copied-none, copied-next}
 use Rattle.audit.proofs.numbers.put_tallies.Statement.{statement}
 use Rattle.audit.proofs.numbers.put_tallies.Tie as tie
-use Rattle.audit.proofs.numbers.put_tallies.Reads as reads
-use Rattle.audit.proofs.numbers.put_tallies.Lts as lts
 
 abbrev Inv-loop : tie.InvT-loop
 Inv-loop numbers₀ from tallies i₀ numbers i = (i ≤ 255) × (lib.ListN.length numbers₀ ≡ 515) × Copied i tallies 0 numbers₀ from numbers
@@ -16,21 +14,11 @@ Inv-loop numbers₀ from tallies i₀ numbers i = (i ≤ 255) × (lib.ListN.leng
 abbrev μ-loop : tie.MeasureT-loop
 μ-loop numbers₀ from tallies i₀ numbers i = 255 - i
 
--- src/numbers.rt:36:5
--- src/numbers.rt:37:18
--- src/numbers.rt:38:23
--- src/numbers.rt:38:23
--- src/numbers.rt:38:9
--- src/numbers.rt:38:9
--- src/numbers.rt:39:9
--- src/numbers.rt:36:5
--- src/numbers.rt:36:5
 loop-again : tie.Need-loop-again Inv-loop μ-loop
 loop-again c =
     let l = c .before .before .loop in
     (omega arith, l .inv .1, copied-next (l .i) _ _ _ _ _ _ _ (l .inv .2) refl (omega arith) (omega arith))
 
--- src/numbers.rt:31:1
 returns : tie.Need-returns Inv-loop μ-loop
 returns c =
     let e : c .before .loop .i ≡ 255 = omega arith in

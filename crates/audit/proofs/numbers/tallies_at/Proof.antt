@@ -1,14 +1,12 @@
 -- The first i numbers are copied. Assumes nothing.
 use mathlib.Core.Path.{_≡_, refl, subst}
-use Prim.Native.Nat.{ℕ, _+_, _-_, _≤_}
+use Prim.Native.Nat.{ℕ, _-_, _≤_}
 use native.Mathlib.Omega.{arith}
 use lib.ListN.{length, replicate}
-use Rattle.audit.specs.Book.{Copied}
-use Rattle.audit.proofs.Written.{copied-none, copied-next, numbers-read}
+use Rattle.accounts.specs.Book.{Copied}
+use Rattle.accounts.proofs.Written.{copied-none, copied-next, numbers-read}
 use Rattle.audit.proofs.numbers.tallies_at.Statement.{statement}
 use Rattle.audit.proofs.numbers.tallies_at.Tie as tie
-use Rattle.audit.proofs.numbers.tallies_at.Reads as reads
-use Rattle.audit.proofs.numbers.tallies_at.Lts as lts
 
 abbrev Inv-loop : tie.InvT-loop
 Inv-loop numbers from tallies₀ i₀ tallies i = (i ≤ 255) × (lib.ListN.length tallies₀ ≡ 255) × Copied i numbers from tallies₀ 0 tallies
@@ -16,21 +14,11 @@ Inv-loop numbers from tallies₀ i₀ tallies i = (i ≤ 255) × (lib.ListN.leng
 abbrev μ-loop : tie.MeasureT-loop
 μ-loop numbers from tallies₀ i₀ tallies i = 255 - i
 
--- src/numbers.rt:22:5
--- src/numbers.rt:23:18
--- src/numbers.rt:24:22
--- src/numbers.rt:24:22
--- src/numbers.rt:24:9
--- src/numbers.rt:24:9
--- src/numbers.rt:25:9
--- src/numbers.rt:22:5
--- src/numbers.rt:22:5
 loop-again : tie.Need-loop-again Inv-loop μ-loop
 loop-again c =
     let l = c .before .before .loop in
     (omega arith, refl, copied-next (l .i) _ _ _ _ _ _ _ (l .inv .2) (omega arith) refl (omega arith))
 
--- src/numbers.rt:16:1
 returns : tie.Need-returns Inv-loop μ-loop
 returns c =
     let e : c .before .loop .i ≡ 255 = omega arith in

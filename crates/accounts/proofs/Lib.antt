@@ -1,0 +1,9 @@
+pub mod Carrying
+pub mod Accounts
+pub mod Audits
+pub mod Reports
+pub mod Tallies
+pub mod Telling
+pub mod Standstill
+pub mod Compiled
+pub mod Written
