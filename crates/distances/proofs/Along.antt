@@ -12,8 +12,8 @@ use Rattle.ground.specs.Listed.{Between}
 use Rattle.meaning.specs.Promises.{mostStates}
 use Rattle.web.specs.Web.{Rows}
 use Rattle.distances.specs.Far.{gone}
-use Rattle.distances.specs.Layers.{fars, Reaches, as-was, reached, Sure, Layered, Near}
-use Rattle.distances.specs.Follow.{LinedUp, Ready, Followed}
+use Rattle.distances.specs.Layers.{fars, LinedUp, Reaches, as-was, reached, Sure, Layered, Near}
+use Rattle.distances.specs.Follow.{Ready, Followed}
 use Rattle.distances.proofs.Closed.{reaches-keeps, sure-spread, spread-here, shut-near}
 
 module _ (S : System) (G : ℕ → Type 0) (table words : List ℕ) (r : ℕ) where
@@ -30,13 +30,13 @@ module _ (S : System) (G : ℕ → Type 0) (table words : List ℕ) (r : ℕ) wh
         → getD near i 0 ≤ suc (getD near (getD queue t 0) 0)
 
   -- The places at 0 are lined up, and no row was followed.
-  pub along-none : (near queue : List ℕ) (tail : ℕ) → Layered S G table words r 0 0 0 near → LinedUp near r tail queue → Along near queue 0 tail
+  pub along-none : (near queue : List ℕ) (tail : ℕ) → Layered S G table words r 0 0 0 near → LinedUp 0 near r tail queue → Along near queue 0 tail
   along-none near queue tail first l = record {
     sure = first .sure;
-    room = l .room;
+    room = l .room refl;
     within = omega arith;
-    lined = λ t h. let u = l .zeros t h in let a = u .1 in (u .0, omega arith);
-    rises = λ t u h k. let a = l .zeros t (omega arith) .1 in omega arith;
+    lined = λ t h. let u = l .each t h in let a = u .1 in (u .0, omega arith);
+    rises = λ t u h k. let a = l .each t (omega arith) .1 in omega arith;
     whole = λ i h k. let a = first .low i h k .1 in l .whole i h (omega arith);
     ahead = λ o i h k. let a = first .low i h k .1 in omega arith;
     steps = λ t i h k z m. absurd (omega arith);
@@ -225,7 +225,7 @@ module _ (S : System) (G : ℕ → Type 0) (table words : List ℕ) (r : ℕ) (s
 
   -- Before the first turn.
   pub tracing-none : (queue near : List ℕ) (tail : ℕ) → Rows (λ (j i : ℕ). S .Move (getD table i 0) (getD table j 0)) r starts ends cells
-      → r ≤ mostStates → r ≤ length queue → Layered S G table words r 0 0 0 near → LinedUp near r tail queue → Tracing queue queue near tail 0
+      → r ≤ mostStates → r ≤ length queue → Layered S G table words r 0 0 0 near → LinedUp 0 near r tail queue → Tracing queue queue near tail 0
   tracing-none queue near tail rows few long first l =
       record { rows = rows; few = few; in-queue = long; same = refl; along = along-none S G table words r near queue tail first l }
 

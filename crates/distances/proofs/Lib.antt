@@ -4,4 +4,6 @@ pub mod Closed
 pub mod Turns
 pub mod Exact
 pub mod Lines
+pub mod Sifts
 pub mod Along
+pub mod Lent

@@ -1,4 +1,4 @@
--- The two loops that fill the queue, turn by turn: lining up the places at 0, and following one row. Assumes nothing.
+-- The two loops that fill a list, turn by turn: lining up the places with one value, and following one row. Assumes nothing.
 use mathlib.Core.Path.{_≡_, refl, sym, ap, subst, _∙_}
 use mathlib.Core.List.{List}
 use Prim.Native.Nat.{ℕ, suc, _+_, _-_, _≤_, _<_}
@@ -9,72 +9,93 @@ use lib.ListN.{length, getD, set, length-set}
 use lib.Seq.{getD-set-same, getD-set-other}
 use Rattle.ground.specs.Listed.{Between}
 use Rattle.distances.specs.Far.{far, gone}
-use Rattle.distances.specs.Layers.{fars, Reaches, as-was, reached, Spread}
-use Rattle.distances.specs.Follow.{LinedUp, Ready, Joined, Followed}
-use Rattle.distances.proofs.Totals.{total-set}
+use Rattle.distances.specs.Layers.{LinedUp, Spread}
+use Rattle.distances.specs.Follow.{Ready, Joined, Followed}
+use Rattle.distances.proofs.Spreads.{spread-none, spread-same, spread-was, far-counts, spread-one}
 
 -- ---- lining up
 
--- Before the first turn nobody stands in the queue.
-pub lined-none : (near queue : List ℕ) → LinedUp near 0 0 queue
-lined-none near queue = record { room = omega arith; zeros = λ t h. absurd (omega arith); whole = λ i h e. absurd (omega arith) }
+-- Before the first turn nobody stands in the list.
+pub lined-none : (v : ℕ) (near list : List ℕ) → LinedUp v near 0 0 list
+lined-none v near list = record {
+  few = omega arith;
+  room = λ z. omega arith;
+  counted = λ f. refl;
+  rises = λ s t h k. absurd (omega arith);
+  each = λ t h. absurd (omega arith);
+  whole = λ i h e. absurd (omega arith);
+}
 
-module _ (near : List ℕ) (i tail : ℕ) (queue : List ℕ) (l : LinedUp near i tail queue) where
-  -- A place that is not at 0 is passed by.
-  pub lined-past : getD near i 0 ≤ far → (getD near i 0 ≡ 0 → ⊥) → LinedUp near (i + 1) tail queue
-  lined-past most other = subst (λ (n : ℕ). LinedUp near n tail queue) (sym (add-one i)) (record {
-    room = let a = l .room in omega arith;
-    zeros = λ t h. let u = l .zeros t h in let a = u .0 in (omega arith, u .1);
+module _ (v : ℕ) (near : List ℕ) (i tail : ℕ) (list : List ℕ) (l : LinedUp v near i tail list) where
+  -- A place with another value is passed by.
+  pub lined-past : getD near i 0 ≤ far → (getD near i 0 ≡ v → ⊥) → LinedUp v near (i + 1) tail list
+  lined-past most other = subst (λ (n : ℕ). LinedUp v near n tail list) (sym (add-one i)) (record {
+    few = let a = l .few in omega arith;
+    room = λ z. let a = l .room z in omega arith;
+    counted = λ f. let a = l .counted f in let n : getD near i 0 ≡ far → ⊥ = λ e. other (e ∙ sym f) in omega arith;
+    rises = l .rises;
+    each = λ t h. let u = l .each t h in let a = u .0 in (omega arith, u .1);
     whole = λ m h e. at m (ℕ-discrete m i) h e;
   })
     where
-      at : (m : ℕ) → Dec (m ≡ i) → m < suc i → getD near m 0 ≡ 0 → Between queue 0 tail m
-      at m (yes q) h e = absurd (other (subst (λ (x : ℕ). getD near x 0 ≡ 0) q e))
+      at : (m : ℕ) → Dec (m ≡ i) → m < suc i → getD near m 0 ≡ v → Between list 0 tail m
+      at m (yes q) h e = absurd (other (subst (λ (x : ℕ). getD near x 0 ≡ v) q e))
       at m (no q) h e = l .whole m (omega arith) e
 
-  -- A place at 0 is put behind the others.
-  pub lined-more : getD near i 0 ≡ 0 → tail < length queue → LinedUp near (i + 1) (tail + 1) (set queue tail i)
-  lined-more z inside = subst (λ (n : ℕ). LinedUp near n (tail + 1) (set queue tail i)) (sym (add-one i)) (record {
-    room = let a = l .room in let b : getD near i 0 - gone ≡ 0 = ap (λ (x : ℕ). x - gone) z in omega arith;
-    zeros = λ t h. zero-at t (ℕ-discrete t tail) h;
+  -- A place with the value is put behind the others.
+  pub lined-more : getD near i 0 ≡ v → tail < length list → LinedUp v near (i + 1) (tail + 1) (set list tail i)
+  lined-more here inside = subst (λ (n : ℕ). LinedUp v near n (tail + 1) (set list tail i)) (sym (add-one i)) (record {
+    few = let a = l .few in omega arith;
+    room = λ z. let a = l .room z in let b : getD near i 0 - gone ≡ 0 = ap (λ (x : ℕ). x - gone) (here ∙ z) in omega arith;
+    counted = λ f. let a = l .counted f in let b : getD near i 0 - gone ≡ 1 = ap (λ (x : ℕ). x - gone) (here ∙ f) in omega arith;
+    rises = λ s t h k. rise s t (ℕ-discrete t tail) h k;
+    each = λ t h. each-at t (ℕ-discrete t tail) h;
     whole = λ m h e. at m (ℕ-discrete m i) h e;
   })
     where
-      here : getD (set queue tail i) tail 0 ≡ i
-      here = getD-set-same queue tail i 0 inside
+      list′ : List ℕ
+      list′ = set list tail i
 
-      zero-at : (t : ℕ) → Dec (t ≡ tail) → t < tail + 1
-          → (getD (set queue tail i) t 0 < suc i) × (getD near (getD (set queue tail i) t 0) 0 ≡ 0)
-      zero-at t (yes q) h =
-          let e : getD (set queue tail i) t 0 ≡ i = ap (λ (x : ℕ). getD (set queue tail i) x 0) q ∙ here in
-          (omega arith, ap (λ (x : ℕ). getD near x 0) e ∙ z)
-      zero-at t (no q) h =
-          let e = getD-set-other queue tail t i 0 q in
-          let u = l .zeros t (omega arith) in
+      last : getD list′ tail 0 ≡ i
+      last = getD-set-same list tail i 0 inside
+
+      kept : (t : ℕ) → (t ≡ tail → ⊥) → getD list′ t 0 ≡ getD list t 0
+      kept t q = getD-set-other list tail t i 0 q
+
+      rise : (s t : ℕ) → Dec (t ≡ tail) → s < t → t < tail + 1 → getD list′ s 0 < getD list′ t 0
+      rise s t (yes q) h k =
+          let a = kept s (λ e. omega arith) in
+          let b : getD list′ t 0 ≡ i = ap (λ (x : ℕ). getD list′ x 0) q ∙ last in
+          let c = l .each s (omega arith) .0 in
+          omega arith
+      rise s t (no q) h k = let a = kept s (λ e. omega arith) in let b = kept t q in let c = l .rises s t h (omega arith) in omega arith
+
+      each-at : (t : ℕ) → Dec (t ≡ tail) → t < tail + 1 → (getD list′ t 0 < suc i) × (getD near (getD list′ t 0) 0 ≡ v)
+      each-at t (yes q) h =
+          let e : getD list′ t 0 ≡ i = ap (λ (x : ℕ). getD list′ x 0) q ∙ last in
+          (omega arith, ap (λ (x : ℕ). getD near x 0) e ∙ here)
+      each-at t (no q) h =
+          let e = kept t q in
+          let u = l .each t (omega arith) in
           let a = u .0 in
           (omega arith, ap (λ (x : ℕ). getD near x 0) e ∙ u .1)
 
-      at : (m : ℕ) → Dec (m ≡ i) → m < suc i → getD near m 0 ≡ 0 → Between (set queue tail i) 0 (tail + 1) m
-      at m (yes q) h e = (tail, omega arith, omega arith, here ∙ sym q)
+      at : (m : ℕ) → Dec (m ≡ i) → m < suc i → getD near m 0 ≡ v → Between list′ 0 (tail + 1) m
+      at m (yes q) h e = (tail, omega arith, omega arith, last ∙ sym q)
       at m (no q) h e = shift (l .whole m (omega arith) e)
         where
-          shift : Between queue 0 tail m → Between (set queue tail i) 0 (tail + 1) m
-          shift (t, a, b, f) = (t, a, omega arith, getD-set-other queue tail t i 0 (λ g. omega arith) ∙ f)
+          shift : Between list 0 tail m → Between list′ 0 (tail + 1) m
+          shift (t, a, b, f) = (t, a, omega arith, kept t (λ g. omega arith) ∙ f)
 
 -- All places are lined up.
-pub lined-all : (near : List ℕ) (i r tail : ℕ) (queue : List ℕ) → i ≡ r → LinedUp near i tail queue → LinedUp near r tail queue
-lined-all near i r tail queue e l = subst (λ (n : ℕ). LinedUp near n tail queue) e l
+pub lined-all : (v : ℕ) (near : List ℕ) (i r tail : ℕ) (list : List ℕ) → i ≡ r → LinedUp v near i tail list → LinedUp v near r tail list
+lined-all v near i r tail list e l = subst (λ (n : ℕ). LinedUp v near n tail list) e l
 
 -- ---- following one row
 
 -- place i stands in the row, before cell e
 abbrev InRow : (cells : List ℕ) (start end e i : ℕ) → Type 0
 InRow cells start end e i = (t : ℕ) × (start ≤ t) × (t < e) × (t < end) × (getD cells t 0 ≡ i)
-
--- a spread by one reason is a spread by another that holds at the same places
-reaches-same : {P Q : Type 0} {d old new : ℕ} → (P → Q) → (Q → P) → Reaches P d old new → Reaches Q d old new
-reaches-same to from (as-was e f) = as-was e (λ o q. f o (from q))
-reaches-same to from (reached o p n) = reached o (to p) n
 
 -- the row is followed up to cell e
 pub record RowTo (cells : List ℕ) (start end d r : ℕ) (old : List ℕ) (tail : ℕ) (queue : List ℕ) (e : ℕ) (near line : List ℕ) (got : ℕ)
@@ -90,12 +111,7 @@ module _ (cells : List ℕ) (start end d r : ℕ) (old : List ℕ) (tail : ℕ) 
   -- Before its first cell nothing has changed.
   pub row-none : RowHere start old queue 0
   row-none = record {
-    spread = record {
-      long = refl;
-      each = λ i h. as-was refl (λ o p. nowhere p);
-      rest = λ i h. refl;
-      counted = omega arith;
-    };
+    spread = spread-none _ d r old (λ m p. nowhere p);
     joined = record {
       long = refl;
       kept = λ t h. refl;
@@ -115,29 +131,23 @@ module _ (cells : List ℕ) (start end d r : ℕ) (old : List ℕ) (tail : ℕ) 
     pub row-place : getD cells e 0 < r
     row-place = ready .places e after before
 
-    -- what was followed before this cell, where the cell changes nothing
-    row-widens : (m x : ℕ) → (x ≡ far → getD cells e 0 ≡ m → ⊥) → Reaches (InRow cells start end e m) d (getD old m 0) x
-        → Reaches (InRow cells start end (e + 1) m) d (getD old m 0) x
-    row-widens m x other (reached o (t, a, b, c, q) n) = reached o (t, a, omega arith, c, q) n
-    row-widens m x other (as-was s f) = as-was s (λ o p. by o p)
+    -- what stands before this cell stands before the next
+    row-widens : (m : ℕ) → InRow cells start end e m → InRow cells start end (e + 1) m
+    row-widens m (t, a, b, c, q) = (t, a, omega arith, c, q)
+
+    -- and what stands before the next and is not at this cell stands before this one
+    row-narrows : (m : ℕ) → (getD cells e 0 ≡ m → ⊥) → InRow cells start end (e + 1) m → InRow cells start end e m
+    row-narrows m other (t, a, b, c, q) = at (ℕ-discrete t e)
       where
-        by : getD old m 0 ≡ far → InRow cells start end (e + 1) m → ⊥
-        by o (t, a, b, c, q) = at (ℕ-discrete t e)
-          where
-            at : Dec (t ≡ e) → ⊥
-            at (yes h) = other (s ∙ o) (ap (λ (y : ℕ). getD cells y 0) (sym h) ∙ q)
-            at (no h) = f o (t, a, omega arith, c, q)
+        at : Dec (t ≡ e) → InRow cells start end e m
+        at (yes h) = absurd (other (ap (λ (y : ℕ). getD cells y 0) (sym h) ∙ q))
+        at (no h) = (t, a, omega arith, c, q)
 
     -- A place that is reached already is passed by.
     pub row-past : (getD near (getD cells e 0) 0 ≡ far → ⊥) → RowHere (e + 1) near line got
     row-past other = record {
       joined = row .joined;
-      spread = record {
-        long = row .spread .long;
-        rest = row .spread .rest;
-        counted = row .spread .counted;
-        each = λ m h. row-widens m (getD near m 0) (λ o q. other (ap (λ (y : ℕ). getD near y 0) q ∙ o)) (row .spread .each m h);
-      };
+      spread = spread-same _ _ d r old near got (row .spread) row-widens (λ m h o. row-narrows m (λ q. other (ap (λ (y : ℕ). getD near y 0) q ∙ o)));
     }
 
     module _ (isfar : getD near (getD cells e 0) 0 ≡ far) where
@@ -145,18 +155,10 @@ module _ (cells : List ℕ) (start end d r : ℕ) (old : List ℕ) (tail : ℕ) 
       pub row-inside : getD cells e 0 < length near
       row-inside = let a = row-place in let b = ready .long in let c = row .spread .long in omega arith
 
-      -- the place is counted as far no more
-      row-counts : fars (set near (getD cells e 0) d) r + 1 ≡ fars near r
-      row-counts =
-          let a = total-set (λ x. x - gone) near (getD cells e 0) d r row-place row-inside in
-          let b : getD near (getD cells e 0) 0 - gone ≡ 1 = ap (λ (x : ℕ). x - gone) isfar in
-          let c : d - gone ≡ 0 = let s = ready .small in omega arith in
-          omega arith
-
       -- The queue has room for it.
       pub row-room : (tail + got < length line) × (tail + got < r)
       row-room =
-          let a = row-counts in
+          let a = far-counts _ (InRow cells start end (e + 1)) d r old near got (row .spread) (getD cells e 0) row-place row-inside isfar (ready .small) in
           let b = row .spread .counted in
           let c = ready .room in
           let f = ready .in-queue in
@@ -165,34 +167,13 @@ module _ (cells : List ℕ) (start end d r : ℕ) (old : List ℕ) (tail : ℕ) 
 
       -- it was far from the start
       row-was : getD old (getD cells e 0) 0 ≡ far
-      row-was = by (row .spread .each (getD cells e 0) row-place)
-        where
-          by : Reaches (InRow cells start end e (getD cells e 0)) d (getD old (getD cells e 0) 0) (getD near (getD cells e 0) 0)
-              → getD old (getD cells e 0) 0 ≡ far
-          by (as-was s f) = sym s ∙ isfar
-          by (reached o p n) = o
+      row-was = spread-was _ (InRow cells start end (e + 1)) d r old near got (row .spread) (getD cells e 0) row-place row-inside isfar
 
       -- the spread, with this place
       row-spread : Spread (InRow cells start end (e + 1)) d r old (set near (getD cells e 0) d) (got + 1)
-      row-spread = record {
-        long = length-set near (getD cells e 0) d ∙ row .spread .long;
-        rest = λ m h. getD-set-other near (getD cells e 0) m d 0 (λ q. let a = row-place in omega arith) ∙ row .spread .rest m h;
-        counted = let a = row .spread .counted in let b = row-counts in omega arith;
-        each = λ m h. at m (ℕ-discrete m (getD cells e 0)) h;
-      }
-        where
-          here : Reaches (InRow cells start end (e + 1) (getD cells e 0)) d (getD old (getD cells e 0) 0)
-              (getD (set near (getD cells e 0) d) (getD cells e 0) 0)
-          here = reached row-was (e, after, omega arith, before, refl) (getD-set-same near (getD cells e 0) d 0 row-inside)
-
-          at : (m : ℕ) → Dec (m ≡ getD cells e 0) → m < r
-              → Reaches (InRow cells start end (e + 1) m) d (getD old m 0) (getD (set near (getD cells e 0) d) m 0)
-          at m (yes q) h =
-              subst (λ (x : ℕ). Reaches (InRow cells start end (e + 1) x) d (getD old x 0) (getD (set near (getD cells e 0) d) x 0)) (sym q) here
-          at m (no q) h =
-              subst (λ (x : ℕ). Reaches (InRow cells start end (e + 1) m) d (getD old m 0) x)
-              (sym (getD-set-other near (getD cells e 0) m d 0 q))
-              (row-widens m (getD near m 0) (λ o f. q (sym f)) (row .spread .each m h))
+      row-spread =
+          spread-one _ _ d r old near got (row .spread) (getD cells e 0) row-place row-inside isfar (ready .small)
+          (e, after, omega arith, before, refl) row-widens (λ m other. row-narrows m (λ q. other (sym q)))
 
       -- the queue, with this place
       row-joined : Joined d r old (set near (getD cells e 0) d) tail queue (set line (tail + got) (getD cells e 0)) (got + 1)
@@ -274,16 +255,11 @@ module _ (cells : List ℕ) (start end d r : ℕ) (old : List ℕ) (tail : ℕ) 
       → Followed cells start end d r old near tail queue line got
   row-done e near line got row h = record {
     joined = row .joined;
-    spread = record {
-      long = row .spread .long;
-      rest = row .spread .rest;
-      counted = row .spread .counted;
-      each = λ m k. reaches-same to from (row .spread .each m k);
-    };
+    spread = spread-same _ _ d r old near got (row .spread) to (λ m k o. from m);
   }
     where
-      to : {m : ℕ} → InRow cells start end e m → Between cells start end m
-      to (t, a, b, c, q) = (t, a, c, q)
+      to : (m : ℕ) → InRow cells start end e m → Between cells start end m
+      to m (t, a, b, c, q) = (t, a, c, q)
 
-      from : {m : ℕ} → Between cells start end m → InRow cells start end e m
-      from (t, a, c, q) = (t, a, omega arith, c, q)
+      from : (m : ℕ) → Between cells start end m → InRow cells start end e m
+      from m (t, a, c, q) = (t, a, omega arith, c, q)

@@ -1,14 +1,10 @@
--- The two loops over places, turn by turn: how places begin, and one spread. Assumes nothing.
+-- How places begin, and one spread: for which reason, and that it reaches one place more. Assumes nothing.
 use mathlib.Core.Path.{_≡_, refl, sym, ap, subst, _∙_}
-use mathlib.Core.Bool.{Bool, true, false, _&&_}
 use mathlib.Core.Logic.{_⊎_, inl, inr}
 use mathlib.Core.List.{List}
-use Prim.Native.Nat.{ℕ, suc, _+_, _-_, _≤_, _<_}
+use Prim.Native.Nat.{ℕ, _+_, _-_, _≤_, _<_}
 use native.Mathlib.Decide.{ℕ-discrete}
-use native.Mathlib.Numerals.{add-one}
 use native.Mathlib.Omega.{arith}
-use lib.Dec.{eqb}
-use borrow.Author.Tests.{eqb-true, eq-eqb}
 use lib.ListN.{length, getD, set, length-set}
 use lib.Seq.{getD-set-same, getD-set-other}
 use Rattle.meaning.specs.Strike.{Way}
@@ -17,155 +13,98 @@ use Rattle.rules.specs.Book.{bookSystem}
 use Rattle.rules.proofs.Facts.{kept-is, kept-true}
 use Rattle.distances.specs.Far.{Live, far, gone}
 use Rattle.distances.specs.Layers.{Begun, out, there, waits, fars, Reaches, as-was, reached, Spread, Done, Opening, keptIn}
-use Rattle.distances.proofs.Totals.{total-set-past}
-
--- a place that is set to d counts as far no more, and nothing before it changes
-pub fars-set : (near : List ℕ) (i d : ℕ) → i < length near → fars (set near i d) (suc i) ≡ fars near i + (d - gone)
-fars-set near i d h =
-    let a : fars (set near i d) i ≡ fars near i = total-set-past (λ x. x - gone) near i d i (omega arith) in
-    let b : getD (set near i d) i 0 - gone ≡ d - gone = ap (λ (x : ℕ). x - gone) (getD-set-same near i d 0 h) in
-    omega arith
+use Rattle.distances.proofs.Totals.{total-set}
 
 -- ---- one spread
 
--- Before the first turn.
-pub spread-none : (P : ℕ → Type 0) (d : ℕ) (near : List ℕ) → Spread P d 0 near near 0
-spread-none P d near = record { long = refl; each = λ i h. absurd (omega arith); rest = λ i h. refl; counted = refl }
+-- A spread that reaches nothing changes nothing, if its reason holds nowhere yet.
+pub spread-none : (P : ℕ → Type 0) (d r : ℕ) (near : List ℕ) → ((m : ℕ) → P m → ⊥) → Spread P d r near near 0
+spread-none P d r near never = record { long = refl; each = λ m h. as-was refl (λ o p. never m p); rest = λ m h. refl; counted = omega arith }
 
--- A turn that passes a place by.
-pub spread-past : (P : ℕ → Type 0) (d i : ℕ) (old new : List ℕ) (got : ℕ) → Spread P d i old new got
-    → (getD new i 0 ≡ far → P i → ⊥) → Spread P d (i + 1) old new got
-spread-past P d i old new got s shut = subst (λ (n : ℕ). Spread P d n old new got) (sym (add-one i)) (record {
-  long = s .long;
-  rest = λ m h. s .rest m (omega arith);
-  counted = let a = s .counted in let b : getD new i 0 - gone ≡ getD old i 0 - gone = ap (λ (x : ℕ). x - gone) same in omega arith;
-  each = λ m h. at m (ℕ-discrete m i) h;
-})
-  where
-    same : getD new i 0 ≡ getD old i 0
-    same = s .rest i (omega arith)
+module _ (P Q : ℕ → Type 0) (d r : ℕ) (old near : List ℕ) (got : ℕ) (s : Spread P d r old near got) where
+  -- A spread for one reason is one for another, if both hold at the same places that are not reached.
+  pub spread-same : ((m : ℕ) → P m → Q m) → ((m : ℕ) → m < r → getD near m 0 ≡ far → Q m → P m) → Spread Q d r old near got
+  spread-same to from = record { long = s .long; rest = s .rest; counted = s .counted; each = λ m h. by m h (s .each m h) }
+    where
+      by : (m : ℕ) → m < r → Reaches (P m) d (getD old m 0) (getD near m 0) → Reaches (Q m) d (getD old m 0) (getD near m 0)
+      by m h (as-was e f) = as-was e (λ o q. f o (from m h (e ∙ o) q))
+      by m h (reached o p n) = reached o (to m p) n
 
-    here : Reaches (P i) d (getD old i 0) (getD new i 0)
-    here = as-was same (λ e. shut (same ∙ e))
+  module _ (x : ℕ) (place : x < r) (inside : x < length near) (isfar : getD near x 0 ≡ far) where
+    -- what is not reached now was not before
+    pub spread-was : getD old x 0 ≡ far
+    spread-was = by (s .each x place)
+      where
+        by : Reaches (P x) d (getD old x 0) (getD near x 0) → getD old x 0 ≡ far
+        by (as-was e f) = sym e ∙ isfar
+        by (reached o p n) = o
 
-    at : (m : ℕ) → Dec (m ≡ i) → m < suc i → Reaches (P m) d (getD old m 0) (getD new m 0)
-    at m (yes q) h = subst (λ (x : ℕ). Reaches (P x) d (getD old x 0) (getD new x 0)) (sym q) here
-    at m (no q) h = s .each m (omega arith)
+    -- A place that is reached is counted as far no more.
+    pub far-counts : d < gone → fars (set near x d) r + 1 ≡ fars near r
+    far-counts small =
+        let a = total-set (λ y. y - gone) near x d r place inside in
+        let b : getD near x 0 - gone ≡ 1 = ap (λ (y : ℕ). y - gone) isfar in
+        let c : d - gone ≡ 0 = omega arith in
+        omega arith
 
--- A turn that reaches a place.
-pub spread-reach : (P : ℕ → Type 0) (d i : ℕ) (old new : List ℕ) (got : ℕ) → Spread P d i old new got → i < length new → d < gone
-    → getD new i 0 ≡ far → P i → Spread P d (i + 1) old (set new i d) (got + 1)
-spread-reach P d i old new got s inside small isfar p = subst (λ (n : ℕ). Spread P d n old (set new i d) (got + 1)) (sym (add-one i)) (record {
-  long = length-set new i d ∙ s .long;
-  rest = λ m h. getD-set-other new i m d 0 (λ e. omega arith) ∙ s .rest m (omega arith);
-  counted =
-      let a = s .counted in
-      let b = fars-set new i d inside in
-      let e : d - gone ≡ 0 = omega arith in
-      let f : getD old i 0 - gone ≡ 1 = ap (λ (x : ℕ). x - gone) was in
-      omega arith;
-  each = λ m h. at m (ℕ-discrete m i) h;
-})
-  where
-    was : getD old i 0 ≡ far
-    was = sym (s .rest i (omega arith)) ∙ isfar
+    -- A spread that reaches one place more.
+    pub spread-one : d < gone → Q x → ((m : ℕ) → P m → Q m) → ((m : ℕ) → (m ≡ x → ⊥) → Q m → P m) → Spread Q d r old (set near x d) (got + 1)
+    spread-one small here to from = record {
+      long = length-set near x d ∙ s .long;
+      rest = λ m h. getD-set-other near x m d 0 (λ q. omega arith) ∙ s .rest m h;
+      counted = let a = s .counted in let b = far-counts small in omega arith;
+      each = λ m h. at m (ℕ-discrete m x) h;
+    }
+      where
+        by : (m : ℕ) → (m ≡ x → ⊥) → Reaches (P m) d (getD old m 0) (getD near m 0) → Reaches (Q m) d (getD old m 0) (getD near m 0)
+        by m n (as-was e f) = as-was e (λ o q. f o (from m n q))
+        by m n (reached o p e) = reached o (to m p) e
 
-    here : Reaches (P i) d (getD old i 0) (getD (set new i d) i 0)
-    here = reached was p (getD-set-same new i d 0 inside)
-
-    at : (m : ℕ) → Dec (m ≡ i) → m < suc i → Reaches (P m) d (getD old m 0) (getD (set new i d) m 0)
-    at m (yes q) h = subst (λ (x : ℕ). Reaches (P x) d (getD old x 0) (getD (set new i d) x 0)) (sym q) here
-    at m (no q) h =
-        subst (λ (x : ℕ). Reaches (P m) d (getD old m 0) x) (sym (getD-set-other new i m d 0 q)) (s .each m (omega arith))
-
--- A spread over as many places as there are.
-pub spread-all : (P : ℕ → Type 0) (d i r : ℕ) (old new : List ℕ) (got : ℕ) → i ≡ r → Spread P d i old new got → Spread P d r old new got
-spread-all P d i r old new got e s = subst (λ (n : ℕ). Spread P d n old new got) e s
-
--- What `opens` says of a place.
-pub opens-far : (x : ℕ) (b : Bool) → true ≡ eqb x far && b → x ≡ far
-opens-far x b e = by (eqb x far) refl e
-  where
-    by : (t : Bool) → eqb x far ≡ t → true ≡ t && b → x ≡ far
-    by true q h = eqb-true x far q
-    by false q h = absurd (passes false (sym h))
-
--- and of its state,
-pub opens-passes : (x : ℕ) (b : Bool) → true ≡ eqb x far && b → b ≡ true
-opens-passes x b e = by (eqb x far) e
-  where
-    by : (t : Bool) → true ≡ t && b → b ≡ true
-    by true h = sym h
-    by false h = absurd (passes false (sym h))
-
--- and what its refusal says.
-pub shut-passes : (x : ℕ) (b : Bool) → false ≡ eqb x far && b → x ≡ far → b ≡ true → ⊥
-shut-passes x b e q h = passes false (e ∙ ap (λ (t : Bool). t && b) (eq-eqb x far q) ∙ h)
+        at : (m : ℕ) → Dec (m ≡ x) → m < r → Reaches (Q m) d (getD old m 0) (getD (set near x d) m 0)
+        at m (yes q) h =
+            subst (λ (y : ℕ). Reaches (Q y) d (getD old y 0) (getD (set near x d) y 0)) (sym q)
+            (reached spread-was here (getD-set-same near x d 0 inside))
+        at m (no q) h =
+            subst (λ (y : ℕ). Reaches (Q m) d (getD old m 0) y) (sym (getD-set-other near x m d 0 q)) (by m q (s .each m h))
 
 -- ---- the beginning
 
 -- how the first i places begin
-pub record Begins (book : List ℕ) (k : ℕ) (table words : List ℕ) (r i left : ℕ) (near : List ℕ) : Type 0 where
+pub record Begins (book : List ℕ) (k : ℕ) (table words : List ℕ) (r i : ℕ) (near : List ℕ) : Type 0 where
   pub long : length near ≡ r
   pub each : (m : ℕ) → m < i → Begun (keptIn book k (getD table m 0)) (getD words m 0) (getD near m 0)
-  pub left-is : left ≡ fars near i
-  pub few : left ≤ i
 
 -- Before the first turn no place has begun.
-pub begins-none : (book : List ℕ) (k : ℕ) (table words : List ℕ) (r : ℕ) (near : List ℕ) → length near ≡ r → Begins book k table words r 0 0 near
-begins-none book k table words r near e = record { long = e; each = λ m h. absurd (omega arith); left-is = refl; few = omega arith }
+pub begins-none : (book : List ℕ) (k : ℕ) (table words : List ℕ) (r : ℕ) (near : List ℕ) → length near ≡ r → Begins book k table words r 0 near
+begins-none book k table words r near e = record { long = e; each = λ m h. absurd (omega arith) }
 
 -- one more place begins with v
-pub begins-more : (book : List ℕ) (k : ℕ) (table words : List ℕ) (r i left : ℕ) (near : List ℕ) (v more : ℕ)
-    → Begins book k table words r i left near → i < r → Begun (keptIn book k (getD table i 0)) (getD words i 0) v
-    → v - gone ≡ more → more ≤ 1 → Begins book k table words r (i + 1) (left + more) (set near i v)
-begins-more book k table words r i left near v more b inside begun is-more most =
-    subst (λ (n : ℕ). Begins book k table words r n (left + more) (set near i v)) (sym (add-one i)) (record {
-      long = length-set near i v ∙ b .long;
-      left-is = let a = b .left-is in let f = fars-set near i v within in omega arith;
-      few = let a = b .few in omega arith;
-      each = λ m h. at m (ℕ-discrete m i) h;
-    })
+pub begins-more : (book : List ℕ) (k : ℕ) (table words : List ℕ) (r i : ℕ) (near : List ℕ) (v : ℕ) → Begins book k table words r i near
+    → i < r → Begun (keptIn book k (getD table i 0)) (getD words i 0) v → Begins book k table words r (i + 1) (set near i v)
+begins-more book k table words r i near v b inside begun =
+    record { long = length-set near i v ∙ b .long; each = λ m h. at m (ℕ-discrete m i) h }
   where
     within : i < length near
     within = let a = b .long in omega arith
 
-    at : (m : ℕ) → Dec (m ≡ i) → m < suc i → Begun (keptIn book k (getD table m 0)) (getD words m 0) (getD (set near i v) m 0)
+    at : (m : ℕ) → Dec (m ≡ i) → m < i + 1 → Begun (keptIn book k (getD table m 0)) (getD words m 0) (getD (set near i v) m 0)
     at m (yes q) h = subst (λ (x : ℕ). Begun (keptIn book k (getD table x 0)) (getD words x 0) (getD (set near i v) x 0)) (sym q)
         (subst (λ (x : ℕ). Begun (keptIn book k (getD table i 0)) (getD words i 0) x) (sym (getD-set-same near i v 0 within)) begun)
     at m (no q) h = subst (λ (x : ℕ). Begun (keptIn book k (getD table m 0)) (getD words m 0) x) (sym (getD-set-other near i m v 0 q))
         (b .each m (omega arith))
 
--- what begins with another value than far is not far
-pub begun-not-far : {G : Type 0} {word v : ℕ} → Begun G word v → (v ≡ far → ⊥) → v - gone ≡ 0
-begun-not-far (out w) n = refl
-begun-not-far (there w g) n = refl
-begun-not-far (waits w g) n = absurd (n refl)
-
--- one more place begins with a value other than far
-pub begins-near : (book : List ℕ) (k : ℕ) (table words : List ℕ) (r i left : ℕ) (near : List ℕ) (v : ℕ)
-    → Begins book k table words r i left near → i < r → Begun (keptIn book k (getD table i 0)) (getD words i 0) v
-    → (v ≡ far → ⊥) → Begins book k table words r (i + 1) left (set near i v)
-begins-near book k table words r i left near v b inside begun other =
-    subst (λ (n : ℕ). Begins book k table words r (i + 1) n (set near i v)) (omega arith)
-    (begins-more book k table words r i left near v 0 b inside begun (begun-not-far begun other) (omega arith))
-
 -- All places begun are the first layer.
-pub begins-opening : (book : List ℕ) (k : ℕ) (table words : List ℕ) (r i left : ℕ) (near : List ℕ)
-    → Begins book k table words r i left near → i ≡ r → Opening book k table words r left near
-begins-opening book k table words r i left near b e = record {
-  left-is = subst (λ (n : ℕ). left ≡ fars near n) e (b .left-is);
-  few = let a = b .few in omega arith;
-  first = record {
-    sure = record {
-      long = b .long;
-      struck = λ m h n. struck-is (b .each m (omega arith)) n;
-      each = λ m h z. by m h z (split (b .each m (omega arith)) z);
-      base = λ m h z g. base-is (b .each m (omega arith)) z (kept-true book k (getD table m 0) g);
-    };
-    low = λ m h l. low-is (b .each m (omega arith)) l;
-    steps = λ m n _ _ _ _ _ done. absurd (never (getD near n 0) n done);
+pub begins-opening : (book : List ℕ) (k : ℕ) (table words : List ℕ) (r i : ℕ) (near : List ℕ)
+    → Begins book k table words r i near → i ≡ r → Opening book k table words r near
+begins-opening book k table words r i near b e = record {
+  sure = record {
+    long = b .long;
+    struck = λ m h n. struck-is (b .each m (omega arith)) n;
+    each = λ m h z. by m h z (split (b .each m (omega arith)) z);
+    base = λ m h z g. base-is (b .each m (omega arith)) z (kept-true book k (getD table m 0) g);
   };
+  low = λ m h l. low-is (b .each m (omega arith)) l;
+  steps = λ m n _ _ _ _ _ done. absurd (never (getD near n 0) n done);
 }
   where
     struck-is : {G : Type 0} {word v : ℕ} → Begun G word v → (word ≡ 0 → ⊥) → v ≡ gone

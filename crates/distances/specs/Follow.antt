@@ -10,15 +10,10 @@ use Rattle.meaning.specs.Promises.{mostStates}
 use Rattle.distances.specs.Far.{far, gone}
 use Rattle.distances.specs.Layers.{fars, Spread}
 
--- if moves are stored, they are the moves back, and the queue has a place for each
-abbrev pub Followable : (book table : List ℕ) (r : ℕ) (back queue : List ℕ) → Type 0
-Followable book table r back queue = (length back ≡ 0 → ⊥) → Back book table r back × (r ≤ length queue)
-
--- of the first n places exactly those at 0 stand in the queue's first `tail`, and there is room for those not reached yet
-pub record LinedUp (near : List ℕ) (n tail : ℕ) (queue : List ℕ) : Type 0 where
-  pub room : tail + fars near n ≤ n
-  pub zeros : (t : ℕ) → t < tail → (getD queue t 0 < n) × (getD near (getD queue t 0) 0 ≡ 0)
-  pub whole : (i : ℕ) → i < n → getD near i 0 ≡ 0 → Between queue 0 tail i
+-- if moves are stored, they are the moves back; the queue has room for every place
+pub record Followable (book table : List ℕ) (r : ℕ) (back queue : List ℕ) : Type 0 where
+  pub stored : (length back ≡ 0 → ⊥) → Back book table r back
+  pub in-queue : r ≤ length queue
 
 -- a row may be followed: its cells are places, and the queue has room for those not reached yet
 pub record Ready (cells : List ℕ) (start end d r : ℕ) (near queue : List ℕ) (tail : ℕ) : Type 0 where

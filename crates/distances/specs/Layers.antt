@@ -1,11 +1,12 @@
--- What the functions below `distances` promise one another: how a place begins, what one spread does, and what the values say while a
--- layer is being spread. Assumes nothing.
+-- What the functions below `distances` promise one another: how a place begins, which places stand in a list, what one spread does, and what the
+-- values say while a layer is being spread. Assumes nothing.
 use mathlib.Core.Path.{_≡_}
 use mathlib.Core.Bool.{true}
 use mathlib.Core.Logic.{_⊎_}
 use mathlib.Core.List.{List}
 use Prim.Native.Nat.{ℕ, zero, suc, _+_, _-_, _≤_, _<_}
 use lib.ListN.{length, getD}
+use Rattle.ground.specs.Listed.{Between}
 use Rattle.meaning.specs.System.{System}
 use Rattle.meaning.specs.Strike.{Way}
 use Rattle.rules.specs.Book.{Shaped, promisesOf, bookLawful, bookKept, packClear, bookSystem}
@@ -47,6 +48,24 @@ farAt near i = getD near i 0 - gone
 abbrev pub fars : List ℕ → ℕ → ℕ
 fars near n = total (farAt near) n
 
+-- of the first n places exactly those with value v stand in the list's first `tail`, ascending; beside those at 0 there is room for those not
+-- reached yet, and of these there are as many as are counted
+pub record LinedUp (v : ℕ) (near : List ℕ) (n tail : ℕ) (list : List ℕ) : Type 0 where
+  pub few : tail ≤ n
+  pub room : v ≡ 0 → tail + fars near n ≤ n
+  pub counted : v ≡ far → tail ≡ fars near n
+  pub rises : (s t : ℕ) → s < t → t < tail → getD list s 0 < getD list t 0
+  pub each : (t : ℕ) → t < tail → (getD list t 0 < n) × (getD near (getD list t 0) 0 ≡ v)
+  pub whole : (i : ℕ) → i < n → getD near i 0 ≡ v → Between list 0 tail i
+
+-- the places not reached yet, and no other, are the first `left` of the list, and each has a state
+pub record Listed (table : List ℕ) (r left : ℕ) (list near : List ℕ) : Type 0 where
+  pub in-table : r ≤ length table
+  pub in-list : r ≤ length list
+  pub long : length near ≡ r
+  pub few : r ≤ mostStates
+  pub waiting : LinedUp far near r left list
+
 -- what one spread does to a place: it was far and P holds there, and it has d now; or it is as it was
 pub data Reaches (P : Type 0) (d old new : ℕ) : Type 0 where
   as-was : new ≡ old → (old ≡ far → P → ⊥) → Reaches P d old new
@@ -58,6 +77,12 @@ pub record Spread (P : ℕ → Type 0) (d n : ℕ) (old new : List ℕ) (got : �
   pub each : (i : ℕ) → i < n → Reaches (P i) d (getD old i 0) (getD new i 0)
   pub rest : (i : ℕ) → n ≤ i → getD new i 0 ≡ getD old i 0
   pub counted : got + fars new n ≡ fars old n
+
+-- one spread over the listed places: of `left` that were not reached yet `kept` are listed still
+pub record Sifted (P : ℕ → Type 0) (table : List ℕ) (d r left kept : ℕ) (old new list list′ : List ℕ) : Type 0 where
+  pub spread : Spread P d r old new (left - kept)
+  pub listed : Listed table r kept list′ new
+  pub same : length list′ ≡ length list
 
 -- the moves to place m are known: it stands in a layer before d, or in layer d below place j
 abbrev pub Done : (d j m x : ℕ) → Type 0
@@ -79,25 +104,20 @@ pub record Layered (S : System) (G : ℕ → Type 0) (table words : List ℕ) (r
   pub steps : (i m : ℕ) → i < r → m < r → getD words i 0 ≡ 0 → getD words m 0 ≡ 0 → S .Move (getD table i 0) (getD table m 0)
       → Done d j m (getD near m 0) → getD near i 0 ≤ suc (getD near m 0)
 
--- the first layer, and how many places are not reached yet
-pub record Opening (book : List ℕ) (k : ℕ) (table words : List ℕ) (r left : ℕ) (near : List ℕ) : Type 0 where
-  pub first : Layered (bookSystem book) (bookSystem book .Kept k) table words r 0 0 0 near
-  pub left-is : left ≡ fars near r
-  pub few : left ≤ r
+-- the first layer: no place is spread from yet
+abbrev pub Opening : (book : List ℕ) (k : ℕ) (table words : List ℕ) (r : ℕ) (near : List ℕ) → Type 0
+Opening book k table words r near = Layered (bookSystem book) (bookSystem book .Kept k) table words r 0 0 0 near
 
 -- the distances of the first r places, from place 0 on
 pub record Near (S : System) (G : ℕ → Type 0) (table words : List ℕ) (r : ℕ) (near : List ℕ) : Type 0 where
   pub long : length near ≡ r
   pub places : (i : ℕ) → i < r → Place S (Live table words r) G (getD table i 0) (getD words i 0) (getD near i 0)
 
--- layer d may be spread: `left` places are not reached yet, and there is room for the numbers
-pub record Spreadable (book table : List ℕ) (r d left : ℕ) (near : List ℕ) : Type 0 where
+-- layer d may be spread: the `left` places not reached yet are listed, and there is room for the numbers
+pub record Spreadable (book table : List ℕ) (r d left : ℕ) (list near : List ℕ) : Type 0 where
   pub shaped : Shaped book
-  pub in-table : r ≤ length table
-  pub long : length near ≡ r
   pub small : d < mostStates
-  pub left-is : left ≡ fars near r
-  pub room : left ≤ mostStates
+  pub listed : Listed table r left list near
 
 -- layer d is spread, and `got` places are reached by it: whatever the promise and the words are that the values before it speak of, the
 -- values now speak of them too
@@ -107,3 +127,10 @@ pub record LayerDone (book table : List ℕ) (r d got : ℕ) (old near : List �
   pub spread-all : (k : ℕ) (words : List ℕ) → Measurable book k table words r
       → Layered (bookSystem book) (bookSystem book .Kept k) table words r d 0 0 old
       → Layered (bookSystem book) (bookSystem book .Kept k) table words r d r got near
+
+-- the same of the listed places: `kept` of `left` are listed still
+pub record LayerSifted (book table : List ℕ) (r d left kept : ℕ) (old near list list′ : List ℕ) : Type 0 where
+  pub done : LayerDone book table r d (left - kept) old near
+  pub listed : Listed table r kept list′ near
+  pub most : kept ≤ left
+  pub same : length list′ ≡ length list

@@ -1,19 +1,17 @@
 // Distances to a promise: for every unstruck state of a table the fewest moves, through unstruck states only, to one where the promise is
 // kept. Found backwards from the states that keep it, in one of two ways: by tests of pairs, layer by layer, where each state of the last layer
-// is looked at once, and only against the states that are not reached yet; or along stored moves with a queue, in time linear in places and moves.
+// is looked at once, and only against the states that are not reached yet, which are listed; or along stored moves with a queue, in time linear in places and moves.
 
 ghost use mathlib.Core.Path.{_≡_};
-ghost use mathlib.Core.Bool.{_&&_};
 ghost use Prim.Native.Nat.{_+_, _<_, _≤_};
-ghost use lib.Dec.{eqb};
 ghost use lib.ListN.{length};
-ghost use Rattle.rules.specs.Book.{Shaped, gatherSize, packClear, bookSystem};
-ghost use Rattle.distances.specs.Far.{Measured, far, gone};
+ghost use Rattle.rules.specs.Book.{Shaped, gatherSize, bookSystem};
+ghost use Rattle.distances.specs.Far.{Measured, gone};
 ghost use Rattle.meaning.specs.Promises.{mostStates};
 ghost use Rattle.web.specs.Layout.{startAt, endAt, cellsOf, HasRow};
 ghost use Rattle.web.specs.Web.{Back};
-ghost use Rattle.distances.specs.Layers.{Measurable, Begun, Opening, Spreadable, LayerDone, Spread, Near, keptIn, clearOf};
-ghost use Rattle.distances.specs.Follow.{Followable, LinedUp, Ready, Followed};
+ghost use Rattle.distances.specs.Layers.{Measurable, Begun, Opening, LinedUp, Listed, Sifted, Spreadable, LayerSifted, Near, keptIn, clearOf};
+ghost use Rattle.distances.specs.Follow.{Followable, Ready, Followed};
 
 // No path of unstruck states leads to the promise; or a place is struck, and looked at no more. Every distance is less.
 pub const FAR: u16 = 65535;
@@ -34,105 +32,127 @@ fn start(book: &[u32], k: usize, s: u32, word: u32) -> u16
     FAR
 }
 
-// Puts the goal's states at 0; how many places are not reached yet.
-fn begin(book: &[u32], k: usize, table: &[u32], words: &[u32], r: usize, near: &mut [u16]) -> usize
+// Puts the goal's states at 0.
+fn begin(book: &[u32], k: usize, table: &[u32], words: &[u32], r: usize, near: &mut [u16])
     requires { ⌜ Measurable (now book) k (now table) (now words) r × (length (now near) ≡ r) ⌝ }
-    ensures { λ left. ⌜ Opening (now (book .entry)) k (now (table .entry)) (now (words .entry)) r left (now (near .exit)) ⌝ }
+    ensures { λ _. ⌜ Opening (now (book .entry)) k (now (table .entry)) (now (words .entry)) r (now (near .exit)) ⌝ }
 {
-    let mut left: usize = 0;
     let mut i: usize = 0;
     while i < r {
         let v = start(book, k, table[i], words[i]);
         near[i] = v;
-        if v == FAR {
-            left += 1;
-            i += 1;
-        } else {
-            i += 1;
-        }
+        i += 1;
     }
-    left
 }
 
-// A place not reached yet, from which a move leads to the state whose pack this is.
-fn opens(pack: &[u32], count: usize, s: u32, d: u16) -> bool
-    requires { ⌜ (length (now pack) ≡ gatherSize) × (count ≤ 255) ⌝ }
-    ensures { λ b. ⌜ b ≡ eqb d far && packClear (now (pack .entry)) count s ⌝ }
+// Puts the places with value v into the list, ascending; how many those are.
+fn line_up(near: &[u16], r: usize, v: u16, list: &mut [u16]) -> usize
+    requires { ⌜ (r ≤ length (now near)) × (r ≤ length (now list)) × (r ≤ mostStates) ⌝ }
+    ensures { λ n. ⌜ LinedUp v (now (near .entry)) r n (now (list .exit)) × (length (now (list .exit)) ≡ length (now (list .entry))) ⌝ }
 {
-    if d == FAR {
-        return rules::clear(pack, count, s);
-    }
-    false
-}
-
-// Gives d to the places not reached yet from which the pack's state can be moved to; how many those are.
-fn spread(table: &[u32], pack: &[u32], count: usize, d: u16, r: usize, near: &mut [u16]) -> usize
-    requires { ⌜ (r ≤ length (now table)) × (length (now near) ≡ r) × (length (now pack) ≡ gatherSize) × (count ≤ 255) × (d < gone) ⌝ }
-    ensures { λ n. ⌜ Spread (clearOf (now (table .entry)) (now (pack .entry)) count) d r (now (near .entry)) (now (near .exit)) n ⌝ }
-{
-    let mut got: usize = 0;
+    let mut tail: usize = 0;
     let mut i: usize = 0;
     while i < r {
-        if opens(pack, count, table[i], near[i]) {
-            near[i] = d;
-            got += 1;
+        if near[i] == v {
+            list[tail] = i as u16;
+            tail += 1;
             i += 1;
         } else {
             i += 1;
         }
     }
-    got
+    tail
 }
 
-// Spreads layer d: gives d + 1 to the places not reached yet that move into it; how many those are. Stops where none of the `left` places
-// that were not reached is left.
+// Gives d to the listed places from which the pack's state can be moved to, and closes the gaps that they leave in the list; how many places
+// are left there.
+fn spread(
+    table: &[u32],
+    pack: &[u32],
+    count: usize,
+    d: u16,
+    left: usize,
+    list: &mut [u16],
+    near: &mut [u16],
+) -> usize
+    requires { ⌜ Listed (now table) (length (now near)) left (now list) (now near) × (length (now pack) ≡ gatherSize) × (count ≤ 255) × (d < gone) ⌝ }
+    ensures { λ kept. ⌜ Sifted (clearOf (now (table .entry)) (now (pack .entry)) count) (now (table .entry)) d (length (now (near .entry))) left kept
+        (now (near .entry)) (now (near .exit)) (now (list .entry)) (now (list .exit)) ⌝ }
+{
+    let mut kept: usize = 0;
+    let mut i: usize = 0;
+    while i < left {
+        let x = list[i] as usize;
+        if rules::clear(pack, count, table[x]) {
+            near[x] = d;
+            i += 1;
+        } else {
+            list[kept] = x as u16;
+            kept += 1;
+            i += 1;
+        }
+    }
+    kept
+}
+
+// Spreads layer d: gives d + 1 to the listed places, which are not reached yet, that move into it; how many are left in the list. Stops where
+// none is.
 fn layer(
     book: &[u32],
     table: &[u32],
     r: usize,
     d: u16,
     left: usize,
+    list: &mut [u16],
     near: &mut [u16],
     pack: &mut [u32],
 ) -> usize
-    requires { ⌜ Spreadable (now book) (now table) r d left (now near) × (length (now pack) ≡ gatherSize) ⌝ }
-    ensures { λ got. ⌜ LayerDone (now (book .entry)) (now (table .entry)) r d got (now (near .entry)) (now (near .exit))
-        × (length (now (pack .exit)) ≡ gatherSize) ⌝ }
+    requires { ⌜ Spreadable (now book) (now table) r d left (now list) (now near) × (length (now pack) ≡ gatherSize) ⌝ }
+    ensures { λ kept. ⌜ LayerSifted (now (book .entry)) (now (table .entry)) r d left kept (now (near .entry)) (now (near .exit))
+        (now (list .entry)) (now (list .exit)) × (length (now (pack .exit)) ≡ gatherSize) ⌝ }
 {
     let next = d + 1;
-    let mut got: usize = 0;
+    let mut kept = left;
     let mut j: usize = 0;
     while j < r {
-        if got == left {
-            return got;
+        if kept == 0 {
+            return kept;
         }
         if near[j] == d {
             let count = rules::gather_before(book, table[j], pack);
-            let more = spread(table, pack, count, next, r, near);
-            got += more;
+            kept = spread(table, pack, count, next, kept, list, near);
             j += 1;
         } else {
             j += 1;
         }
     }
-    got
+    kept
 }
 
-// The distances of the table's first r places, in a slice of that length.
-fn measure(book: &[u32], k: usize, table: &[u32], words: &[u32], r: usize, near: &mut [u16])
-    requires { ⌜ Measurable (now book) k (now table) (now words) r × (length (now near) ≡ r) ⌝ }
+// The distances of the table's first r places, in a slice of that length, with room for a list of places.
+fn measure(
+    book: &[u32],
+    k: usize,
+    table: &[u32],
+    words: &[u32],
+    r: usize,
+    list: &mut [u16],
+    near: &mut [u16],
+)
+    requires { ⌜ Measurable (now book) k (now table) (now words) r × (length (now near) ≡ r) × (r ≤ length (now list)) ⌝ }
     ensures { λ _. ⌜ Near (bookSystem (now (book .entry))) (bookSystem (now (book .entry)) .Kept k) (now (table .entry)) (now (words .entry)) r
-        (now (near .exit)) ⌝ }
+        (now (near .exit)) × (length (now (list .exit)) ≡ length (now (list .entry))) ⌝ }
 {
     let mut pack = [0u32; 510];
-    let mut left = begin(book, k, table, words, r, near);
+    begin(book, k, table, words, r, near);
+    let mut left = line_up(near, r, FAR, list);
     let mut d: u16 = 0;
     while left > 0 {
-        let got = layer(book, table, r, d, left, near, &mut pack);
-        if got == 0 {
+        let kept = layer(book, table, r, d, left, list, near, &mut pack);
+        if kept == left {
             return;
         }
-        left -= got;
+        left = kept;
         d += 1;
     }
 }
@@ -144,34 +164,16 @@ fn by_tests(
     table: &[u32],
     words: &[u32],
     r: usize,
+    queue: &mut [u16],
     dist: &mut [u16],
     from: usize,
 )
-    requires { ⌜ Measurable (now book) k (now table) (now words) r × (from + r ≤ length (now dist)) ⌝ }
+    requires { ⌜ Measurable (now book) k (now table) (now words) r × (from + r ≤ length (now dist)) × (r ≤ length (now queue)) ⌝ }
     ensures { λ _. ⌜ Measured (bookSystem (now (book .entry))) (bookSystem (now (book .entry)) .Kept k) (now (table .entry)) (now (words .entry)) r from
-        (now (dist .entry)) (now (dist .exit)) ⌝ }
+        (now (dist .entry)) (now (dist .exit)) × (length (now (queue .exit)) ≡ length (now (queue .entry))) ⌝ }
 {
     let end = from + r;
-    measure(book, k, table, words, r, &mut dist[from..end]);
-}
-
-// Puts the places at 0 into the queue, in order; how many those are.
-fn line_up(near: &[u16], r: usize, queue: &mut [u16]) -> usize
-    requires { ⌜ (r ≤ length (now near)) × (r ≤ length (now queue)) × (r ≤ mostStates) ⌝ }
-    ensures { λ n. ⌜ LinedUp (now (near .entry)) r n (now (queue .exit)) × (length (now (queue .exit)) ≡ length (now (queue .entry))) ⌝ }
-{
-    let mut tail: usize = 0;
-    let mut i: usize = 0;
-    while i < r {
-        if near[i] == 0 {
-            queue[tail] = i as u16;
-            tail += 1;
-            i += 1;
-        } else {
-            i += 1;
-        }
-    }
-    tail
+    measure(book, k, table, words, r, queue, &mut dist[from..end]);
 }
 
 // Gives d to the places in place j's row that are not reached yet, and puts them into the queue behind its first `tail`; how many those are.
@@ -224,7 +226,7 @@ fn measure_back(
         (now (near .exit)) × (length (now (queue .exit)) ≡ length (now (queue .entry))) ⌝ }
 {
     begin(book, k, table, words, r, near);
-    let mut tail = line_up(near, r, queue);
+    let mut tail = line_up(near, r, 0, queue);
     let mut head: usize = 0;
     while head < tail {
         let j = queue[head] as usize;
@@ -275,7 +277,7 @@ pub fn distances(
         (now (dist .entry)) (now (dist .exit)) × (length (now (queue .exit)) ≡ length (now (queue .entry))) ⌝ }
 {
     if back.len() == 0 {
-        by_tests(book, k, table, words, r, dist, from);
+        by_tests(book, k, table, words, r, queue, dist, from);
     } else {
         follow(book, k, table, words, r, back, queue, dist, from);
     }

@@ -27,6 +27,10 @@ pub record Walked (book words words′ run run′ : List ℕ) (a b : ℕ) : Type
 abbrev pub fewDistances : ℕ
 fewDistances = 8192
 
+-- and up to so many states are walked with it
+abbrev pub fewStates : ℕ
+fewStates = 512
+
 -- ---- the walk
 
 -- The sample run meets its first pair of state and aim for the second time at moment b, and the pair is that of `place` and `aim`.

@@ -11,7 +11,7 @@ ghost use Rattle.rules.specs.Book.{bookSystem};
 ghost use Rattle.distances.specs.Follow.{Followable};
 ghost use Rattle.best.specs.Rows.{aimsOf, Walkable};
 ghost use Rattle.best.specs.Step.{Onward};
-ghost use Rattle.steer.specs.Walk.{Steerable, Walked, Ended, Known, BackFrom, RunWritten, fewDistances};
+ghost use Rattle.steer.specs.Walk.{Steerable, Walked, Ended, Known, BackFrom, RunWritten, fewDistances, fewStates};
 
 // Up to so many states testing pairs is no more work than storing their moves.
 pub const FEW_STATES: usize = 512;
@@ -139,11 +139,12 @@ fn walk(
 
 // With room for few distances and for no moves, so that small sheets stay quick.
 fn walk_small(book: &[u32], table: &[u32], words: &mut [u32], run: &mut [u32], r: usize) -> Steps
-    requires { ⌜ Steerable (now book) (now table) (now words) r × (aimsOf (bookSystem (now book)) * r ≤ fewDistances) ⌝ }
+    requires { ⌜ Steerable (now book) (now table) (now words) r × (aimsOf (bookSystem (now book)) * r ≤ fewDistances)
+        × (r ≤ fewStates) ⌝ }
     ensures { λ s. ⌜ Walked (now (book .entry)) (now (words .entry)) (now (words .exit)) (now (run .entry)) (now (run .exit)) (s .a) (s .b) ⌝ }
 {
     let mut dist = [0u16; FEW_DISTANCES];
-    let mut queue = [0u16; 1];
+    let mut queue = [0u16; FEW_STATES];
     let none = [0u16; 1];
     let empty = &none[..0];
     walk(
@@ -184,7 +185,7 @@ fn walk_large(book: &[u32], table: &[u32], words: &mut [u32], run: &mut [u32], r
 
 // Whether a small array holds the distances, and there are so few states that testing pairs is no more work than storing their moves.
 fn is_small(room: usize, r: usize) -> bool
-    ensures { λ b. ⌜ (b ≡ true → room ≤ fewDistances) ⌝ }
+    ensures { λ b. ⌜ (b ≡ true → (room ≤ fewDistances) × (r ≤ fewStates)) ⌝ }
 {
     if r <= FEW_STATES {
         room <= FEW_DISTANCES

@@ -8,7 +8,7 @@ use Rattle.deadends.specs.Onward.{Onward}
 abbrev pub fewStates : ℕ
 fewStates = 512
 
--- if moves are stored, they are the moves forth and the moves back, and there is room for a queue of all places
+-- if moves are stored, they are the moves forth and the moves back; there is room for a queue of all places
 pub record Stored (book table : List ℕ) (r : ℕ) (forth back queue : List ℕ) : Type 0 where
   pub onward : Onward book table r forth
   pub backward : Followable book table r back queue

@@ -162,7 +162,7 @@ fn strike_few(
 {
     let none = [0u16; 1];
     let empty = &none[..0];
-    let mut queue = [0u16; 1];
+    let mut queue = [0u16; FEW_STATES];
     let mut dist = [0u16; FEW_STATES];
     rounds(
         book,

@@ -2,7 +2,7 @@
 // then the cells. Whoever reads or writes stored moves asks here.
 
 ghost use mathlib.Core.Path.{_≡_};
-ghost use Prim.Native.Nat.{_<_, _≤_};
+ghost use Prim.Native.Nat.{_-_, _<_, _≤_};
 ghost use lib.ListN.{length};
 ghost use Rattle.meaning.specs.Promises.{mostStates};
 ghost use Rattle.web.specs.Layout.{mostCells, movesSize, startAt, endAt, cellAt, RowSet, Appended};
@@ -33,6 +33,19 @@ pub fn row_end(moves: &[u16], i: usize) -> usize
 {
     let at = ENDS + i;
     moves[at] as usize
+}
+
+// How many cells place i's row has.
+pub fn row_size(moves: &[u16], i: usize) -> usize
+    requires { ⌜ (length (now moves) ≡ movesSize) × (i < mostStates) ⌝ }
+    ensures { λ n. ⌜ (n ≡ endAt (now (moves .entry)) i - startAt (now (moves .entry)) i) × (n ≤ 65535) ⌝ }
+{
+    let start = row_start(moves, i);
+    let end = row_end(moves, i);
+    if start < end {
+        return end - start;
+    }
+    0
 }
 
 // The place that stands in cell e.

@@ -5,6 +5,7 @@ use native.Mathlib.Omega.{arith}
 use lib.ListN.{length}
 use Rattle.rules.specs.Book.{bookSystem}
 use Rattle.rules.proofs.Facts.{promises-are}
+use Rattle.distances.proofs.Lent.{followable-queue}
 use Rattle.best.proofs.Books.{rows-measurable}
 use Rattle.best.proofs.Distances.{RowsTo, one-more-row, row-room, rowed-of-rows}
 use Rattle.best.proofs.promise_rows.Statement.{statement}
@@ -31,7 +32,7 @@ distances-requires c κs =
     let pre = start head .pre in (
       rows-measurable (pre .0) (head .loop .q) (omega arith),
       omega (arith, room (c .before .before)),
-      λ e. (pre .4 e .0, omega (arith, pre .4 e .1, head .loop .inv .3)),
+      followable-queue _ _ _ _ _ _ (pre .4) (head .loop .inv .3),
     )
 
 loop-again : tie.Need-loop-again Inv-loop μ-loop

@@ -1,30 +1,20 @@
 -- `distances::begin` meets its contract. The loop's invariant: the first i places have begun. Assumes nothing.
-use mathlib.Core.Path.{_∙_, sym, ap}
-use Prim.Native.Nat.{ℕ, _-_, _≤_}
+use mathlib.Core.Path.{_∙_, sym}
+use Prim.Native.Nat.{_-_, _≤_}
 use native.Mathlib.Omega.{arith}
-use Rattle.distances.specs.Far.{gone}
-use Rattle.distances.proofs.Spreads.{Begins, begins-none, begins-more, begins-near, begins-opening}
+use Rattle.distances.proofs.Spreads.{Begins, begins-none, begins-more, begins-opening}
 use Rattle.distances.proofs.begin.Statement.{statement}
 use Rattle.distances.proofs.begin.Tie as tie
 
 abbrev Inv-loop : tie.InvT-loop
-Inv-loop book k table words r near₀ left₀ i₀ near left i = (i ≤ r) × Begins book k table words r i left near
+Inv-loop book k table words r near₀ i₀ near i = (i ≤ r) × Begins book k table words r i near
 
 abbrev μ-loop : tie.MeasureT-loop
-μ-loop book k table words r near₀ left₀ i₀ near left i = r - i
+μ-loop book k table words r near₀ i₀ near i = r - i
 
 loop-again : tie.Need-loop-again Inv-loop μ-loop
 loop-again c =
-    let at-loop = c .before .before .before .before .before in (
-      omega arith,
-      begins-more _ _ _ _ _ _ _ _ _ 1 (at-loop .loop .inv .1) (omega arith) (c .before .start .ensures) (ap (λ (x : ℕ). x - gone)
-          (c .if1 .taken)) (omega arith),
-    )
-
-loop-again-2 : tie.Need-loop-again-2 Inv-loop μ-loop
-loop-again-2 c =
-    let at-loop = c .before .before .before .before .before in
-    (omega arith, begins-near _ _ _ _ _ _ _ _ _ (at-loop .loop .inv .1) (omega arith) (c .before .start .ensures) (c .if1 .left))
+    (omega arith, begins-more _ _ _ _ _ _ _ _ (c .before .before .before .before .loop .inv .1) (omega arith) (c .start .ensures))
 
 pub begin-spec : {M : Type 1} → statement M
 begin-spec =
@@ -40,12 +30,8 @@ begin-spec =
     (λ c κs. c .before .before .before .before .before .before .before .before .pre .0 .shaped)
     (λ c. let l = c .before .before .before .before .loop .inv .1 .long in omega arith)
     (λ c. let l = c .before .before .before .before .loop .inv .1 .long in omega arith)
-    (λ c. let l = c .before .before .before .before .before .loop .inv .1 .few in omega arith)
     (λ c. omega arith)
     (λ c. omega arith)
     loop-again
-    (λ c. omega arith)
-    (λ c. omega arith)
-    loop-again-2
     (λ c. c .before .loop .inv .1 .long ∙ sym (c .before .before .before .before .before .before .pre .1))
-    (λ c. begins-opening _ _ _ _ _ _ _ _ (c .before .loop .inv .1) (omega arith)))
+    (λ c. begins-opening _ _ _ _ _ _ _ (c .before .loop .inv .1) (omega arith)))

@@ -1,33 +1,34 @@
--- `distances::by_tests` meets its contract: the part is measured, and put back. Assumes nothing.
-use native.Mathlib.Omega.{arith}
-use Rattle.distances.proofs.Turns.{near-measured, part-long}
+-- `distances::by_tests` meets its contract. The part is measured, and put back. Assumes nothing.
+use borrow.Author.Needs.{needs}
+use Rattle.distances.proofs.Lent.{near-measured, part-long}
 use Rattle.distances.proofs.by_tests.Statement.{statement}
 use Rattle.distances.proofs.by_tests.Tie as tie
 
 measure-requires : tie.Need-measure-requires
-measure-requires c κs = (c .before .before .before .before .before .pre .0, part-long _ _ _ (c .before .before .before .before .before .pre .1))
+measure-requires c κs =
+    let pre = c .before .before .before .before .before .before .before .pre in (pre .0, part-long _ _ _ (pre .1), pre .2)
 
-same-length : tie.Need-same-length
-same-length c =
-    let at-measure = c .before .before in
-    let entry = at-measure .before .before .before .before .before .before in
-    near-measured _ _ _ _ _ _ _ _ (entry .pre .1) (at-measure .measure .ensures) .long
+same-length-2 : tie.Need-same-length-2
+same-length-2 c =
+    let at-measure = c .before .before .before .before in
+    near-measured _ _ _ _ _ _ _ _ (at-measure .before .before .before .before .before .before .before .before .pre .1) (at-measure .measure .ensures .0) .long
 
 returns : tie.Need-returns
 returns c =
-    let at-measure = c .before .before in
-    let entry = at-measure .before .before .before .before .before .before in
-    near-measured _ _ _ _ _ _ _ _ (entry .pre .1) (at-measure .measure .ensures)
+    let at-measure = c .before .before .before .before in
+    let pre = at-measure .before .before .before .before .before .before .before .before .pre in
+    (near-measured _ _ _ _ _ _ _ _ (pre .1) (at-measure .measure .ensures .0), at-measure .measure .ensures .1)
 
 pub by-tests-spec : {M : Type 1} → statement M
 by-tests-spec =
     tie.close
     (tie.spec
-    (λ c. omega arith)
-    (λ c. omega arith)
-    (λ c. omega arith)
-    (λ c. omega arith)
-    (λ c. omega arith)
+    (λ c. search needs)
+    (λ c. search needs)
+    (λ c. search needs)
+    (λ c. search needs)
+    (λ c. search needs)
     measure-requires
-    same-length
+    (λ c. search needs)
+    same-length-2
     returns)

@@ -6,15 +6,17 @@ use Rattle.distances.proofs.distances.Tie as tie
 follow-requires : tie.Need-follow-requires
 follow-requires c κs =
     let pre = c .before .before .before .before .before .before .before .before .before .pre in
-    let stored = pre .2 (c .before .before .if1 .left) in
-    (pre .0, pre .1, stored .0, stored .1)
+    (pre .0, pre .1, pre .2 .stored (c .before .before .if1 .left), pre .2 .in-queue)
 
 pub distances-spec : {M : Type 1} → statement M
 distances-spec =
     tie.close
     (tie.spec
-    (λ c κs. search needs)
+    (λ c κs.
+    let pre = c .before .before .before .before .before .before .before .before .before .pre in
+    (pre .0, pre .1, pre .2 .in-queue))
     follow-requires
+    (λ c. search needs)
     (λ c. search needs)
     (λ c. search needs)
     (λ c. search needs)

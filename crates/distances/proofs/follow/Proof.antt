@@ -1,6 +1,6 @@
 -- `distances::follow` meets its contract. The part is measured, and put back. Assumes nothing.
 use borrow.Author.Needs.{needs}
-use Rattle.distances.proofs.Turns.{near-measured, part-long}
+use Rattle.distances.proofs.Lent.{near-measured, part-long}
 use Rattle.distances.proofs.follow.Statement.{statement}
 use Rattle.distances.proofs.follow.Tie as tie
 

@@ -4,81 +4,69 @@ use mathlib.Core.Path.{_≡_, _∙_, sym, refl}
 use native.Mathlib.Omega.{arith}
 use lib.ListN.{length}
 use Rattle.rules.specs.Book.{gatherSize}
-use Rattle.distances.proofs.Turns.{
-  Measuring,
-  measuring-none,
-  measuring-spreadable,
-  measuring-most,
-  measuring-next,
-  measuring-quiet,
-  measuring-full,
-}
+use Rattle.distances.proofs.Turns.{Measuring, measuring-none, measuring-spreadable, measuring-next, measuring-quiet, measuring-full}
 use Rattle.distances.proofs.measure.Statement.{statement}
 use Rattle.distances.proofs.measure.Tie as tie
 
 abbrev Inv-loop : tie.InvT-loop
-Inv-loop book k table words r near₀ pack₀ left₀ d₀ near pack left d = Measuring book k table words r left d near × (length pack ≡ gatherSize)
+Inv-loop book k table words r list₀ near₀ pack₀ left₀ d₀ list near pack left d =
+    Measuring book k table words r left d near list × (length pack ≡ gatherSize) × (length list ≡ length list₀)
 
 abbrev μ-loop : tie.MeasureT-loop
-μ-loop book k table words r near₀ pack₀ left₀ d₀ near pack left d = left
+μ-loop book k table words r list₀ near₀ pack₀ left₀ d₀ list near pack left d = left
+
+-- the entry, seen from the call of `begin` and from the loop
+abbrev before-begin : tie.After-begin Inv-loop μ-loop → tie.Start Inv-loop μ-loop
+before-begin c = c .before .before .before .before .before .before .before
+
+abbrev entry : tie.At-loop Inv-loop μ-loop → tie.Start Inv-loop μ-loop
+entry l = before-begin (l .before .before .before .before .before .before .before .before)
+
+-- the loop, seen from the call of `layer`
+abbrev turn : tie.After-layer Inv-loop μ-loop → tie.At-loop Inv-loop μ-loop
+turn c = c .before .before .before .before .before
+
+-- the lent list has the length that it had
+same-list : (l : tie.At-loop Inv-loop μ-loop) → length (l .loop .list) ≡ length (entry l .args .list .now)
+same-list l = l .loop .inv .2 ∙ l .before .before .before .line-up .ensures .1
+
+line-up-requires : tie.Need-line-up-requires Inv-loop μ-loop
+line-up-requires c κs =
+    let at-begin = c .before .before .before .before in
+    let pre = before-begin at-begin .pre in
+    (omega (arith, at-begin .begin .ensures .sure .long), pre .2, pre .0 .few)
+
+loop-holds : tie.Need-loop-holds Inv-loop μ-loop
+loop-holds c =
+    let at-line-up = c .before .before in
+    let at-begin = at-line-up .before .before .before .before .before in
+    let pre = before-begin at-begin .pre in (
+      measuring-none _ _ _ _ _ (pre .0) _ _ _ (omega (arith, at-line-up .line-up .ensures .1, pre .2)) (at-begin .begin .ensures)
+          (at-line-up .line-up .ensures .0),
+      refl,
+      refl,
+    )
 
 layer-requires : tie.Need-layer-requires Inv-loop μ-loop
 layer-requires c κs =
-    let at-loop = c .before .before .before in
-    let entry = at-loop .before .before .before .before .before .before .before .before .before in
-    (measuring-spreadable _ _ _ _ _ _ _ _ (entry .pre .0) (at-loop .loop .inv .0) (omega arith), at-loop .loop .inv .1)
-
-same-length : tie.Need-same-length Inv-loop μ-loop
-same-length c =
-    let at-layer = c .before .before .before .before in
-    let entry = at-layer .before .before .before .before .before .before .before .before .before .before .before .before .before in
-    at-layer .layer .ensures .0 .long ∙ sym (entry .pre .1)
+    let l = c .before .before .before .before in (measuring-spreadable _ _ _ _ _ (entry l .pre .0) _ _ _ _ (l .loop .inv .0) (omega arith), l .loop .inv .1)
 
 returns : tie.Need-returns Inv-loop μ-loop
 returns c =
-    let at-layer = c .before .before .before .before in
-    let at-loop = at-layer .before .before .before .before in
-    let entry = at-loop .before .before .before .before .before .before .before .before .before in
-    measuring-quiet _ _ _ _ _ _ _ _ (entry .pre .0) (at-loop .loop .inv .0) _ _ (at-layer .layer .ensures .0) (c .if1 .taken)
-
-sub-left : tie.Need-sub-left Inv-loop μ-loop
-sub-left c =
-    let at-layer = c .before .before .before .before in
-    let at-loop = at-layer .before .before .before .before in
-    let entry = at-loop .before .before .before .before .before .before .before .before .before in
-    let l = measuring-most _ _ _ _ _ _ _ _ (entry .pre .0) (at-loop .loop .inv .0) _ _ (at-layer .layer .ensures .0) in omega arith
-
-add-d : tie.Need-add-d Inv-loop μ-loop
-add-d c =
-    let at-loop = c .before .before .before .before .before .before .before .before in
-    let entry = at-loop .before .before .before .before .before .before .before .before .before in
-    let l = at-loop .loop .inv .0 .room in let e = entry .pre .0 .few in omega arith
-
-loop-less : tie.Need-loop-less Inv-loop μ-loop
-loop-less c =
-    let at-layer = c .before .before .before .before in
-    let at-loop = at-layer .before .before .before .before in
-    let entry = at-loop .before .before .before .before .before .before .before .before .before in
-    let l = measuring-most _ _ _ _ _ _ _ _ (entry .pre .0) (at-loop .loop .inv .0) _ _ (at-layer .layer .ensures .0) in
-    let n = c .if1 .left in
-    omega arith
+    let a = c .before .before .before .before .before .before in
+    let l = turn a in (
+      measuring-quiet _ _ _ _ _ (entry l .pre .0) _ _ _ _ (l .loop .inv .0) _ _ _ (a .layer .ensures .0) (c .if1 .taken),
+      a .layer .ensures .0 .same ∙ same-list l,
+    )
 
 loop-again : tie.Need-loop-again Inv-loop μ-loop
 loop-again c =
-    let at-layer = c .before .before .before .before in
-    let at-loop = at-layer .before .before .before .before in
-    let entry = at-loop .before .before .before .before .before .before .before .before .before in (
-      measuring-next _ _ _ _ _ _ _ _ (entry .pre .0) (at-loop .loop .inv .0) _ _ (at-layer .layer .ensures .0) (c .if1 .left),
-      at-layer .layer .ensures .1,
+    let a = c .before .before .before .before .before .before in
+    let l = turn a in (
+      measuring-next _ _ _ _ _ (entry l .pre .0) _ _ _ _ (l .loop .inv .0) _ _ _ (a .layer .ensures .0) (c .if1 .left),
+      a .layer .ensures .1,
+      a .layer .ensures .0 .same ∙ l .loop .inv .2,
     )
-
-same-length-2 : tie.Need-same-length-2 Inv-loop μ-loop
-same-length-2 c = c .before .loop .inv .0 .so-far .sure .long ∙ sym (c .before .before .before .before .before .before .before .before .before .before .pre .1)
-
-returns-2 : tie.Need-returns-2 Inv-loop μ-loop
-returns-2 c =
-    let entry = c .before .before .before .before .before .before .before .before .before .before in
-    measuring-full _ _ _ _ _ _ _ _ (entry .pre .0) (c .before .loop .inv .0) (omega arith)
 
 pub measure-spec : {M : Type 1} → statement M
 measure-spec =
@@ -86,15 +74,19 @@ measure-spec =
     (tie.spec
     Inv-loop
     μ-loop
-    (λ c κs. c .before .before .before .before .before .pre)
-    (λ c. (measuring-none _ _ _ _ _ _ _ (c .before .before .begin .ensures), refl))
-    (λ c. sym (c .before .before .before .loop .inv .1))
+    (λ c κs. let pre = c .before .before .before .before .before .before .pre in (pre .0, pre .1))
+    line-up-requires
+    loop-holds
+    (λ c. sym (c .before .before .before .before .loop .inv .1))
     layer-requires
-    same-length
+    (λ c. c .before .before .before .before .before .before .layer .ensures .0 .same ∙ same-list (turn (c .before .before .before .before .before .before)))
+    (λ c. c .before .before .before .before .before .before .layer .ensures .0 .listed .long ∙ sym (entry (turn (c .before .before .before .before .before .before)) .pre .1))
     returns
-    sub-left
-    add-d
-    loop-less
+    (λ c. let l = turn (c .before .before .before .before .before .before) in omega (arith, l .loop .inv .0 .room, entry l .pre .0 .few))
+    (λ c. omega (arith, c .before .before .before .before .before .before .layer .ensures .0 .most, c .if1 .left))
     loop-again
-    same-length-2
-    returns-2)
+    (λ c. same-list (c .before))
+    (λ c. c .before .loop .inv .0 .listed .long ∙ sym (entry (c .before) .pre .1))
+    (λ c.
+    let l = c .before in
+    (measuring-full _ _ _ _ _ (entry l .pre .0) _ _ _ _ (l .loop .inv .0) (omega arith), same-list l)))

@@ -29,7 +29,7 @@ line-up-requires : tie.Need-line-up-requires Inv-loop μ-loop
 line-up-requires c κs =
     let at-begin = c .before .before .before .before in
     let pre = at-begin .before .before .before .before .before .before .before .before .pre in
-    (omega (arith, at-begin .begin .ensures .first .sure .long), pre .3, pre .0 .few)
+    (omega (arith, at-begin .begin .ensures .sure .long), pre .3, pre .0 .few)
 
 loop-holds : tie.Need-loop-holds Inv-loop μ-loop
 loop-holds c =
@@ -37,7 +37,7 @@ loop-holds c =
     let at-begin = at-line-up .before .before .before .before .before in
     let pre = at-begin .before .before .before .before .before .before .before .before .pre in
     tracing-none _ _ _ _ _ _ _ _ _ _ _ (pre .2 .rows) (pre .0 .few) (omega (arith, at-line-up .line-up .ensures .1, pre .3))
-    (at-begin .begin .ensures .first) (at-line-up .line-up .ensures .0)
+    (at-begin .begin .ensures) (at-line-up .line-up .ensures .0)
 
 follow-row-requires : tie.Need-follow-row-requires Inv-loop μ-loop
 follow-row-requires c κs =

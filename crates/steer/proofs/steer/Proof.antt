@@ -14,9 +14,11 @@ start c = c .before .before .before .before .before
 walk-small-requires : tie.Need-walk-small-requires
 walk-small-requires c κs =
     let small = c .before .before .before in
-    let counted = small .before in (
+    let counted = small .before in
+    let few = small .is-small .ensures (c .before .before .if1 .taken) in (
       start counted .pre,
-      subst (λ (y : ℕ). y * start counted .args .r ≤ fewDistances) (counted .count-aims .ensures) (small .is-small .ensures (c .before .before .if1 .taken)),
+      subst (λ (y : ℕ). y * start counted .args .r ≤ fewDistances) (counted .count-aims .ensures) (few .0),
+      few .1,
     )
 
 pub steer-spec : {M : Type 1} → statement M

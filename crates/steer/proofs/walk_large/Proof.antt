@@ -20,7 +20,7 @@ walk-requires c κs =
     let at = c .before .before .before .before .before .before .before .before in
     let pre = at .before .before .before .before .before .before .before .pre in
     let kept = at .store .ensures .0 in
-    (pre, few-rows (pre .states) _ refl, rows-forth _ _ _ _ _ _ kept, λ some. (rows-back _ _ _ _ _ _ kept some, pre .states .few))
+    (pre, few-rows (pre .states) _ refl, rows-forth _ _ _ _ _ _ kept, record { stored = rows-back _ _ _ _ _ _ kept; in-queue = pre .states .few })
 
 pub walk-large-spec : {M : Type 1} → statement M
 walk-large-spec =

@@ -1,10 +1,12 @@
--- `web::store_forth` meets its contract. The loop's invariant: the rows of the first i places are stored below `at`, and there are places for classes. Assumes nothing.
+-- `web::store_forth` meets its contract. The loop's invariant: the rows of the first i places are stored below `at`, there are places for classes,
+-- and the sum of the moves is small. Assumes nothing.
 use mathlib.Core.Path.{_≡_, refl, sym, _∙_}
-use Prim.Native.Nat.{_-_, _≤_}
+use Prim.Native.Nat.{_+_, _-_, _≤_, _<_}
 use native.Mathlib.Omega.{arith}
 use lib.ListN.{length}
 use mathlib.Core.Bool.{true≢false}
 use Rattle.classes.specs.Classes.{manyPlaces}
+use Rattle.meaning.specs.Promises.{mostStates}
 use Rattle.web.specs.Layout.{mostCells, movesSize}
 use Rattle.web.specs.Storing.{listSize}
 use Rattle.web.proofs.Filling.{StoredIn, stored-none, stored-has, set-more, set-again, stored-forth}
@@ -12,101 +14,128 @@ use Rattle.web.proofs.store_forth.Statement.{statement}
 use Rattle.web.proofs.store_forth.Tie as tie
 
 abbrev Inv-loop : tie.InvT-loop
-Inv-loop book table r moves₀ room₀ places₀ luck₀ at₀ i₀ moves room places luck at i =
+Inv-loop book table r moves₀ room₀ places₀ luck₀ sum₀ at₀ i₀ moves room places luck sum at i =
     (i ≤ r) × (at ≤ mostCells) × StoredIn book table r i at moves × (length moves ≡ movesSize) × (length room ≡ listSize)
-    × (length places ≡ manyPlaces)
+    × (length places ≡ manyPlaces) × (sum ≤ mostCells + 65535)
 
 abbrev μ-loop : tie.MeasureT-loop
-μ-loop book table r moves₀ room₀ places₀ luck₀ at₀ i₀ moves room places luck at i = r - i
+μ-loop book table r moves₀ room₀ places₀ luck₀ sum₀ at₀ i₀ moves room places luck sum at i = r - i
 
-likely-requires : tie.Need-likely-requires Inv-loop μ-loop
-likely-requires c κs =
-    let at-loop = c .before .before .before in
-    let long = at-loop .loop .inv .5 in
-    (at-loop .before .before .before .before .pre .0 .shaped, omega (arith, long), omega (arith, long))
+-- the entry, seen from the loop
+abbrev entry : tie.At-loop Inv-loop μ-loop → tie.Start Inv-loop μ-loop
+entry l = l .before .before .before .before
 
-same-moves-requires : tie.Need-same-moves-requires Inv-loop μ-loop
-same-moves-requires c κs =
-    let at-loop-test = c .before .before .before .before in
-    let able = at-loop-test .before .before .before .before .before .pre .0 in
-    (able .shaped, omega (arith, at-loop-test .loop-test .taken, able .in-table))
+-- the loop's body within the budget, seen from the test whether a row is shared; and the loop
+abbrev within : tie.After-same-moves Inv-loop μ-loop → tie.Else1 Inv-loop μ-loop
+within c = c .before .before .before .before .before
+
+abbrev turn : tie.Else1 Inv-loop μ-loop → tie.At-loop Inv-loop μ-loop
+turn c = c .before .before .before
+
+-- a place's row is shared; a place's row is filled
+abbrev shared : tie.After-share-row Inv-loop μ-loop → tie.Then2 Inv-loop μ-loop
+shared c = c .before .before
+
+abbrev filled : tie.After-fill Inv-loop μ-loop → tie.After-same-moves Inv-loop μ-loop
+filled c = c .before .before .before .before
+
+-- the place is one of the first r, and there are few; so are the moves so far
+inside : (c : tie.Else1 Inv-loop μ-loop) → (turn c .loop .i < entry (turn c) .args .r) × (turn c .loop .i < mostStates)
+inside c = (c .before .before .loop-test .taken, omega (arith, c .before .before .loop-test .taken, entry (turn c) .pre .0 .few))
+
+few : (c : tie.Else1 Inv-loop μ-loop) → turn c .loop .sum ≤ mostCells
+few c = omega (arith, c .before .budget .ensures, c .if1 .left)
 
 share-row-requires : tie.Need-share-row-requires Inv-loop μ-loop
 share-row-requires c κs =
-    let at-if1 = c .before in
-    let at-loop = at-if1 .before .before .before .before .before .before .before in
-    let pre = at-loop .before .before .before .before .pre in
-    let same = at-if1 .before .same-moves .ensures (at-if1 .if1 .taken) in
-    let has = stored-has _ _ _ _ _ _ _ (at-loop .loop .inv .3) (omega (arith, at-loop .loop .inv .0, pre .0 .few)) (at-loop .loop .inv .1) (at-loop .loop .inv .2) (same .before) in
-    (at-loop .loop .inv .3, omega (arith, pre .0 .few), has .0, has .1)
+    let at-same = c .before .before in
+    let l = turn (within at-same) in
+    let pre = entry l .pre in
+    let same = at-same .same-moves .ensures (c .before .if2 .taken) in
+    let has = stored-has _ _ _ _ _ _ _ (l .loop .inv .3) (omega (arith, l .loop .inv .0, pre .0 .few)) (l .loop .inv .1) (l .loop .inv .2) (same .before) in
+    (l .loop .inv .3, inside (within at-same) .1, has .0, has .1)
+
+row-size-requires : tie.Need-row-size-requires Inv-loop μ-loop
+row-size-requires c κs =
+    let at-share = c .before .before .before in
+    let e = within (shared at-share .before) in
+    (at-share .share-row .ensures .long ∙ turn e .loop .inv .3, inside e .1)
 
 loop-again : tie.Need-loop-again Inv-loop μ-loop
 loop-again c =
-    let at-share = c .before .before in
-    let at-if1 = at-share .before .before in
-    let at-same = at-if1 .before in
-    let at-likely = at-same .before .before in
-    let at-loop-test = at-likely .before .before .before in
-    let at-loop = at-loop-test .before in
-    let able = at-loop .before .before .before .before .pre .0 in (
-      omega arith,
-      at-loop .loop .inv .1,
-      set-again _ _ _ _ _ _ _ _ (at-loop .loop .inv .3) (omega (arith, able .few)) able (at-loop-test .loop-test .taken)
-          (at-same .same-moves .ensures (at-if1 .if1 .taken)) (at-loop .loop .inv .2) (at-share .share-row .ensures),
-      at-share .share-row .ensures .long ∙ at-loop .loop .inv .3,
-      at-loop .loop .inv .4,
-      at-likely .likely .ensures ∙ at-loop .loop .inv .5,
+    let at-share = c .before .before .before .before in
+    let at-if2 = shared at-share in
+    let at-same = at-if2 .before in
+    let e = within at-same in
+    let l = turn e in (
+      omega (arith, inside e .0),
+      l .loop .inv .1,
+      set-again _ _ _ _ _ _ _ _ (l .loop .inv .3) (inside e .1) (entry l .pre .0) (inside e .0)
+          (at-same .same-moves .ensures (at-if2 .if2 .taken)) (l .loop .inv .2) (at-share .share-row .ensures),
+      at-share .share-row .ensures .long ∙ l .loop .inv .3,
+      l .loop .inv .4,
+      at-same .before .before .likely .ensures ∙ l .loop .inv .5,
+      omega (arith, few e, c .row-size .ensures .1),
     )
 
 fill-requires : tie.Need-fill-requires Inv-loop μ-loop
 fill-requires c κs =
-    let at-loop = c .before .before .before .before .before .before .before .before .before in
-    let able = at-loop .before .before .before .before .pre .0 in
-    (able, able .lawful _ (omega arith), at-loop .loop .inv .4, at-loop .loop .inv .1, at-loop .loop .inv .3)
+    let e = within (c .before .before .before) in
+    let l = turn e in
+    let able = entry l .pre .0 in
+    (able, able .lawful _ (inside e .0), l .loop .inv .4, l .loop .inv .1, l .loop .inv .3)
 
-same-length : tie.Need-same-length Inv-loop μ-loop
-same-length c =
+same-length-2 : tie.Need-same-length-2 Inv-loop μ-loop
+same-length-2 c =
     let at-fill = c .before .before .before .before in
-    let at-loop = at-fill .before .before .before .before .before .before .before .before .before .before in
-    at-fill .fill .ensures .1 .long ∙ at-loop .loop .inv .3 ∙ sym (at-loop .before .before .before .before .pre .1)
+    let l = turn (within (filled at-fill)) in
+    at-fill .fill .ensures .1 .long ∙ l .loop .inv .3 ∙ sym (entry l .pre .1)
 
-returns : tie.Need-returns Inv-loop μ-loop
-returns c =
+returns-2 : tie.Need-returns-2 Inv-loop μ-loop
+returns-2 c =
     let at-fill = c .before .before .before .before in
-    (λ e. absurd (true≢false (sym e)), at-fill .fill .ensures .1 .long ∙ at-fill .before .before .before .before .before .before .before .before .before .before .loop .inv .3)
+    (λ e. absurd (true≢false (sym e)), at-fill .fill .ensures .1 .long ∙ turn (within (filled at-fill)) .loop .inv .3)
 
 set-row-requires : tie.Need-set-row-requires Inv-loop μ-loop
 set-row-requires c κs =
     let at-fill = c .before .before .before .before .before in
-    let at-loop = at-fill .before .before .before .before .before .before .before .before .before .before in (
-      at-fill .fill .ensures .1 .long ∙ at-loop .loop .inv .3,
-      omega (arith, at-loop .before .before .before .before .pre .0 .few),
-      at-loop .loop .inv .1,
-      omega (arith, c .before .if2 .left),
+    let e = within (filled at-fill) in
+    let l = turn e in (
+      at-fill .fill .ensures .1 .long ∙ l .loop .inv .3,
+      inside e .1,
+      l .loop .inv .1,
+      omega (arith, c .before .if3 .left),
     )
+
+row-size-requires-2 : tie.Need-row-size-requires-2 Inv-loop μ-loop
+row-size-requires-2 c κs =
+    let at-set = c .before .before .before in
+    let at-fill = at-set .before .before .before .before .before .before in
+    let e = within (filled at-fill) in
+    (at-set .set-row .ensures .long ∙ at-fill .fill .ensures .1 .long ∙ turn e .loop .inv .3, inside e .1)
 
 loop-again-2 : tie.Need-loop-again-2 Inv-loop μ-loop
 loop-again-2 c =
-    let at-set = c .before .before in
+    let at-set = c .before .before .before .before in
     let at-fill = at-set .before .before .before .before .before .before in
-    let at-likely = at-fill .before .before .before .before .before .before in
-    let at-loop = at-likely .before .before .before .before in
-    let able = at-loop .before .before .before .before .pre .0 in (
-      omega arith,
-      omega (arith, at-set .before .before .if2 .left),
-      set-more _ _ _ _ _ _ _ _ _ (at-loop .loop .inv .3) (omega (arith, able .few)) (omega (arith, at-set .before .before .if2 .left)) (at-loop .loop .inv .2)
+    let at-same = filled at-fill in
+    let e = within at-same in
+    let l = turn e in (
+      omega (arith, inside e .0),
+      omega (arith, at-set .before .before .if3 .left),
+      set-more _ _ _ _ _ _ _ _ _ (l .loop .inv .3) (inside e .1) (omega (arith, at-set .before .before .if3 .left)) (l .loop .inv .2)
           (at-fill .fill .ensures .0) (at-fill .fill .ensures .1) (at-set .set-row .ensures),
-      at-set .set-row .ensures .long ∙ at-fill .fill .ensures .1 .long ∙ at-loop .loop .inv .3,
+      at-set .set-row .ensures .long ∙ at-fill .fill .ensures .1 .long ∙ l .loop .inv .3,
       at-fill .fill .ensures .2,
-      at-likely .likely .ensures ∙ at-loop .loop .inv .5,
+      at-same .before .before .likely .ensures ∙ l .loop .inv .5,
+      omega (arith, few e, c .row-size2 .ensures .1),
     )
 
-returns-2 : tie.Need-returns-2 Inv-loop μ-loop
-returns-2 c =
-    let at-loop = c .before in
-    let able = at-loop .before .before .before .before .pre .0 in (
-      λ e. stored-forth _ _ _ _ _ _ (omega arith) (able .few) (at-loop .loop .inv .3) (at-loop .loop .inv .1) (at-loop .loop .inv .2),
-      at-loop .loop .inv .3,
+returns-3 : tie.Need-returns-3 Inv-loop μ-loop
+returns-3 c =
+    let l = c .before in (
+      λ e. stored-forth _ _ _ _ _ _ (omega arith) (entry l .pre .0 .few) (l .loop .inv .3) (l .loop .inv .1) (l .loop .inv .2),
+      l .loop .inv .3,
     )
 
 pub store-forth-spec : {M : Type 1} → statement M
@@ -115,23 +144,35 @@ store-forth-spec =
     (tie.spec
     Inv-loop
     μ-loop
-    (λ c. (omega arith, omega arith, stored-none _ _ _ _ _ _, c .before .before .before .pre .1, refl, refl))
-    (λ c. omega (arith, c .before .before .before .before .before .pre .0 .in-table))
-    (λ c. omega (arith, c .before .before .before .before .before .before .pre .0 .in-table))
-    (λ c. sym (c .before .before .before .loop .inv .5))
-    likely-requires
-    same-moves-requires
+    (λ c. (omega arith, omega arith, stored-none _ _ _ _ _ _, c .before .before .before .pre .1, refl, refl, omega arith))
+    (λ c κs. omega (arith, entry (c .before) .pre .0 .few))
+    (λ c. let l = c .before .before .before in l .loop .inv .3 ∙ sym (entry l .pre .1))
+    (λ c. (λ e. absurd (true≢false (sym e)), c .before .before .before .loop .inv .3))
+    (λ c. omega (arith, entry (turn c) .pre .0 .in-table))
+    (λ c. omega (arith, entry (turn (c .before)) .pre .0 .in-table))
+    (λ c. sym (turn (c .before .before) .loop .inv .5))
+    (λ c κs.
+    let l = turn (c .before .before) in
+    (entry l .pre .0 .shaped, omega (arith, l .loop .inv .5), omega (arith, l .loop .inv .5)))
+    (λ c κs.
+    let e = c .before .before .before .before in
+    let able = entry (turn e) .pre .0 in
+    (able .shaped, omega (arith, e .before .before .loop-test .taken, able .in-table)))
     share-row-requires
-    (λ c. omega arith)
-    (λ c. omega arith)
+    row-size-requires
+    (λ c. omega (arith, few (within (shared (c .before .before .before .before) .before)), c .row-size .ensures .1))
+    (λ c. omega (arith, inside (within (shared (c .before .before .before .before) .before)) .1))
+    (λ c. omega (arith, inside (within (shared (c .before .before .before .before) .before)) .0))
     loop-again
-    (λ c. sym (c .before .before .before .before .before .before .before .before .loop .inv .4))
+    (λ c. sym (turn (within (c .before .before)) .loop .inv .4))
     fill-requires
-    same-length
-    returns
+    same-length-2
+    returns-2
     set-row-requires
-    (λ c. omega arith)
-    (λ c. omega arith)
+    row-size-requires-2
+    (λ c. omega (arith, few (within (filled (c .before .before .before .before .before .before .before .before .before .before))), c .row-size2 .ensures .1))
+    (λ c. omega (arith, inside (within (filled (c .before .before .before .before .before .before .before .before .before .before))) .1))
+    (λ c. omega (arith, inside (within (filled (c .before .before .before .before .before .before .before .before .before .before))) .0))
     loop-again-2
-    (λ c. c .before .loop .inv .3 ∙ sym (c .before .before .before .before .before .pre .1))
-    returns-2)
+    (λ c. c .before .loop .inv .3 ∙ sym (entry (c .before) .pre .1))
+    returns-3)
