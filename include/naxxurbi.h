@@ -70,7 +70,7 @@
  * letters costs microseconds. What no look at single rules sees still costs a walk of 2 to the power n steps for each such entry. Measured
  * (docs/BENCHMARK.md, "odd clash"), for one such walk of 24 letters: 0.11 s with 2 limits, 1.8 s with 32 limits and 255 rules; each letter
  * less halves it. Firmware that takes papers from strangers should bound the letters or the entries that it accepts. Repeated states are
- * judged exactly, and can cost as many comparisons as the cube of the list's length.
+ * judged exactly; where many of them are next states they are counted by marks, and else compared with the entries before.
  */
 #ifndef NAXXURBI_H
 #define NAXXURBI_H

@@ -1,3 +1,5 @@
 pub mod Counting
 pub mod Covering
 pub mod Tallying
+pub mod Binding
+pub mod Marking

@@ -1,2 +1,3 @@
 pub mod Counts
 pub mod Asks
+pub mod Marked

@@ -1,17 +1,18 @@
--- A part of a paper, its states or its words, as the checkers are handed it: bytes, numbers of four each, or numbers as they are. One of
--- the two is empty; the part stands for the numbers of both, those in bytes first. Assumes nothing.
+-- A part of a paper, its states or its words, as the checkers are handed it: bytes, as many a number as its width, or numbers as they are.
+-- One of the two is empty; the part stands for the numbers of both, those in bytes first. Assumes nothing.
 use mathlib.Core.List.{List, _++_}
 use Prim.Native.Nat.{ℕ}
-use lib.ListN.{length, getD}
-use Rattle.meaning.specs.Promises.{numbersIn}
+use Rattle.meaning.specs.Promises.{numbersIn, stateBytes, wordBytes}
 
--- the numbers that a part stands for
-unfoldable pub paper : (bytes numbers : List ℕ) → List ℕ
-paper bytes numbers = numbersIn 4 bytes ++ numbers
+-- the numbers that a part stands for, `width` bytes each where they stand in bytes
+unfoldable pub paper : (width : ℕ) (bytes numbers : List ℕ) → List ℕ
+paper width bytes numbers = numbersIn width bytes ++ numbers
 
--- the i-th of them, and how many there are
-abbrev pub numberAt : (bytes numbers : List ℕ) → ℕ → ℕ
-numberAt bytes numbers i = getD (paper bytes numbers) i 0
+-- a paper's states, and its words
+unfoldable pub statesOf : (bytes numbers : List ℕ) → List ℕ
+unfolding paper
+statesOf bytes numbers = paper stateBytes bytes numbers
 
-abbrev pub countOf : (bytes numbers : List ℕ) → ℕ
-countOf bytes numbers = length (paper bytes numbers)
+unfoldable pub wordsOf : (bytes numbers : List ℕ) → List ℕ
+unfolding paper
+wordsOf bytes numbers = paper wordBytes bytes numbers

@@ -1,11 +1,10 @@
 -- The run checker's loops over any system and any list of states: looking for a kept promise from a on (Missed), and each state moving to
 -- the following one; then the whole run. Assumes nothing.
-use mathlib.Core.Path.{_≡_, refl, sym, ap, subst}
+use mathlib.Core.Path.{_≡_, subst}
 use mathlib.Core.Bool.{Bool}
 use mathlib.Core.List.{List}
-use Prim.Native.Nat.{ℕ, zero, suc, _+_, _-_, _≤_, _<_}
+use Prim.Native.Nat.{ℕ, suc, _+_, _-_, _≤_, _<_}
 use native.Mathlib.Numerals.{add-one}
-use native.Mathlib.Decide.{decLt}
 use native.Mathlib.Omega.{arith}
 use borrow.Author.Count.{below-more}
 use lib.ListN.{length, getD}
@@ -44,11 +43,8 @@ abbrev pub MovesAt : System → List ℕ → ℕ → Type 0
 MovesAt S l j = S .Move (getD l j 0) (getD l (suc j) 0)
 
 module _ (S : System) (l : List ℕ) where
-  pub next-moves : (i : ℕ) → S .Move (getD l i 0) (getD l (i + 1) 0) → MovesAt S l i
-  next-moves i move = rw add-one at move
-
-  pub next-stuck : (i : ℕ) → (S .Move (getD l i 0) (getD l (i + 1) 0) → ⊥) → MovesAt S l i → ⊥
-  next-stuck i stuck move = stuck (rw add-one move)
+  pub moves-says : (i : ℕ) {r : Bool} → Says (S .Move (getD l i 0) (getD l (i + 1) 0)) r → Says (MovesAt S l i) r
+  moves-says i {r} says = subst (λ (k : ℕ). Says (S .Move (getD l i 0) (getD l k 0)) r) (add-one i) says
 
   -- All but the last: every state that has a following one.
   pub all-move : ((j : ℕ) → j < length l - 1 → MovesAt S l j) → MovesOn S l

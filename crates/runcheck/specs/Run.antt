@@ -5,8 +5,8 @@ use Prim.Native.Nat.{ℕ, suc, _≤_, _<_}
 use lib.ListN.{length, getD}
 use Rattle.meaning.specs.System.{System}
 use Rattle.meaning.specs.Papers.{RunAccepted}
-use Rattle.meaning.specs.Promises.{Whole, Checked}
-use Rattle.papers.specs.Paper.{paper}
+use Rattle.meaning.specs.Promises.{Whole, Checked, stateBytes}
+use Rattle.papers.specs.Paper.{statesOf}
 
 -- each state moves to the following one
 abbrev pub MovesOn : System → List ℕ → Type 0
@@ -21,4 +21,4 @@ AllKept S states a = (k : ℕ) → k < S .promises → KeptFrom S states a k
 
 -- the number for a sheet, a paper and a, where the bytes must hold whole numbers
 unfoldable pub PaperChecked : (sheet bytes numbers : List ℕ) (a n : ℕ) → Type 0
-PaperChecked sheet bytes numbers a n = Checked sheet (λ S. Whole 4 bytes × RunAccepted S (paper bytes numbers) a) n
+PaperChecked sheet bytes numbers a n = Checked sheet (λ S. Whole stateBytes bytes × RunAccepted S (statesOf bytes numbers) a) n

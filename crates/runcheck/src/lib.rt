@@ -4,24 +4,27 @@
 // The theorem: each call returns the fault's number, 1 to 10, of a bad sheet; else 0 exactly if document 01 accepts the paper, else 14.
 // On numbers it returns the fault's place as well, 0 on the other answers. (`check_run` and `check_run_bytes` below;
 // what 0 then means is said in proofs/Exactly.antt.)
+use papers::STATE_BYTES;
+use papers::State;
 use papers::answer::Verdict;
-use papers::count_of;
-use papers::number_at;
+use papers::state_at;
+use papers::states_in;
 use reader::Answer;
 ghost use mathlib.Core.Path.{_≡_};
 ghost use mathlib.Core.Option.{none};
 ghost use Prim.Native.Nat.{_≤_, _<_};
+ghost use lib.ListN.{length};
 ghost use Rattle.meaning.specs.Sheet.{firstFault};
 ghost use Rattle.meaning.specs.Papers.{RunAccepted};
 ghost use Rattle.meaning.specs.Promises.{Placed, RunPlaced, RunBytesChecked};
 ghost use Rattle.ground.specs.Says.{Says};
-ghost use Rattle.papers.specs.Paper.{paper, countOf};
+ghost use Rattle.papers.specs.Paper.{statesOf};
 ghost use Rattle.rules.specs.Book.{Shaped, bookSystem};
 ghost use Rattle.runcheck.specs.Run.{MovesOn, KeptFrom, AllKept, PaperChecked};
 
 // Checks a run: these states, read to the last and then on from place a, for ever. 0 exactly if it obeys the sheet, 1 to 10 for a bad
 // sheet and the place of its fault, else 14.
-pub fn check_run(sheet: &[u8], states: &[u32], a: u32) -> Verdict
+pub fn check_run(sheet: &[u8], states: &[State], a: u32) -> Verdict
     ensures { λ r. ⌜ RunPlaced (now (sheet .entry)) (now (states .entry)) a (r .answer) (r .place) ⌝ }
 {
     check(sheet, &sheet[..0], states, a)
@@ -31,13 +34,13 @@ pub fn check_run(sheet: &[u8], states: &[u32], a: u32) -> Verdict
 pub fn check_run_bytes(sheet: &[u8], states: &[u8], a: u32) -> u32
     ensures { λ r. ⌜ RunBytesChecked (now (sheet .entry)) (now (states .entry)) a r ⌝ }
 {
-    let none = [0u32; 1];
+    let none = [0 as State; 1];
     let verdict = check(sheet, states, &none[..0], a);
     verdict.answer
 }
 
 // The sheet first, then the paper.
-fn check(sheet: &[u8], bytes: &[u8], numbers: &[u32], a: u32) -> Verdict
+fn check(sheet: &[u8], bytes: &[u8], numbers: &[State], a: u32) -> Verdict
     ensures { λ r. ⌜ Placed (now (sheet .entry)) (PaperChecked (now (sheet .entry)) (now (bytes .entry)) (now (numbers .entry)) a) (r .answer) (r .place) ⌝ }
 {
     match reader::read(sheet) {
@@ -55,11 +58,11 @@ fn check(sheet: &[u8], bytes: &[u8], numbers: &[u32], a: u32) -> Verdict
 }
 
 // For a good sheet: the bytes' length, then the run.
-fn check_paper(sheet: &[u8], bytes: &[u8], numbers: &[u32], a: u32) -> u32
+fn check_paper(sheet: &[u8], bytes: &[u8], numbers: &[State], a: u32) -> u32
     requires { ⌜ firstFault (now sheet) ≡ none ⌝ }
     ensures { λ r. ⌜ PaperChecked (now (sheet .entry)) (now (bytes .entry)) (now (numbers .entry)) a r ⌝ }
 {
-    if bytes.len() % 4 != 0 {
+    if bytes.len() % STATE_BYTES != 0 {
         return 14;
     }
     let mut book = [0u32; rules::BOOK_SIZE];
@@ -72,15 +75,15 @@ fn check_paper(sheet: &[u8], bytes: &[u8], numbers: &[u32], a: u32) -> u32
 }
 
 // Whether the run is accepted.
-fn accepted(book: &[u32], bytes: &[u8], numbers: &[u32], a: usize) -> bool
+fn accepted(book: &[u32], bytes: &[u8], numbers: &[State], a: usize) -> bool
     requires { ⌜ Shaped (now book) ⌝ }
-    ensures { λ r. ⌜ Says (RunAccepted (bookSystem (now (book .entry))) (paper (now (bytes .entry)) (now (numbers .entry))) a) r ⌝ }
+    ensures { λ r. ⌜ Says (RunAccepted (bookSystem (now (book .entry))) (statesOf (now (bytes .entry)) (now (numbers .entry))) a) r ⌝ }
 {
-    let count = count_of(bytes, numbers);
+    let count = states_in(bytes, numbers);
     if count <= a {
         return false;
     }
-    let first = number_at(bytes, numbers, 0);
+    let first = state_at(bytes, numbers, 0);
     if !rules::first_state(book, first) {
         return false;
     }
@@ -88,8 +91,8 @@ fn accepted(book: &[u32], bytes: &[u8], numbers: &[u32], a: usize) -> bool
         return false;
     }
     let end = count - 1;
-    let last = number_at(bytes, numbers, end);
-    let back = number_at(bytes, numbers, a);
+    let last = state_at(bytes, numbers, end);
+    let back = state_at(bytes, numbers, a);
     if !rules::moves(book, last, back) {
         return false;
     }
@@ -97,17 +100,17 @@ fn accepted(book: &[u32], bytes: &[u8], numbers: &[u32], a: usize) -> bool
 }
 
 // Whether each state moves to the following one.
-fn moves_on(book: &[u32], bytes: &[u8], numbers: &[u32]) -> bool
-    requires { ⌜ Shaped (now book) × (0 < countOf (now bytes) (now numbers)) ⌝ }
-    ensures { λ r. ⌜ Says (MovesOn (bookSystem (now (book .entry))) (paper (now (bytes .entry)) (now (numbers .entry)))) r ⌝ }
+fn moves_on(book: &[u32], bytes: &[u8], numbers: &[State]) -> bool
+    requires { ⌜ Shaped (now book) × (0 < length (statesOf (now bytes) (now numbers))) ⌝ }
+    ensures { λ r. ⌜ Says (MovesOn (bookSystem (now (book .entry))) (statesOf (now (bytes .entry)) (now (numbers .entry)))) r ⌝ }
 {
-    let count = count_of(bytes, numbers);
+    let count = states_in(bytes, numbers);
     let end = count - 1;
     let mut i = 0;
     while i < end {
         let next = i + 1;
-        let s = number_at(bytes, numbers, i);
-        let t = number_at(bytes, numbers, next);
+        let s = state_at(bytes, numbers, i);
+        let t = state_at(bytes, numbers, next);
         if !rules::moves(book, s, t) {
             return false;
         }
@@ -117,9 +120,9 @@ fn moves_on(book: &[u32], bytes: &[u8], numbers: &[u32]) -> bool
 }
 
 // Whether each promise is true in some state from a on.
-fn keeps_all(book: &[u32], bytes: &[u8], numbers: &[u32], a: usize) -> bool
-    requires { ⌜ Shaped (now book) × (a < countOf (now bytes) (now numbers)) ⌝ }
-    ensures { λ r. ⌜ Says (AllKept (bookSystem (now (book .entry))) (paper (now (bytes .entry)) (now (numbers .entry))) a) r ⌝ }
+fn keeps_all(book: &[u32], bytes: &[u8], numbers: &[State], a: usize) -> bool
+    requires { ⌜ Shaped (now book) × (a < length (statesOf (now bytes) (now numbers))) ⌝ }
+    ensures { λ r. ⌜ Says (AllKept (bookSystem (now (book .entry))) (statesOf (now (bytes .entry)) (now (numbers .entry))) a) r ⌝ }
 {
     let promises = rules::promises(book);
     let mut k = 0;
@@ -133,14 +136,14 @@ fn keeps_all(book: &[u32], bytes: &[u8], numbers: &[u32], a: usize) -> bool
 }
 
 // Whether promise k is.
-fn keeps(book: &[u32], bytes: &[u8], numbers: &[u32], a: usize, k: usize) -> bool
-    requires { ⌜ Shaped (now book) × (a < countOf (now bytes) (now numbers)) ⌝ }
-    ensures { λ r. ⌜ Says (KeptFrom (bookSystem (now (book .entry))) (paper (now (bytes .entry)) (now (numbers .entry))) a k) r ⌝ }
+fn keeps(book: &[u32], bytes: &[u8], numbers: &[State], a: usize, k: usize) -> bool
+    requires { ⌜ Shaped (now book) × (a < length (statesOf (now bytes) (now numbers))) ⌝ }
+    ensures { λ r. ⌜ Says (KeptFrom (bookSystem (now (book .entry))) (statesOf (now (bytes .entry)) (now (numbers .entry))) a k) r ⌝ }
 {
-    let count = count_of(bytes, numbers);
+    let count = states_in(bytes, numbers);
     let mut i = a;
     while i < count {
-        let s = number_at(bytes, numbers, i);
+        let s = state_at(bytes, numbers, i);
         if rules::kept(book, k, s) {
             return true;
         }

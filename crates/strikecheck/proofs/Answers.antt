@@ -1,61 +1,47 @@
--- The strike checker's number and place: of a bad sheet the reader's, else 14 for bytes that hold no whole numbers, else by the list; and the two
+-- The strike checker's number on a good sheet: 14 for bytes that hold no whole numbers, else by the list; and the two
 -- public promises from the one that the shared function keeps. Assumes nothing.
-use mathlib.Core.Path.{_≡_, refl, sym, subst, subst₂}
+use mathlib.Core.Path.{_≡_, refl, sym, subst₂}
 use mathlib.Core.Option.{none}
 use mathlib.Core.List.{List, []}
 use Prim.Native.Nat.{ℕ, _%_}
 use lib.ListN.{length}
-use Rattle.meaning.specs.System.{System}
 use Rattle.meaning.specs.Sheet.{firstFault, decode}
 use Rattle.meaning.specs.Papers.{StrikesAccepted}
 use Rattle.meaning.specs.Promises.{Placed, Whole, stateBytes, wordBytes, StrikesChecked, StrikesPlaced, StrikesBytesChecked}
-use Rattle.reader.specs.declared.Fault as F
-use Rattle.reader.specs.Answer.{whyNumber}
-use Rattle.reader.proofs.Good.{Faulty}
-use Rattle.rules.specs.Book.{bookSystem}
-use Rattle.compile.specs.Promise.{BookOf}
 use Rattle.compile.proofs.Same.{book-system}
-use Rattle.papers.specs.Paper.{paper}
-use Rattle.papers.proofs.Numbers.{paper-of-bytes, paper-of-numbers}
-use Rattle.papers.proofs.Verdict.{placed-faulty, placed-good, accepts, refuses, refuses-always, checked-as}
+use Rattle.compile.specs.Promise.{BookOf}
+use Rattle.rules.specs.Book.{bookSystem}
+use Rattle.papers.specs.Paper.{statesOf, wordsOf}
+use Rattle.papers.proofs.Numbers.{states-of-bytes, states-of-numbers, words-of-bytes, words-of-numbers}
+use Rattle.papers.proofs.Verdict.{accepts, refuses, refuses-always, checked-as}
 use Rattle.strikecheck.specs.Strikes.{PaperChecked}
 
-module _ (sheet sb sn wb wn : List ℕ) where
-  -- a bad sheet's number and place
-  pub answers-fault : {f : F.Fault} {n place : ℕ} → Faulty sheet f → n ≡ whyNumber (f .why) → place ≡ f .at
-      → Placed sheet (PaperChecked sheet sb sn wb wn) n place
+-- On a good sheet.
+module _ (sheet sb sn wb wn : List ℕ) (good : firstFault sheet ≡ none) where
+  pub answers-odd-states : (length sb % 4 ≡ 0 → ⊥) → PaperChecked sheet sb sn wb wn 14
+  unfolding PaperChecked Whole stateBytes wordBytes
+  answers-odd-states odd = refuses-always good (λ S h. odd (h .0))
+
+  pub answers-odd-words : (length wb % 4 ≡ 0 → ⊥) → PaperChecked sheet sb sn wb wn 14
+  unfolding PaperChecked Whole stateBytes wordBytes
+  answers-odd-words odd = refuses-always good (λ S h. odd (h .1))
+
+  pub answers-accepted : length sb % 4 ≡ 0 → length wb % 4 ≡ 0 → {book : List ℕ} → BookOf (decode sheet) book
+      → StrikesAccepted (bookSystem book) (statesOf sb sn) (wordsOf wb wn) → PaperChecked sheet sb sn wb wn 0
+  unfolding PaperChecked Whole stateBytes wordBytes
+  answers-accepted s w book ok = accepts good (book-system book) (s, w, ok)
+
+  pub answers-refused : {book : List ℕ} → BookOf (decode sheet) book
+      → (StrikesAccepted (bookSystem book) (statesOf sb sn) (wordsOf wb wn) → ⊥) → PaperChecked sheet sb sn wb wn 14
   unfolding PaperChecked
-  answers-fault bad number place = placed-faulty sheet bad number place
-
-  module _ (good : firstFault sheet ≡ none) where
-    pub answers-good : {n : ℕ} → PaperChecked sheet sb sn wb wn n → Placed sheet (PaperChecked sheet sb sn wb wn) n 0
-    unfolding PaperChecked
-    answers-good checked = placed-good sheet good checked
-
-    pub answers-odd-states : (length sb % 4 ≡ 0 → ⊥) → PaperChecked sheet sb sn wb wn 14
-    unfolding PaperChecked Whole
-    answers-odd-states odd = refuses-always good (λ S h. odd (h .0))
-
-    pub answers-odd-words : (length wb % 4 ≡ 0 → ⊥) → PaperChecked sheet sb sn wb wn 14
-    unfolding PaperChecked Whole
-    answers-odd-words odd = refuses-always good (λ S h. odd (h .1))
-
-    pub answers-accepted : length sb % 4 ≡ 0 → length wb % 4 ≡ 0 → {book : List ℕ} → BookOf (decode sheet) book
-        → StrikesAccepted (bookSystem book) (paper sb sn) (paper wb wn) → PaperChecked sheet sb sn wb wn 0
-    unfolding PaperChecked Whole
-    answers-accepted s w book ok = accepts good (book-system book) (s, w, ok)
-
-    pub answers-refused : {book : List ℕ} → BookOf (decode sheet) book
-        → (StrikesAccepted (bookSystem book) (paper sb sn) (paper wb wn) → ⊥) → PaperChecked sheet sb sn wb wn 14
-    unfolding PaperChecked
-    answers-refused book no-list = refuses good (book-system book) (λ h. no-list (h .2))
+  answers-refused book no-list = refuses good (book-system book) (λ h. no-list (h .2))
 
 -- With no bytes it is the promise on numbers.
 strikes-checked : (sheet states words : List ℕ) (n : ℕ) → PaperChecked sheet [] states [] words n → StrikesChecked sheet states words n
-unfolding PaperChecked Whole StrikesChecked
+unfolding PaperChecked Whole StrikesChecked stateBytes wordBytes
 strikes-checked sheet states words n =
-    checked-as (λ S h. subst₂ (λ (s w : List ℕ). StrikesAccepted S s w) (paper-of-numbers states) (paper-of-numbers words) (h .2))
-    (λ S h. (refl, refl, subst₂ (λ (s w : List ℕ). StrikesAccepted S s w) (sym (paper-of-numbers states)) (sym (paper-of-numbers words)) h))
+    checked-as (λ S h. subst₂ (λ (s w : List ℕ). StrikesAccepted S s w) (states-of-numbers states) (words-of-numbers words) (h .2))
+    (λ S h. (refl, refl, subst₂ (λ (s w : List ℕ). StrikesAccepted S s w) (sym (states-of-numbers states)) (sym (words-of-numbers words)) h))
 
 pub strikes-placed : (sheet states words : List ℕ) (n place : ℕ) → Placed sheet (PaperChecked sheet [] states [] words) n place
     → StrikesPlaced sheet states words n place
@@ -66,5 +52,5 @@ strikes-placed sheet states words n place p = record { number = strikes-checked 
 pub strikes-bytes-checked : (sheet states words : List ℕ) (n : ℕ) → PaperChecked sheet states [] words [] n → StrikesBytesChecked sheet states words n
 unfolding PaperChecked StrikesBytesChecked stateBytes wordBytes
 strikes-bytes-checked sheet states words n =
-    checked-as (λ S h. (h .0, h .1, subst₂ (λ (s w : List ℕ). StrikesAccepted S s w) (paper-of-bytes states) (paper-of-bytes words) (h .2)))
-    (λ S h. (h .0, h .1, subst₂ (λ (s w : List ℕ). StrikesAccepted S s w) (sym (paper-of-bytes states)) (sym (paper-of-bytes words)) (h .2)))
+    checked-as (λ S h. (h .0, h .1, subst₂ (λ (s w : List ℕ). StrikesAccepted S s w) (states-of-bytes states) (words-of-bytes words) (h .2)))
+    (λ S h. (h .0, h .1, subst₂ (λ (s w : List ℕ). StrikesAccepted S s w) (sym (states-of-bytes states)) (sym (words-of-bytes words)) (h .2)))

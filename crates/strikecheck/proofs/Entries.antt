@@ -2,7 +2,7 @@
 -- places, as many as have such words (among-listed, listed-among); and an entry is right if no promise of its reason is kept and its next
 -- states are there (entry-says). Assumes nothing.
 use mathlib.Core.Path.{_≡_, refl, sym, ap, subst}
-use mathlib.Core.Bool.{Bool, true, false}
+use mathlib.Core.Bool.{Bool, true}
 use mathlib.Core.List.{List}
 use Prim.Native.Nat.{ℕ, zero, suc, _+_, _-_, _%_, _≤_, _<_}
 use native.Mathlib.Decide.{decLt}
@@ -11,15 +11,16 @@ use borrow.Author.Count.{below-more}
 use lib.ListN.{length, getD}
 use Rattle.meaning.specs.System.{System}
 use Rattle.meaning.specs.Papers.{Listed, EntryRight, StrikesAccepted}
-use Rattle.ground.specs.Says.{Says}
 use Rattle.ground.specs.Listed.{Has}
 use Rattle.ground.proofs.Saying.{says-as}
-use Rattle.rules.specs.Book.{bookSystem, bookLawful}
+use Rattle.ground.specs.Says.{Says}
+use Rattle.rules.specs.Book.{Shaped, bookSystem, bookLawful, promisesOf}
 use Rattle.rules.specs.Freer.{Freer}
 use Rattle.rules.proofs.Facts.{lawful-true}
 use Rattle.rules.proofs.FreerLaws.{freer-moves}
 use Rattle.papers.proofs.Loops.{Passed, passed-none, passed-more}
-use Rattle.covers.specs.Asks.{AllLawful, FirstsListed, NextsWithin}
+use Rattle.apart.specs.Apart.{Different}
+use Rattle.covers.specs.Asks.{AllLawful, FirstsListed, NextsWithin, StatesAsk}
 use Rattle.strikecheck.specs.Strikes.{Rising, ReasonsFit, EntryOk, EntriesOk, KeptBy, StateOk, placesOf, Under, Reach, Follows, EntryAsks, EntriesAsk}
 
 -- ---- words that never fall
@@ -92,6 +93,16 @@ listed-among states words {limit} {m} as-many rising r t (j, h, e, small) = by (
 
 -- ---- an entry
 
+-- A word's reason is at most the number of promises, or above it.
+module _ (book : List ℕ) {word x promises : ℕ} (word-is : word ≡ x) (promises-are : promises ≡ promisesOf book) where
+  pub reason-fits : word % 32 ≤ promises → x % 32 ≤ bookSystem book .promises
+  unfolding bookSystem
+  reason-fits h = let e = ap (λ (w : ℕ). w % 32) word-is in omega arith
+
+  pub reason-above : promises < word % 32 → x % 32 ≤ bookSystem book .promises → ⊥
+  unfolding bookSystem
+  reason-above h fits = let e = ap (λ (w : ℕ). w % 32) word-is in omega arith
+
 pub near-places : (reason near far : ℕ) → reason ≡ 0 → near ≡ placesOf reason near far
 near-places reason near far e = sym (ap (λ (r : ℕ). placesOf r near far) e)
 
@@ -121,14 +132,6 @@ module _ (S : System) (states words : List ℕ) (as-many : length words ≡ leng
   right-looked zero word s near far n f ok = (λ k. k, λ t move. listed-among states words as-many rising n t (ok t move))
   right-looked (suc k) word s near far n f ok =
       (ok .0, λ t move. let l = ok .1 t move in listed-among states words as-many rising f t (l .0, l .1, l .2, omega (arith, l .3)))
-
-  pub entry-says : (i : ℕ) {s word m near far : ℕ} {r : Bool} → s ≡ getD states i 0 → word ≡ getD words i 0 → Reach words word near
-      → Reach words (word + 1) far → m ≡ placesOf (word % 32) near far → Says (StateOk S (word % 32) s states m) r → Says (EntryOk S states words i) r
-  entry-says i {s} {word} {m} {near} {far} {r} s-is word-is n f m-is says =
-      subst (λ (w : ℕ). Says (EntryRight S states words (w % 32) w (getD states i 0)) r) word-is
-      (subst (λ (x : ℕ). Says (EntryRight S states words (word % 32) word x) r) s-is
-      (says-as (looked-right (word % 32) word s near far n f) (right-looked (word % 32) word s near far n f)
-      (subst (λ (k : ℕ). Says (StateOk S (word % 32) s states k) r) m-is says)))
 
 -- ---- what was shown for one state serves another
 
@@ -163,89 +166,96 @@ module _ (S : System) (states words : List ℕ) (as-many : length words ≡ leng
   earlier-places (suc r) (suc k) v w s near far a b h ok n f t move =
       let (j, i, e, small) = ok .1 t move in listed-among states words as-many rising f t (j, i, e, omega arith)
 
--- So the next states of a state that may move only where an earlier entry's may are there too, once that entry is right.
-pub follows-within : {book states words : List ℕ} {distinct : Bool} → EntriesAsk book states words distinct → {i s word m near far : ℕ}
-    → i < length states → s ≡ getD states i 0 → word ≡ getD words i 0 → Reach words word near → Reach words (word + 1) far
-    → m ≡ placesOf (word % 32) near far → ((j : ℕ) → j < i → EntryOk (bookSystem book) states words j) → Follows book states i
-    → NextsWithin (bookSystem book) s states m
-follows-within {book} {states} {words} asks {i} {s} {word} {m} {near} {far} h s-is word-is n f m-is right w t move =
-    subst (λ (k : ℕ). Has states k t) (sym m-is)
-    (earlier-places (bookSystem book) states words (asks .as-many) (asks .rising) (getD words k 0 % 32) (word % 32) (getD words k 0) word u near far
-    refl refl up (right k (w .before)) n f t
-    (freer-moves book u (getD states i 0) lawful (w .freer) t (subst (λ (x : ℕ). bookSystem book .Move x t) s-is move)))
-  where
-    k : ℕ
-    k = w .place
+-- ---- a turn: entry i as the code has it, its state, its word, and the places of smaller words and of no larger ones
 
-    u : ℕ
-    u = getD states k 0
+pub record Turn (book states words : List ℕ) (distinct : Bool) (i s word near far : ℕ) : Type 0 where
+  pub asks : EntriesAsk book states words distinct
+  pub inside : i < length states
+  pub s-is : s ≡ getD states i 0
+  pub word-is : word ≡ getD words i 0
+  pub nearer : Reach words word near
+  pub farther : Reach words (word + 1) far
 
-    up : getD words k 0 ≤ word
-    up = omega (arith, later-no-smaller words (asks .rising) k i (omega (arith, w .before)) (omega (arith, asks .as-many)), word-is)
+module _ {book states words : List ℕ} {distinct : Bool} {i s word near far : ℕ} (turn : Turn book states words distinct i s word near far) {m : ℕ}
+    (m-is : m ≡ placesOf (word % 32) near far) where
+  -- What is shown of the state among the first m is what the entry must show.
+  pub entry-says : {r : Bool} → Says (StateOk (bookSystem book) (word % 32) s states m) r → Says (EntryOk (bookSystem book) states words i) r
+  entry-says {r} says =
+      subst (λ (w : ℕ). Says (EntryRight (bookSystem book) states words (w % 32) w (getD states i 0)) r) (turn .word-is)
+      (subst (λ (x : ℕ). Says (EntryRight (bookSystem book) states words (word % 32) word x) r) (turn .s-is)
+      (says-as (looked-right _ states words (turn .asks .as-many) (turn .asks .rising) (word % 32) word s near far (turn .nearer) (turn .farther))
+      (right-looked _ states words (turn .asks .as-many) (turn .asks .rising) (word % 32) word s near far (turn .nearer) (turn .farther))
+      (subst (λ (k : ℕ). Says (StateOk (bookSystem book) (word % 32) s states k) r) m-is says)))
 
-    lawful : bookLawful book u ≡ true
-    lawful = lawful-true book u (asks .states-ask .lawful k (omega (arith, w .before)))
+  -- The next states of a state that may move only where an earlier entry's may are there, once that entry is right.
+  pub follows-within : ((j : ℕ) → j < i → EntryOk (bookSystem book) states words j) → Follows book states i → NextsWithin (bookSystem book) s states m
+  follows-within right w t move =
+      subst (λ (k : ℕ). Has states k t) (sym m-is)
+      (earlier-places (bookSystem book) states words (turn .asks .as-many) (turn .asks .rising) (getD words k 0 % 32) (word % 32) (getD words k 0) word u near far
+      refl refl up (right k (w .before)) (turn .nearer) (turn .farther) t
+      (freer-moves book u (getD states i 0) lawful (w .freer) t (subst (λ (x : ℕ). bookSystem book .Move x t) (turn .s-is) move)))
+    where
+      k : ℕ
+      k = w .place
 
--- What the next states are looked for in, that the entry's state is lawful, and that they are there if that is known.
-pub entry-asks : {book states words : List ℕ} {distinct : Bool} → EntriesAsk book states words distinct → {word near far m : ℕ} → Reach words word near
-    → Reach words (word + 1) far → (reason : ℕ) → m ≡ placesOf reason near far → (i : ℕ) {s : ℕ} → i < length states → s ≡ getD states i 0
-    → {known : Bool} → (known ≡ true → NextsWithin (bookSystem book) s states m) → EntryAsks book s states m distinct known
-entry-asks {book} {states} {words} asks {word} {near} {far} {m} n f reason m-is i h s-is there = record {
-  states-ask = record {
-    shaped = asks .states-ask .shaped;
-    lawful = asks .states-ask .lawful;
-    within = subst (λ (k : ℕ). k ≤ length states) (sym m-is) (by reason);
-    different = asks .states-ask .different;
-  };
-  lawful = subst (λ (x : ℕ). bookSystem book .Lawful x) (sym s-is) (asks .states-ask .lawful i h);
-  there = there;
-}
-  where
-    by : (reason : ℕ) → placesOf reason near far ≤ length states
-    by zero = omega (arith, n .under .within, asks .as-many)
-    by (suc k) = omega (arith, f .under .within, asks .as-many)
+      u : ℕ
+      u = getD states k 0
+
+      up : getD words k 0 ≤ word
+      up = omega (arith, later-no-smaller words (turn .asks .rising) k i (omega (arith, w .before)) (omega (arith, turn .asks .as-many, turn .inside)), turn .word-is)
+
+      lawful : bookLawful book u ≡ true
+      lawful = lawful-true book u (turn .asks .states-ask .lawful k (omega (arith, w .before, turn .inside)))
+
+  -- What the next states are looked for in, that the entry's state is lawful, and that they are there if that is known.
+  pub entry-asks : {known : Bool} → (known ≡ true → NextsWithin (bookSystem book) s states m) → EntryAsks book s states m distinct known
+  entry-asks there = record {
+    states-ask = record {
+      shaped = turn .asks .states-ask .shaped;
+      lawful = turn .asks .states-ask .lawful;
+      within = subst (λ (k : ℕ). k ≤ length states) (sym m-is) (by (word % 32));
+      different = turn .asks .states-ask .different;
+    };
+    lawful = subst (λ (x : ℕ). bookSystem book .Lawful x) (sym (turn .s-is)) (turn .asks .states-ask .lawful i (turn .inside));
+    there = there;
+  }
+    where
+      by : (reason : ℕ) → placesOf reason near far ≤ length states
+      by zero = omega (arith, turn .nearer .under .within, turn .asks .as-many)
+      by (suc k) = omega (arith, turn .farther .under .within, turn .asks .as-many)
 
 -- ---- all entries
 
--- The first i entries are right, and the two counts of places are no farther than entry i allows.
+-- The first i entries are right, and the two counts of places are no farther than entry i's word allows.
 pub record Entered (S : System) (states words : List ℕ) (count i near far : ℕ) : Type 0 where
   pub entered : Passed (EntryOk S states words) (length states) count i
-  pub near-under : i < length words → Under words (getD words i 0) near
-  pub far-under : i < length words → Under words (getD words i 0 + 1) far
+  pub near-under : {word : ℕ} → i < length words → word ≡ getD words i 0 → Under words word near
+  pub far-under : {word : ℕ} → i < length words → word ≡ getD words i 0 → Under words (word + 1) far
 
 pub entered-none : {S : System} {states words : List ℕ} {count : ℕ} → count ≡ length states → Entered S states words count 0 0 0
-entered-none {words} e = record { entered = passed-none e; near-under = λ h. nothing _; far-under = λ h. nothing _ }
+entered-none {words} e = record { entered = passed-none e; near-under = λ h _. nothing _; far-under = λ h _. nothing _ }
   where
     nothing : (limit : ℕ) → Under words limit 0
     nothing limit = record { within = omega arith; below = λ j h. absurd (omega arith) }
 
--- Where the two counts of places go on from.
-pub near-start : {book states words : List ℕ} {distinct : Bool} → EntriesAsk book states words distinct → {S : System} {count i near far word : ℕ}
-    → Entered S states words count i near far → i < count → word ≡ getD words i 0 → Under words word near
-near-start {words = words} asks {near = near} so-far h word-is =
-    subst (λ (w : ℕ). Under words w near) (sym word-is) (so-far .near-under (omega (arith, so-far .entered .counted, asks .as-many)))
-
-pub far-start : {book states words : List ℕ} {distinct : Bool} → EntriesAsk book states words distinct → {S : System} {count i near far word : ℕ}
-    → Entered S states words count i near far → i < count → word ≡ getD words i 0 → Under words (word + 1) far
-far-start {words = words} asks {far = far} so-far h word-is =
-    subst (λ (w : ℕ). Under words (w + 1) far) (sym word-is) (so-far .far-under (omega (arith, so-far .entered .counted, asks .as-many)))
-
-pub entered-more : {S : System} {states words : List ℕ} {count i near near′ far far′ word : ℕ} → Rising words → Entered S states words count i near far
-    → i < count → word ≡ getD words i 0 → Reach words word near′ → Reach words (word + 1) far′ → EntryOk S states words i
-    → Entered S states words count (i + 1) near′ far′
-entered-more {S} {states} {words} {count} {i} {near} {near′} {far} {far′} {word} rising so-far h word-is n f ok = record {
+pub entered-more : {book states words : List ℕ} {distinct : Bool} {count i s word near near′ far far′ : ℕ}
+    → Turn book states words distinct i s word near′ far′ → Entered (bookSystem book) states words count i near far → i < count
+    → EntryOk (bookSystem book) states words i → Entered (bookSystem book) states words count (i + 1) near′ far′
+entered-more {words = words} {i = i} {word = word} turn so-far h ok = record {
   entered = passed-more (so-far .entered) h ok;
-  near-under = λ q. under-higher (up q) (n .under);
-  far-under = λ q. under-higher (up-one q) (f .under);
+  near-under = λ q e. under-higher (omega (arith, up q)) (turn .nearer .under);
+  far-under = λ q e. under-higher (omega (arith, up q)) (turn .farther .under);
 }
   where
     up : i + 1 < length words → word ≤ getD words (i + 1) 0
     up q =
         let e : suc i ≡ i + 1 = omega arith in
-        subst (λ (k : ℕ). word ≤ getD words k 0) e (omega (arith, rising i (omega arith), word-is))
+        subst (λ (k : ℕ). word ≤ getD words k 0) e (omega (arith, turn .asks .rising i (omega arith), turn .word-is))
 
-    up-one : i + 1 < length words → word + 1 ≤ getD words (i + 1) 0 + 1
-    up-one q = omega (arith, up q)
+-- Lawful states, of which all are looked at.
+pub states-asked : {book states : List ℕ} {distinct : Bool} → Shaped book → AllLawful (bookSystem book) states → (distinct ≡ true → Different states)
+    → StatesAsk book states (length states) distinct
+states-asked shaped lawful different = record { shaped = shaped; lawful = lawful; within = omega arith; different = different }
 
 -- Where all but the entries is in order, the entries decide.
 pub entries-decide : (S : System) (states words : List ℕ) {r : Bool} → length words ≡ length states → Rising words → ReasonsFit S words → AllLawful S states

@@ -1,4 +1,3 @@
 pub mod Entries
 pub mod Answers
 pub mod Exactly
-pub mod Windows

@@ -1,2 +1,1 @@
 pub mod Strikes
-pub mod Windows

@@ -8,10 +8,10 @@ use Prim.Native.Nat.{ℕ, zero, suc, _%_, _≤_, _<_}
 use lib.ListN.{length, getD}
 use Rattle.meaning.specs.System.{System}
 use Rattle.meaning.specs.Papers.{EntryRight, StrikesAccepted}
-use Rattle.meaning.specs.Promises.{Whole, Checked}
+use Rattle.meaning.specs.Promises.{Whole, Checked, stateBytes, wordBytes}
 use Rattle.rules.specs.Book.{bookSystem}
 use Rattle.rules.specs.Freer.{Freer}
-use Rattle.papers.specs.Paper.{paper}
+use Rattle.papers.specs.Paper.{statesOf, wordsOf}
 use Rattle.covers.specs.Asks.{NextsWithin, StatesAsk}
 
 -- the words never fall; each remainder by 32 is at most p
@@ -71,12 +71,12 @@ pub record EntriesAsk (book states words : List ℕ) (distinct : Bool) : Type 0 
 
 -- in a book's system, for parts in bytes and numbers: the list is accepted; its entries are right
 abbrev pub Accepted : (book sb sn wb wn : List ℕ) → Type 0
-Accepted book sb sn wb wn = StrikesAccepted (bookSystem book) (paper sb sn) (paper wb wn)
+Accepted book sb sn wb wn = StrikesAccepted (bookSystem book) (statesOf sb sn) (wordsOf wb wn)
 
 abbrev pub AllRight : (book sb sn wb wn : List ℕ) → Type 0
-AllRight book sb sn wb wn = EntriesOk (bookSystem book) (paper sb sn) (paper wb wn)
+AllRight book sb sn wb wn = EntriesOk (bookSystem book) (statesOf sb sn) (wordsOf wb wn)
 
 -- the number for a sheet and a paper, where bytes must hold whole numbers
 unfoldable pub PaperChecked : (sheet state-bytes state-numbers word-bytes word-numbers : List ℕ) (n : ℕ) → Type 0
 PaperChecked sheet sb sn wb wn n =
-    Checked sheet (λ S. Whole 4 sb × Whole 4 wb × StrikesAccepted S (paper sb sn) (paper wb wn)) n
+    Checked sheet (λ S. Whole stateBytes sb × Whole wordBytes wb × StrikesAccepted S (statesOf sb sn) (wordsOf wb wn)) n

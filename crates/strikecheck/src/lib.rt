@@ -8,33 +8,35 @@
 // It does not search, it counts: words never fall, so "listed with a smaller word" is "among the first m entries"; and all next states are
 // among them exactly if there are as many next states as different ones among these entries. A state that may move only where one
 // of an earlier entry may needs no count of its own: that entry's next states are among no more than the first m.
+use apart::all_different;
 use covers::firsts_listed;
 use covers::nexts_within;
-use marks::mark;
-use marks::met;
+use papers::STATE_BYTES;
+use papers::State;
+use papers::WORD_BYTES;
 use papers::answer::Verdict;
-use papers::count_of;
-use papers::number_at;
+use papers::state_at;
+use papers::states_in;
+use papers::word_at;
+use papers::words_in;
 use reader::Answer;
 ghost use mathlib.Core.Path.{_≡_};
 ghost use mathlib.Core.Bool.{true};
 ghost use mathlib.Core.Option.{none};
-ghost use Prim.Native.Nat.{_<_, min};
+ghost use Prim.Native.Nat.{_<_};
 ghost use lib.ListN.{length};
 ghost use Rattle.meaning.specs.Sheet.{firstFault};
 ghost use Rattle.meaning.specs.Promises.{Placed, StrikesPlaced, StrikesBytesChecked};
 ghost use Rattle.ground.specs.Says.{Says};
-ghost use Rattle.papers.specs.Paper.{paper};
+ghost use Rattle.papers.specs.Paper.{statesOf, wordsOf};
 ghost use Rattle.rules.specs.Book.{Shaped, bookSystem};
 ghost use Rattle.covers.specs.Asks.{AllLawful};
-ghost use Rattle.covers.specs.Counts.{Different};
 ghost use Rattle.strikecheck.specs.Strikes.{Rising, ReasonsFit, StateOk, KeptBy, placesOf, Under, Reach};
 ghost use Rattle.strikecheck.specs.Strikes.{Follows, EntryAsks, EntriesAsk, Accepted, AllRight, PaperChecked};
-ghost use Rattle.strikecheck.specs.Windows.{pastAll, Window};
 
 // Checks a strike list. 0 exactly if document 01 accepts it (then no run obeys the sheet), 1 to 10 for a bad sheet and the place of its fault,
 // else 14.
-pub fn check_strikes(sheet: &[u8], states: &[u32], words: &[u32]) -> Verdict
+pub fn check_strikes(sheet: &[u8], states: &[State], words: &[u32]) -> Verdict
     ensures { λ r. ⌜ StrikesPlaced (now (sheet .entry)) (now (states .entry)) (now (words .entry)) (r .answer) (r .place) ⌝ }
 {
     check(sheet, &sheet[..0], states, &sheet[..0], words)
@@ -51,7 +53,7 @@ pub fn check_strikes_bytes(sheet: &[u8], states: &[u8], words: &[u8]) -> u32
 }
 
 // The sheet first, then the paper. sb and sn are the states, wb and wn the words.
-fn check(sheet: &[u8], sb: &[u8], sn: &[u32], wb: &[u8], wn: &[u32]) -> Verdict
+fn check(sheet: &[u8], sb: &[u8], sn: &[State], wb: &[u8], wn: &[u32]) -> Verdict
     ensures { λ r. ⌜ Placed (now (sheet .entry))
         (PaperChecked (now (sheet .entry)) (now (sb .entry)) (now (sn .entry)) (now (wb .entry)) (now (wn .entry))) (r .answer) (r .place) ⌝ }
 {
@@ -70,14 +72,14 @@ fn check(sheet: &[u8], sb: &[u8], sn: &[u32], wb: &[u8], wn: &[u32]) -> Verdict
 }
 
 // For a good sheet: the bytes' lengths, then the list.
-fn check_paper(sheet: &[u8], sb: &[u8], sn: &[u32], wb: &[u8], wn: &[u32]) -> u32
+fn check_paper(sheet: &[u8], sb: &[u8], sn: &[State], wb: &[u8], wn: &[u32]) -> u32
     requires { ⌜ firstFault (now sheet) ≡ none ⌝ }
     ensures { λ r. ⌜ PaperChecked (now (sheet .entry)) (now (sb .entry)) (now (sn .entry)) (now (wb .entry)) (now (wn .entry)) r ⌝ }
 {
-    if sb.len() % 4 != 0 {
+    if sb.len() % STATE_BYTES != 0 {
         return 14;
     }
-    if wb.len() % 4 != 0 {
+    if wb.len() % WORD_BYTES != 0 {
         return 14;
     }
     let mut book = [0u32; rules::BOOK_SIZE];
@@ -90,12 +92,12 @@ fn check_paper(sheet: &[u8], sb: &[u8], sn: &[u32], wb: &[u8], wn: &[u32]) -> u3
 }
 
 // Whether the list is accepted.
-fn accepted(book: &[u32], sb: &[u8], sn: &[u32], wb: &[u8], wn: &[u32]) -> bool
+fn accepted(book: &[u32], sb: &[u8], sn: &[State], wb: &[u8], wn: &[u32]) -> bool
     requires { ⌜ Shaped (now book) ⌝ }
     ensures { λ r. ⌜ Says (Accepted (now (book .entry)) (now (sb .entry)) (now (sn .entry)) (now (wb .entry)) (now (wn .entry))) r ⌝ }
 {
-    let states = count_of(sb, sn);
-    let words = count_of(wb, wn);
+    let states = states_in(sb, sn);
+    let words = words_in(wb, wn);
     if words != states {
         return false;
     }
@@ -117,14 +119,14 @@ fn accepted(book: &[u32], sb: &[u8], sn: &[u32], wb: &[u8], wn: &[u32]) -> bool
 
 // Whether the words never fall.
 fn words_rise(wb: &[u8], wn: &[u32]) -> bool
-    ensures { λ r. ⌜ Says (Rising (paper (now (wb .entry)) (now (wn .entry)))) r ⌝ }
+    ensures { λ r. ⌜ Says (Rising (wordsOf (now (wb .entry)) (now (wn .entry)))) r ⌝ }
 {
-    let words = count_of(wb, wn);
+    let words = words_in(wb, wn);
     let mut i = 1;
     while i < words {
         let before = i - 1;
-        let earlier = number_at(wb, wn, before);
-        let later = number_at(wb, wn, i);
+        let earlier = word_at(wb, wn, before);
+        let later = word_at(wb, wn, i);
         if later < earlier {
             return false;
         }
@@ -136,13 +138,13 @@ fn words_rise(wb: &[u8], wn: &[u32]) -> bool
 // Whether each word's remainder by 32 is at most the number of promises.
 fn reasons_fit(book: &[u32], wb: &[u8], wn: &[u32]) -> bool
     requires { ⌜ Shaped (now book) ⌝ }
-    ensures { λ r. ⌜ Says (ReasonsFit (bookSystem (now (book .entry))) (paper (now (wb .entry)) (now (wn .entry)))) r ⌝ }
+    ensures { λ r. ⌜ Says (ReasonsFit (bookSystem (now (book .entry))) (wordsOf (now (wb .entry)) (now (wn .entry)))) r ⌝ }
 {
     let promises = rules::promises(book);
-    let words = count_of(wb, wn);
+    let words = words_in(wb, wn);
     let mut i = 0;
     while i < words {
-        let word = number_at(wb, wn, i);
+        let word = word_at(wb, wn, i);
         let reason = (word % 32) as usize;
         if promises < reason {
             return false;
@@ -153,14 +155,14 @@ fn reasons_fit(book: &[u32], wb: &[u8], wn: &[u32]) -> bool
 }
 
 // Whether each state is lawful.
-fn all_lawful(book: &[u32], sb: &[u8], sn: &[u32]) -> bool
+fn all_lawful(book: &[u32], sb: &[u8], sn: &[State]) -> bool
     requires { ⌜ Shaped (now book) ⌝ }
-    ensures { λ r. ⌜ Says (AllLawful (bookSystem (now (book .entry))) (paper (now (sb .entry)) (now (sn .entry)))) r ⌝ }
+    ensures { λ r. ⌜ Says (AllLawful (bookSystem (now (book .entry))) (statesOf (now (sb .entry)) (now (sn .entry)))) r ⌝ }
 {
-    let states = count_of(sb, sn);
+    let states = states_in(sb, sn);
     let mut i = 0;
     while i < states {
-        let s = number_at(sb, sn, i);
+        let s = state_at(sb, sn, i);
         if !rules::lawful(book, s) {
             return false;
         }
@@ -169,68 +171,20 @@ fn all_lawful(book: &[u32], sb: &[u8], sn: &[u32]) -> bool
     true
 }
 
-// True only if no state stands twice; the counts are then quicker. Windows of 8,192 numbers are looked at in turn, from 0 up; windows that
-// hold no state are passed over.
-fn all_different(sb: &[u8], sn: &[u32]) -> bool
-    ensures { λ r. ⌜ (r ≡ true → Different (paper (now (sb .entry)) (now (sn .entry)))) ⌝ }
-{
-    let mut low: u64 = 0;
-    while low < 4294967296 {
-        low = window(sb, sn, low);
-        if low > 4294967296 {
-            return false;
-        }
-    }
-    true
-}
-
-// Looks at the states from low up to low + 8192, with a mark for each: 2^32 + 1 where one is marked already, else the least state from
-// low + 8192 on, or 2^32 where there is none.
-fn window(sb: &[u8], sn: &[u32], low: u64) -> u64
-    requires { ⌜ low < pastAll ⌝ }
-    ensures { λ r. ⌜ Window (paper (now (sb .entry)) (now (sn .entry))) low r ⌝ }
-{
-    let states = count_of(sb, sn);
-    let mut marks = [0u32; 256];
-    let mut next: u64 = 4294967296;
-    let mut i = 0;
-    while i < states {
-        let s = number_at(sb, sn, i) as u64;
-        if s < low {
-            i += 1;
-        } else {
-            let k = s - low;
-            if k < 8192 {
-                let word = (k / 32) as usize;
-                let bit = (k % 32) as usize;
-                if met(marks[word], bit) {
-                    return 4294967297;
-                }
-                marks[word] = mark(marks[word], bit);
-                i += 1;
-            } else {
-                next = smaller(next, s);
-                i += 1;
-            }
-        }
-    }
-    next
-}
-
-// The smaller of two numbers.
-fn smaller(a: u64, b: u64) -> u64
-    ensures { λ r. ⌜ r ≡ min a b ⌝ }
-{
-    if a < b { a } else { b }
-}
-
 // Whether every entry shows what it must. Of the words, the first `near` are smaller than the entry's, and the first `far` the same or
 // smaller; both only grow. `last` is the entry last counted for; `likely` one whose state is likely of the same class.
-fn entries_right(book: &[u32], sb: &[u8], sn: &[u32], wb: &[u8], wn: &[u32], distinct: bool) -> bool
-    requires { ⌜ EntriesAsk (now book) (paper (now sb) (now sn)) (paper (now wb) (now wn)) distinct ⌝ }
+fn entries_right(
+    book: &[u32],
+    sb: &[u8],
+    sn: &[State],
+    wb: &[u8],
+    wn: &[u32],
+    distinct: bool,
+) -> bool
+    requires { ⌜ EntriesAsk (now book) (statesOf (now sb) (now sn)) (wordsOf (now wb) (now wn)) distinct ⌝ }
     ensures { λ r. ⌜ Says (AllRight (now (book .entry)) (now (sb .entry)) (now (sn .entry)) (now (wb .entry)) (now (wn .entry))) r ⌝ }
 {
-    let states = count_of(sb, sn);
+    let states = states_in(sb, sn);
     let mut near = 0;
     let mut far = 0;
     let mut earlier = [0u16; classes::FEW];
@@ -238,8 +192,8 @@ fn entries_right(book: &[u32], sb: &[u8], sn: &[u32], wb: &[u8], wn: &[u32], dis
     let mut last = 0;
     let mut i = 0;
     while i < states {
-        let s = number_at(sb, sn, i);
-        let word = number_at(wb, wn, i);
+        let s = state_at(sb, sn, i);
+        let word = word_at(wb, wn, i);
         let reason = word % 32;
         let limit = word as u64;
         near = reach(wb, wn, near, limit);
@@ -264,9 +218,9 @@ fn entries_right(book: &[u32], sb: &[u8], sn: &[u32], wb: &[u8], wn: &[u32], dis
 
 // True only if the state of entry `likely` or of entry `last` stands before entry i and may move wherever that one's may: if the earlier
 // entry is right, there is nothing to count.
-fn follows(book: &[u32], sb: &[u8], sn: &[u32], i: usize, likely: usize, last: usize) -> bool
-    requires { ⌜ Shaped (now book) × (i < length (paper (now sb) (now sn))) ⌝ }
-    ensures { λ r. ⌜ (r ≡ true → Follows (now (book .entry)) (paper (now (sb .entry)) (now (sn .entry))) i) ⌝ }
+fn follows(book: &[u32], sb: &[u8], sn: &[State], i: usize, likely: usize, last: usize) -> bool
+    requires { ⌜ Shaped (now book) × (i < length (statesOf (now sb) (now sn))) ⌝ }
+    ensures { λ r. ⌜ (r ≡ true → Follows (now (book .entry)) (statesOf (now (sb .entry)) (now (sn .entry))) i) ⌝ }
 {
     if shown_by(book, sb, sn, i, likely) {
         return true;
@@ -275,13 +229,13 @@ fn follows(book: &[u32], sb: &[u8], sn: &[u32], i: usize, likely: usize, last: u
 }
 
 // True only if entry k stands before entry i and its state may move wherever that one's may.
-fn shown_by(book: &[u32], sb: &[u8], sn: &[u32], i: usize, k: usize) -> bool
-    requires { ⌜ Shaped (now book) × (i < length (paper (now sb) (now sn))) ⌝ }
-    ensures { λ r. ⌜ (r ≡ true → Follows (now (book .entry)) (paper (now (sb .entry)) (now (sn .entry))) i) ⌝ }
+fn shown_by(book: &[u32], sb: &[u8], sn: &[State], i: usize, k: usize) -> bool
+    requires { ⌜ Shaped (now book) × (i < length (statesOf (now sb) (now sn))) ⌝ }
+    ensures { λ r. ⌜ (r ≡ true → Follows (now (book .entry)) (statesOf (now (sb .entry)) (now (sn .entry))) i) ⌝ }
 {
     if k < i {
-        let wide = number_at(sb, sn, k);
-        let s = number_at(sb, sn, i);
+        let wide = state_at(sb, sn, k);
+        let s = state_at(sb, sn, i);
         return rules::freer(book, wide, s);
     }
     false
@@ -289,13 +243,13 @@ fn shown_by(book: &[u32], sb: &[u8], sn: &[u32], i: usize, k: usize) -> bool
 
 // From m on, how many words at the front are below the limit.
 fn reach(wb: &[u8], wn: &[u32], from: usize, limit: u64) -> usize
-    requires { ⌜ Under (paper (now wb) (now wn)) limit from ⌝ }
-    ensures { λ r. ⌜ Reach (paper (now (wb .entry)) (now (wn .entry))) limit r ⌝ }
+    requires { ⌜ Under (wordsOf (now wb) (now wn)) limit from ⌝ }
+    ensures { λ r. ⌜ Reach (wordsOf (now (wb .entry)) (now (wn .entry))) limit r ⌝ }
 {
-    let words = count_of(wb, wn);
+    let words = words_in(wb, wn);
     let mut m = from;
     while m < words {
-        let word = number_at(wb, wn, m) as u64;
+        let word = word_at(wb, wn, m) as u64;
         if limit <= word {
             return m;
         }
@@ -314,16 +268,16 @@ fn places(reason: u32, near: usize, far: usize) -> usize
 // The reason's promise is false in s, and every next state is among the first m, which may be known.
 fn entry_right(
     book: &[u32],
-    s: u32,
+    s: State,
     reason: u32,
     sb: &[u8],
-    sn: &[u32],
+    sn: &[State],
     m: usize,
     distinct: bool,
     known: bool,
 ) -> bool
-    requires { ⌜ EntryAsks (now book) s (paper (now sb) (now sn)) m distinct known ⌝ }
-    ensures { λ r. ⌜ Says (StateOk (bookSystem (now (book .entry))) reason s (paper (now (sb .entry)) (now (sn .entry))) m) r ⌝ }
+    requires { ⌜ EntryAsks (now book) s (statesOf (now sb) (now sn)) m distinct known ⌝ }
+    ensures { λ r. ⌜ Says (StateOk (bookSystem (now (book .entry))) reason s (statesOf (now (sb .entry)) (now (sn .entry))) m) r ⌝ }
 {
     if kept_by(book, reason, s) {
         return false;
@@ -335,7 +289,7 @@ fn entry_right(
 }
 
 // Whether the reason's promise is true in s; reason 0 has none.
-fn kept_by(book: &[u32], reason: u32, s: u32) -> bool
+fn kept_by(book: &[u32], reason: u32, s: State) -> bool
     requires { ⌜ Shaped (now book) ⌝ }
     ensures { λ r. ⌜ Says (KeptBy (bookSystem (now (book .entry))) reason s) r ⌝ }
 {

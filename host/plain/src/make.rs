@@ -833,6 +833,21 @@ pub fn dense(letters: u8) -> Draft {
     draft
 }
 
+/// Of `rules` step rules all but a few never ask: [`dense`], and right sides
+/// that name a letter and its opposite. Their left sides differ, so that hardly
+/// two states make the same ones true.
+pub fn mostly_idle(letters: u8, rules: usize) -> Draft {
+    let mut draft = dense(letters);
+    let all = letters as usize;
+    for rule in all..rules {
+        let here = rule % all;
+        let other = (here + 1 + rule / all % (all - 1)) % all;
+        let letter = other as i8 + 1;
+        draft.step([here as i8 + 1], [-letter, letter]);
+    }
+    draft
+}
+
 /// The same rules, and a letter more that never holds and is promised alone:
 /// every state that has a way on is struck for that, in one round.
 pub fn never(mut draft: Draft) -> Draft {

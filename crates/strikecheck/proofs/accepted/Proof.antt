@@ -1,57 +1,38 @@
 -- `strikecheck::accepted` meets its contract: each refusal names the condition that fails, and the entries decide the rest. Assumes nothing.
-use mathlib.Core.Path.{sym, _∙_}
-use native.Mathlib.Omega.{arith}
+use mathlib.Core.Path.{_≡_, sym, _∙_}
 use borrow.Author.Needs.{needs}
 use borrow.Author.Tests.{not-true, not-false}
+use lib.ListN.{length}
 use Rattle.ground.proofs.Saying.{says-no}
-use Rattle.strikecheck.proofs.Entries.{entries-decide, accepted-rising, accepted-fit}
+use Rattle.papers.specs.Paper.{statesOf, wordsOf}
+use Rattle.covers.specs.Asks.{StatesAsk}
+use Rattle.strikecheck.specs.Strikes.{Rising}
+use Rattle.strikecheck.proofs.Entries.{states-asked, entries-decide, accepted-rising, accepted-fit}
 use Rattle.strikecheck.proofs.accepted.Statement.{statement}
 use Rattle.strikecheck.proofs.accepted.Tie as tie
 
-returns-2 : tie.Need-returns-2
-returns-2 c =
-    let as-many = sym (c .before .before .before .count-of2 .ensures) ∙ c .before .before .if1 .left ∙ c .before .before .before .before .count-of .ensures in
-    says-no (λ h. c .before .words-rise .ensures .never (not-true _ (c .if2 .taken)) (accepted-rising as-many h))
+-- there are as many words as states; the words never fall; the states may be counted
+as-many : (c : tie.Else1) → let a = c .before .before .before .before .before .before .before .before .args in length (wordsOf (a .wb .now) (a .wn .now)) ≡ length (statesOf (a .sb .now) (a .sn .now))
+as-many c = sym (c .before .words-in .ensures) ∙ c .if1 .left ∙ c .before .before .states-in .ensures
 
-returns-3 : tie.Need-returns-3
-returns-3 c =
-    let counted = c .before .before .before .before in
-    let as-many = sym (counted .before .count-of2 .ensures) ∙ counted .if1 .left ∙ counted .before .before .count-of .ensures in
-    says-no (λ h. c .before .reasons-fit .ensures .never (not-true _ (c .if3 .taken)) (accepted-fit as-many h))
+rising : (c : tie.Else2) → let a = c .before .before .before .before .before .before .before .before .before .before .args in Rising (wordsOf (a .wb .now) (a .wn .now))
+rising c = c .before .words-rise .ensures .yes (not-false _ (c .if2 .left))
 
-firsts-listed-requires : tie.Need-firsts-listed-requires
-firsts-listed-requires c κs =
-    record {
-      shaped = c .before .before .before .before .before .before .before .before .before .before .before .before .before .before .before .pre;
-      lawful = c .before .before .all-lawful .ensures .yes (not-false _ (c .before .if4 .left));
-      within = omega arith;
-      different = c .all-different .ensures;
-    }
+asked : (c : tie.After-all-different) → let a = c .before .before .before .before .before .before .before .before .before .before .before .before .before .before .before .args in
+    StatesAsk (a .book .now) (statesOf (a .sb .now) (a .sn .now)) (length (statesOf (a .sb .now) (a .sn .now))) (c .all-different .result)
+asked c = states-asked (c .before .before .before .before .before .before .before .before .before .before .before .before .before .before .before .pre) (c .before .before .all-lawful .ensures .yes (not-false _ (c .before .if4 .left))) (c .all-different .ensures)
 
 entries-right-requires : tie.Need-entries-right-requires
 entries-right-requires c κs =
-    let lawful = c .before .before .before in
-    let counted = lawful .before .before .before .before .before .before in
-    record {
-      states-ask = record {
-        shaped = counted .before .before .before .before .before .before .before .before .pre;
-        lawful = lawful .before .all-lawful .ensures .yes (not-false _ (lawful .if4 .left));
-        within = omega arith;
-        different = c .before .before .all-different .ensures;
-      };
-      as-many = sym (counted .before .count-of2 .ensures) ∙ counted .if1 .left ∙ counted .before .before .count-of .ensures;
-      rising = lawful .before .before .before .before .before .words-rise .ensures .yes (not-false _ (lawful .before .before .before .before .if2 .left));
-    }
+    let risen = c .before .before .before .before .before .before .before in
+    record { states-ask = asked (c .before .before); as-many = as-many (risen .before .before); rising = rising risen }
 
 returns-6 : tie.Need-returns-6
 returns-6 c =
     let lawful = c .before .before .before .before in
-    let counted = lawful .before .before .before .before .before .before in
-    entries-decide _ _ _ (sym (counted .before .count-of2 .ensures) ∙ counted .if1 .left ∙ counted .before .before .count-of .ensures)
-    (lawful .before .before .before .before .before .words-rise .ensures .yes (not-false _ (lawful .before .before .before .before .if2 .left)))
-    (lawful .before .before .before .reasons-fit .ensures .yes (not-false _ (lawful .before .before .if3 .left)))
-    (lawful .before .all-lawful .ensures .yes (not-false _ (lawful .if4 .left)))
-    (c .before .before .firsts-listed .ensures .yes (not-false _ (c .before .if5 .left)))
+    let fit = lawful .before .before in
+    entries-decide _ _ _ (as-many (fit .before .before .before .before)) (rising (fit .before .before)) (fit .before .reasons-fit .ensures .yes (not-false _ (fit .if3 .left)))
+    (asked (c .before .before .before) .lawful) (c .before .before .firsts-listed .ensures .yes (not-false _ (c .before .if5 .left)))
     (c .entries-right .ensures)
 
 pub accepted-spec : {M : Type 1} → statement M
@@ -60,15 +41,15 @@ accepted-spec =
     (tie.spec
     (λ c κs. search needs)
     (λ c κs. search needs)
-    (λ c. says-no (λ h. c .if1 .taken (c .before .count-of2 .ensures ∙ h .as-many ∙ sym (c .before .before .count-of .ensures))))
+    (λ c. says-no (λ h. c .if1 .taken (c .before .words-in .ensures ∙ h .as-many ∙ sym (c .before .before .states-in .ensures))))
     (λ c κs. search needs)
-    returns-2
+    (λ c. says-no (λ h. c .before .words-rise .ensures .never (not-true _ (c .if2 .taken)) (accepted-rising (as-many (c .before .before)) h)))
     (λ c κs. search needs)
-    returns-3
+    (λ c. says-no (λ h. c .before .reasons-fit .ensures .never (not-true _ (c .if3 .taken)) (accepted-fit (as-many (c .before .before .before .before)) h)))
     (λ c κs. search needs)
     (λ c. says-no (λ h. c .before .all-lawful .ensures .never (not-true _ (c .if4 .taken)) (h .lawful)))
     (λ c κs. search needs)
-    firsts-listed-requires
+    (λ c κs. asked c)
     (λ c. says-no (λ h. c .before .firsts-listed .ensures .never (not-true _ (c .if5 .taken)) (h .firsts)))
     entries-right-requires
     returns-6)

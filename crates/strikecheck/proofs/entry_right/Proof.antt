@@ -1,5 +1,4 @@
 -- `strikecheck::entry_right` meets its contract: a kept promise is wrong, else the next states decide, known or counted. Assumes nothing.
-use borrow.Author.Needs.{needs}
 use Rattle.ground.proofs.Saying.{says-yes, says-no, says-as}
 use Rattle.strikecheck.proofs.entry_right.Statement.{statement}
 use Rattle.strikecheck.proofs.entry_right.Tie as tie

@@ -4,14 +4,14 @@ use Prim.Native.Nat.{_-_}
 use native.Mathlib.Omega.{arith}
 use borrow.Author.Needs.{needs}
 use lib.ListN.{length}
-use Rattle.papers.specs.Paper.{paper}
+use Rattle.papers.specs.Paper.{wordsOf}
 use Rattle.strikecheck.proofs.Entries.{under-more, under-stops, under-ends}
 use Rattle.strikecheck.specs.Strikes.{Under}
 use Rattle.strikecheck.proofs.reach.Statement.{statement}
 use Rattle.strikecheck.proofs.reach.Tie as tie
 
 abbrev Inv-loop : tie.InvT-loop
-Inv-loop wb wn from limit words m₀ m = (words ≡ length (paper wb wn)) × Under (paper wb wn) limit m
+Inv-loop wb wn from limit words m₀ m = (words ≡ length (wordsOf wb wn)) × Under (wordsOf wb wn) limit m
 
 abbrev μ-loop : tie.MeasureT-loop
 μ-loop wb wn from limit words m₀ m = words - m
@@ -19,7 +19,7 @@ abbrev μ-loop : tie.MeasureT-loop
 loop-again : tie.Need-loop-again Inv-loop μ-loop
 loop-again c =
     let inv = c .before .before .before .loop .inv in
-    (inv .0, under-more (inv .1) (omega (arith, inv .0, c .before .before .loop-test .taken)) (omega (arith, c .before .number-at .ensures, c .if1 .left)))
+    (inv .0, under-more (inv .1) (omega (arith, inv .0, c .before .before .loop-test .taken)) (omega (arith, c .before .word-at .ensures, c .if1 .left)))
 
 pub reach-spec : {M : Type 1} → statement M
 reach-spec =
@@ -28,10 +28,10 @@ reach-spec =
     Inv-loop
     μ-loop
     (λ c κs. search needs)
-    (λ c. (c .count-of .ensures, c .before .before .before .pre))
+    (λ c. (c .words-in .ensures, c .before .before .before .pre))
     (λ c κs. omega (arith, c .before .loop .inv .0))
     (λ c. omega arith)
-    (λ c. under-stops (c .before .before .before .loop .inv .1) (omega (arith, c .before .number-at .ensures, c .if1 .taken)))
+    (λ c. under-stops (c .before .before .before .loop .inv .1) (omega (arith, c .before .word-at .ensures, c .if1 .taken)))
     (λ c. omega arith)
     (λ c. omega arith)
     loop-again

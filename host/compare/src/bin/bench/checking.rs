@@ -4,7 +4,7 @@ use crate::{measure, Only, Row, Table, LONG};
 use compare::checkers::{bytes, check_run, check_strikes};
 use plain::check::{check_run_bytes, check_strikes_bytes, strikes_nodes};
 use plain::judge::judge;
-use plain::make::{counter, counter_to_dead_end, dense, falling_promises, free, late_clash, long_run, never, w15};
+use plain::make::{counter, counter_to_dead_end, dense, falling_promises, free, late_clash, long_run, mostly_idle, never, w15};
 use plain::source::{football, Team};
 use std::collections::BTreeSet;
 use std::hint::black_box;
@@ -65,8 +65,9 @@ fn runs(only: &Only) -> Table {
 /// What a row's name has if its states are listed from the last to the first, so that hardly one asks for more than the one before it.
 const BACKWARDS: &str = "from the back";
 
-/// The end of a row's name that says so: its list has one entry more, the last one again.
+/// The end of a row's name that says so: its list has one entry more, the last one again; or has every entry twice.
 const TWICE: &str = "last state twice";
+const ALL_TWICE: &str = "every state twice";
 
 fn lists(only: &Only) -> Table {
     let drafts = [
@@ -80,6 +81,12 @@ fn lists(only: &Only) -> Table {
         ("12 letters, every move, last state twice", never(free(12))),
         ("10 letters, nearly every move, from the back", never(dense(10))),
         ("10 letters, nearly every move, from the back, last state twice", never(dense(10))),
+        ("12 letters, 60 rules, 48 never ask, from the back", never(mostly_idle(12, 60))),
+        ("12 letters, 60 rules, 48 never ask, from the back, last state twice", never(mostly_idle(12, 60))),
+        ("12 letters, 60 rules, 48 never ask, from the back, every state twice", never(mostly_idle(12, 60))),
+        ("12 letters, 255 rules, 243 never ask, from the back, every state twice", never(mostly_idle(12, 255))),
+        ("counter of 12 letters to a dead end, every state twice", counter_to_dead_end(12)),
+        ("13 letters, every move, every state twice", never(free(13))),
         ("late clash, 20 letters, 4 rules", late_clash(20, 0)),
         ("late clash, 24 letters, 4 rules", late_clash(24, 0)),
         ("late clash, 24 letters, 255 rules", late_clash(24, 251)),
@@ -97,6 +104,10 @@ fn lists(only: &Only) -> Table {
                 // Its own word once more: the list stays right.
                 states.extend_from_within(states.len() - 4..);
                 words.extend_from_within(words.len() - 4..);
+            }
+            if name.ends_with(ALL_TWICE) {
+                states = states.chunks(4).flat_map(|state| [state, state].concat()).collect();
+                words = words.chunks(4).flat_map(|word| [word, word].concat()).collect();
             }
             let facts = vec![(states.len() / 4).to_string(), different.to_string()];
             rows.push(list(name, facts, LONG, [&sheet, &states, &words]));
