@@ -53,7 +53,7 @@ unstruck-free words (suc r) =
     by false e = let n = eqb-false (getD words r 0) 0 e in omega arith
 
 -- where every word is 0 all are unstruck
-free-all : (words : List ℕ) (r : ℕ) → ((i : ℕ) → i < r → getD words i 0 ≡ 0) → free words r ≡ r
+pub free-all : (words : List ℕ) (r : ℕ) → ((i : ℕ) → i < r → getD words i 0 ≡ 0) → free words r ≡ r
 free-all words zero z = refl
 free-all words (suc r) z =
     let a = free-all words r (λ i h. z i (omega arith)) in

@@ -1,3 +1,4 @@
 pub mod Marked
 pub mod Phases
 pub mod Stored
+pub mod Along

@@ -11,6 +11,14 @@ ghost use Rattle.rules.specs.Book.{promisesOf};
 ghost use Rattle.deadends.specs.Phases.{Striking, PhaseDone, Unphased};
 ghost use Rattle.strike.specs.Phases.{Strikable, Stricken, FarFree, Fell};
 ghost use Rattle.strike.specs.Stored.{Stored, fewStates};
+ghost use Rattle.rules.specs.Book.{bookSystem};
+ghost use Rattle.strike.specs.Marked.{Marked};
+ghost use Rattle.strike.specs.Along.{AlongStored};
+
+pub mod along;
+
+// So many numbers the rows have at most: one for each reason and place.
+const ROWS: usize = along::REASONS * ground::MOST_STATES;
 
 // Below so many states storing their moves would cost more than it saves.
 pub const FEW_STATES: usize = 512;
@@ -177,6 +185,64 @@ fn strike_few(
     )
 }
 
+// Strikes many states whose moves are not stored, from words and pointers that are all 0, by tests of pairs.
+fn strike_by_tests(
+    book: &[u32],
+    table: &[u32],
+    words: &mut [u32],
+    scratch: &mut [u32],
+    r: usize,
+) -> usize
+    requires { ⌜ Strikable (now book) (now table) (now words) (now scratch) r × Zeros (now words) r × Zeros (now scratch) r ⌝ }
+    ensures { λ left. ⌜ Stricken (now (book .entry)) (now (table .entry)) r (now (words .entry)) (now (words .exit)) (now (scratch .entry))
+        (now (scratch .exit)) left ⌝ }
+{
+    let none = [0u16; 1];
+    let empty = &none[..0];
+    let mut queue = [0u16; ground::MOST_STATES];
+    let mut dist = [0u16; ground::MOST_STATES];
+    rounds(
+        book,
+        table,
+        words,
+        scratch,
+        r,
+        empty,
+        empty,
+        &mut queue,
+        &mut dist,
+    )
+}
+
+// Strikes many states along their stored moves, from words that are all 0.
+fn strike_along(
+    book: &[u32],
+    table: &[u32],
+    words: &mut [u32],
+    r: usize,
+    forth: &[u16],
+    back: &[u16],
+) -> usize
+    requires { ⌜ AlongStored (now book) (now table) (now words) r (now forth) (now back) × Zeros (now words) r ⌝ }
+    ensures { λ left. ⌜ Marked (bookSystem (now (book .entry))) (now (table .entry)) (now (words .exit)) r left
+        × (length (now (words .exit)) ≡ length (now (words .entry))) ⌝ }
+{
+    let mut wit = [0u16; ROWS];
+    let mut log = [0u16; ground::MOST_STATES];
+    let mut line = [0u16; ground::MOST_STATES];
+    along::rounds_along(
+        book,
+        table,
+        words,
+        r,
+        forth,
+        back,
+        &mut wit,
+        &mut log,
+        &mut line,
+    )
+}
+
 // Strikes many states, from words and pointers that are all 0, along their stored moves if there is room for these.
 fn strike_many(
     book: &[u32],
@@ -191,20 +257,11 @@ fn strike_many(
 {
     let mut forth = [0u16; web::SIZE];
     let mut back = [0u16; web::SIZE];
-    let mut queue = [0u16; ground::MOST_STATES];
-    let mut dist = [0u16; ground::MOST_STATES];
     let filled = web::store(book, table, r, &mut forth, &mut back);
-    rounds(
-        book,
-        table,
-        words,
-        scratch,
-        r,
-        &forth[..filled],
-        &back[..filled],
-        &mut queue,
-        &mut dist,
-    )
+    if filled == 0 {
+        return strike_by_tests(book, table, words, scratch, r);
+    }
+    strike_along(book, table, words, r, &forth, &back)
 }
 
 // Gives each of the table's first r states, which are all reachable states, its word: 0 if it is livable, or else 32 times the round plus

@@ -467,3 +467,80 @@ pub fn two_fight(fighting: [usize; 2], asked: usize) -> Draft {
     }
     draft
 }
+
+// ---------------------------------------------------------------------------
+// Many rounds, many states
+
+/// A counter of so many letters to a dead end, begun in one state more, from
+/// which any of 64 numbers follows; 16 promises of the lowest letter, so that two
+/// states fall in a round; and rules that never ask, up to 255 in all, since they
+/// speak of the first state with a letter of the counter.
+pub fn crowded_counter(letters: u8) -> Draft {
+    let mut draft = Draft::new(letters + 1);
+    let (high, begins) = (letters as i8, letters as i8 + 1);
+    add_one(&mut draft, 1, high, &[-begins], &[]);
+    draft.first([begins]).step([], [-begins]);
+    for letter in 1..=high {
+        draft.first([-letter]);
+        if letter > 6 {
+            draft.step([begins], [-letter]);
+        }
+    }
+    draft.step((1..=high).collect::<Vec<_>>(), []);
+    for _ in 0..16 {
+        draft.promise(1);
+    }
+    for number in draft.steps.len()..255 {
+        let letter = (number % letters as usize) as i8 + 1;
+        draft.step([letter, begins], [-letter]);
+    }
+    draft
+}
+
+/// Random rules over 13 to 20 letters, of which many states are reached and
+/// struck in more than one round: 8,000 to 16,384 states.
+pub fn many_states(seed: u64) -> Draft {
+    let rng = &mut Rng::new(seed);
+    loop {
+        let letters = rng.within(13, 20) as u8;
+        let mut draft = Draft::new(letters);
+        for _ in 0..rng.below(5) {
+            let size = rng.within(3, letters as usize / 2);
+            let limit = list(rng, letters, size);
+            draft.at_most(rng.within(1, size - 1) as u8, limit);
+        }
+        for _ in 0..rng.within(1, 3) {
+            let size = rng.within(1, 2);
+            let first = list(rng, letters, size);
+            draft.first(first);
+        }
+        for _ in 0..rng.within(8, 40) {
+            let (one, two) = (rng.within(1, 3), rng.within(1, 3));
+            let (left, right) = (list(rng, letters, one), list(rng, letters, two));
+            draft.step(left, right);
+        }
+        for _ in 0..rng.within(2, 16) {
+            let literal = literal(rng, letters);
+            draft.promise(literal);
+        }
+        if draft.bytes().len() <= 600 {
+            let found = crate::judge::explored(&draft.bytes(), 16_384).and_then(|found| found.states);
+            if found.is_some_and(|states| states >= 8_000) {
+                return draft;
+            }
+        }
+    }
+}
+
+/// The families with many rounds or many states.
+pub fn many() -> Vec<Family> {
+    let counters = [9, 10, 11, 12].map(|letters| Family {
+        name: format!("crowded counter of {letters} letters"),
+        sheet: crowded_counter(letters).bytes(),
+    });
+    let random = (1..=10).map(|seed| Family {
+        name: format!("many states, seed {seed}"),
+        sheet: many_states(seed).bytes(),
+    });
+    counters.into_iter().chain(random).collect()
+}

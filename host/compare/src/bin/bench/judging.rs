@@ -34,6 +34,7 @@ pub fn tables(only: &Only) -> Vec<Table> {
     };
     vec![
         table("Judging: hard and easy shapes", families()),
+        table("Judging: many rounds, many states", plain::families::many()),
         table("Judging: what no look at single rows sees", plain::families::odd_clashes()),
         table("Judging: source document 000's experiments", source::families()),
         exploring(only),

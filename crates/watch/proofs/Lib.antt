@@ -1,0 +1,13 @@
+pub mod Weights
+pub mod Sums
+pub mod Beginning
+pub mod Redirecting
+pub mod Loosening
+pub mod Helped
+pub mod Hooked
+pub mod Asking
+pub mod Spreading
+pub mod Rehanging
+pub mod Falling
+pub mod Phasing
+pub mod Ending

@@ -1,0 +1,43 @@
+-- What `rehang` hands on: the places may be asked, and after that the witnesses may be spread. Assumes nothing.
+use mathlib.Core.Path.{sym, subst}
+use mathlib.Core.List.{List}
+use Prim.Native.Nat.{ℕ, _≤_}
+use native.Mathlib.Omega.{arith}
+use lib.ListN.{length}
+use Rattle.meaning.specs.Promises.{mostStates}
+use Rattle.watch.specs.Witness.{Readable, Woven, Hangable}
+use Rattle.watch.specs.Turns.{Line, Hanging, Askable, Asked}
+use Rattle.watch.proofs.Spreading.{Spreadable}
+
+module _ (words old forth back log : List ℕ) (m tail : ℕ) (before : List ℕ) (w : Woven (length old) forth back)
+    (h : Hangable words old back log m tail) (l : Line old before) where
+  -- The places that stand alone may be asked.
+  pub rehang-askable : length log ≤ mostStates → Askable words old forth log m tail before
+  rehang-askable few = record {
+    few = h .pointed .few;
+    in-words = h .in-words;
+    onward = w .onward;
+    grows = h .grows;
+    in-log = h .in-log;
+    log-few = few;
+    places = λ t a b. h .places t a b .0;
+    line-is = l;
+  }
+
+  -- Once they were asked, the witnesses may be spread.
+  pub rehang-spreadable : (row line : List ℕ) (n : ℕ) → Asked words old row forth log m tail before line n → Spreadable words row back line n
+  rehang-spreadable row line n a =
+      let e = a .long in
+      let f = a .line-long in
+      let g = h .in-words in
+      let i = l .in-line in
+      let j = l .line-few in
+      let s : Hanging words old row back line 0 n = a .hanging back w h in
+      let k = s .room in (
+        subst (λ (x : ℕ). Readable back x) (sym (a .long)) (w .backward),
+        omega arith,
+        record { in-line = omega arith; line-few = omega arith },
+        omega arith,
+        s .in-line,
+        s .room,
+      )

@@ -1,0 +1,295 @@
+// Watching a promise along stored moves. Each unstruck place has a witness: it keeps the promise itself, or it names a next place whose witnesses
+// lead on to one that does. A phase looks again only at places whose witnesses were cut by a strike since the promise's last phase, and at those
+// that hang on them; who finds no new witness falls. The struck places stand in a log, in the order in which they fell.
+ghost use mathlib.Core.Path.{_≡_};
+ghost use mathlib.Core.List.{List};
+ghost use Prim.Native.Nat.{ℕ, _+_, _<_, _≤_};
+ghost use lib.ListN.{length};
+ghost use Rattle.ground.specs.Listed.{Between};
+ghost use Rattle.meaning.specs.Promises.{mostStates};
+ghost use Rattle.rules.specs.Book.{Shaped, promisesOf};
+ghost use Rattle.web.specs.Layout.{startAt, endAt, cellsOf};
+ghost use Rattle.distances.specs.Far.{far};
+ghost use Rattle.watch.specs.Witness.{Readable, Woven, BegunRow, Fresh, Rested, Hangable, Rehung};
+ghost use Rattle.watch.specs.Turns.{IsSo, Helps, countAt, Redirectable, Redirected, Loosened, HelperIn, HelperFor, InLine, Line, Hanging};
+ghost use Rattle.watch.specs.Turns.{Askable, Asked, Fallable, FellTo, Before, Watching, Watched};
+
+pub mod ends;
+
+// Nobody helps a place; or it keeps the promise itself. Every place's number is less.
+pub const NOBODY: u16 = 65535;
+
+pub const ITSELF: u16 = 65534;
+
+// What each place begins with: it keeps promise k, counted from 0, or nobody helps it yet.
+pub fn begin(book: &[u32], k: usize, table: &[u32], row: &mut [u16])
+    requires { ⌜ Shaped (now book) × (k < promisesOf (now book)) × (length (now row) ≤ length (now table)) ⌝ }
+    ensures { λ _. ⌜ BegunRow (now (book .entry)) k (now (table .entry)) (now (row .entry)) (now (row .exit)) ⌝ }
+{
+    let mut i: usize = 0;
+    while i < row.len() {
+        if rules::kept(book, k, table[i]) {
+            row[i] = ITSELF;
+            i += 1;
+        } else {
+            row[i] = NOBODY;
+            i += 1;
+        }
+    }
+}
+
+// Whether place i is unstruck and its number is `was`.
+fn is_so(words: &[u32], row: &[u16], i: usize, was: u16) -> bool
+    requires { ⌜ (i < length (now words)) × (i < length (now row)) ⌝ }
+    ensures { λ b. ⌜ IsSo (now (words .entry)) (now (row .entry)) i was b ⌝ }
+{
+    if words[i] == 0 {
+        return row[i] == was;
+    }
+    false
+}
+
+// Of the places that move to place t, gives `to` to the unstruck ones whose number is `was`, and puts them into the line behind its first n; how
+// long the line then is.
+fn redirect(
+    words: &[u32],
+    row: &mut [u16],
+    back: &[u16],
+    t: usize,
+    was: u16,
+    to: u16,
+    line: &mut [u16],
+    n: usize,
+) -> usize
+    requires { ⌜ Redirectable (now words) (now row) (now back) t was to (now line) n ⌝ }
+    ensures { λ m. ⌜ Redirected (Between (cellsOf (now (back .entry))) (startAt (now (back .entry)) t) (endAt (now (back .entry)) t))
+        (now (words .entry)) was to (now (row .entry)) (now (row .exit)) n (now (line .entry)) (now (line .exit)) m ⌝ }
+{
+    let end = web::row_end(back, t);
+    let mut tail = n;
+    let mut e = web::row_start(back, t);
+    while e < end {
+        let i = web::cell(back, e);
+        if is_so(words, row, i, was) {
+            row[i] = to;
+            line[tail] = i as u16;
+            tail += 1;
+            e += 1;
+        } else {
+            e += 1;
+        }
+    }
+    tail
+}
+
+// Cuts off who hangs on a place that was struck since, or on one that is cut off: these stand in the log behind its first m, up to the place
+// returned.
+fn loosen(
+    words: &[u32],
+    row: &mut [u16],
+    back: &[u16],
+    log: &mut [u16],
+    from: usize,
+    m: usize,
+) -> usize
+    requires { ⌜ Rested (now words) (now row) (now back) (now log) from m × (length (now log) ≤ mostStates) ⌝ }
+    ensures { λ tail. ⌜ Loosened (now (words .entry)) (now (row .entry)) (now (row .exit)) (now (log .entry)) (now (log .exit)) m tail ⌝ }
+{
+    let mut tail = m;
+    let mut h = from;
+    while h < tail {
+        let t = log[h];
+        let place = t as usize;
+        tail = redirect(words, row, back, place, t, NOBODY, log, tail);
+        h += 1;
+    }
+    tail
+}
+
+// Before the promise's first phase: all unstruck places that nobody helps, behind the log's first m.
+fn list_alone(words: &[u32], row: &[u16], log: &mut [u16], m: usize) -> usize
+    requires { ⌜ Fresh (now words) (now row) (now log) m × (length (now log) ≤ mostStates) ⌝ }
+    ensures { λ tail. ⌜ Loosened (now (words .entry)) (now (row .entry)) (now (row .entry)) (now (log .entry)) (now (log .exit)) m tail ⌝ }
+{
+    let mut tail = m;
+    let mut i: usize = 0;
+    while i < row.len() {
+        if is_so(words, row, i, NOBODY) {
+            log[tail] = i as u16;
+            tail += 1;
+            i += 1;
+        } else {
+            i += 1;
+        }
+    }
+    tail
+}
+
+// The places that need a witness, behind the log's first m: before the first phase, when `from` is above m, all without one; else those cut off.
+fn lost(
+    words: &[u32],
+    row: &mut [u16],
+    back: &[u16],
+    log: &mut [u16],
+    from: usize,
+    m: usize,
+) -> usize
+    requires { ⌜ Before (now words) (now row) (now back) (now log) from m × (length (now log) ≤ mostStates) ⌝ }
+    ensures { λ tail. ⌜ Loosened (now (words .entry)) (now (row .entry)) (now (row .exit)) (now (log .entry)) (now (log .exit)) m tail ⌝ }
+{
+    if m < from {
+        return list_alone(words, row, log, m);
+    }
+    loosen(words, row, back, log, from, m)
+}
+
+// Whether place j is unstruck and has a witness.
+fn is_helped(words: &[u32], row: &[u16], j: usize) -> bool
+    requires { ⌜ (j < length (now words)) × (j < length (now row)) ⌝ }
+    ensures { λ b. ⌜ Helps (now (words .entry)) (now (row .entry)) j b ⌝ }
+{
+    if words[j] == 0 {
+        return row[j] != NOBODY;
+    }
+    false
+}
+
+// The first next place of place i that is unstruck and has a witness, or the row's length.
+fn seek_helper(words: &[u32], row: &[u16], forth: &[u16], i: usize) -> usize
+    requires { ⌜ Readable (now forth) (length (now row)) × (i < length (now row)) × (length (now row) ≤ length (now words)) ⌝ }
+    ensures { λ j. ⌜ HelperIn (now (words .entry)) (now (row .entry)) (now (forth .entry)) i j ⌝ }
+{
+    let end = web::row_end(forth, i);
+    let mut e = web::row_start(forth, i);
+    while e < end {
+        let j = web::cell(forth, e);
+        if is_helped(words, row, j) {
+            return j;
+        }
+        e += 1;
+    }
+    row.len()
+}
+
+// The same if place i is unstruck and has no witness; the row's length if not.
+fn helper(words: &[u32], row: &[u16], forth: &[u16], i: usize) -> usize
+    requires { ⌜ Readable (now forth) (length (now row)) × (i < length (now row)) × (length (now row) ≤ length (now words)) ⌝ }
+    ensures { λ j. ⌜ HelperFor (now (words .entry)) (now (row .entry)) (now (forth .entry)) i j ⌝ }
+{
+    if is_so(words, row, i, NOBODY) {
+        return seek_helper(words, row, forth, i);
+    }
+    row.len()
+}
+
+// Hangs those of the log's places from m up to `tail` that have a helper on it, and puts them into the line; how many those are.
+fn ask(
+    words: &[u32],
+    row: &mut [u16],
+    forth: &[u16],
+    log: &[u16],
+    m: usize,
+    tail: usize,
+    line: &mut [u16],
+) -> usize
+    requires { ⌜ Askable (now words) (now row) (now forth) (now log) m tail (now line) ⌝ }
+    ensures { λ n. ⌜ Asked (now (words .entry)) (now (row .entry)) (now (row .exit)) (now (forth .entry)) (now (log .entry)) m tail
+        (now (line .entry)) (now (line .exit)) n ⌝ }
+{
+    let mut n: usize = 0;
+    let mut g = m;
+    while g < tail {
+        let i = log[g] as usize;
+        let j = helper(words, row, forth, i);
+        if j < row.len() {
+            row[i] = j as u16;
+            line[n] = i as u16;
+            n += 1;
+            g += 1;
+        } else {
+            g += 1;
+        }
+    }
+    n
+}
+
+// From each place of the line in turn, hangs the places on it that move to it and have no witness, and puts them into the line.
+fn spread(words: &[u32], row: &mut [u16], back: &[u16], line: &mut [u16], n: usize)
+    requires { ⌜ Readable (now back) (length (now row)) × (length (now row) ≤ length (now words)) × Line (now row) (now line) × (n ≤ length (now line))
+        × InLine (now words) (now row) (now line) n × (n + countAt far (now words) (now row) ≤ length (now line)) ⌝ }
+    ensures { λ _. ⌜ ((old : List ℕ) → Hanging (now (words .entry)) old (now (row .entry)) (now (back .entry)) (now (line .entry)) 0 n
+        → Rehung (now (words .entry)) old (now (row .exit)) (now (back .entry))) × (length (now (row .exit)) ≡ length (now (row .entry)))
+        × (length (now (line .exit)) ≡ length (now (line .entry))) ⌝ }
+{
+    let mut tail = n;
+    let mut head: usize = 0;
+    while head < tail {
+        let t = line[head];
+        let place = t as usize;
+        tail = redirect(words, row, back, place, NOBODY, t, line, tail);
+        head += 1;
+    }
+}
+
+// Gives the places in the log from m up to `tail` a witness, where there is one.
+fn rehang(
+    words: &[u32],
+    row: &mut [u16],
+    forth: &[u16],
+    back: &[u16],
+    log: &[u16],
+    m: usize,
+    tail: usize,
+    line: &mut [u16],
+)
+    requires { ⌜ Woven (length (now row)) (now forth) (now back) × Hangable (now words) (now row) (now back) (now log) m tail
+        × Line (now row) (now line) × (length (now log) ≤ mostStates) ⌝ }
+    ensures { λ _. ⌜ Rehung (now (words .entry)) (now (row .entry)) (now (row .exit)) (now (back .entry))
+        × (length (now (line .exit)) ≡ length (now (line .entry))) ⌝ }
+{
+    let n = ask(words, row, forth, log, m, tail, line);
+    spread(words, row, back, line, n);
+}
+
+// Strikes the unstruck places without a witness, which all stand in the log from m up to `tail`; how long the log then is.
+fn fall(words: &mut [u32], row: &[u16], log: &mut [u16], m: usize, tail: usize, word: u32) -> usize
+    requires { ⌜ Fallable (now words) (now row) (now log) m tail word × (length (now log) ≤ mostStates) ⌝ }
+    ensures { λ end. ⌜ FellTo (now (row .entry)) word (now (words .entry)) (now (words .exit)) (now (log .entry)) (now (log .exit)) m end ⌝ }
+{
+    let mut end = m;
+    let mut g = m;
+    while g < tail {
+        let t = log[g];
+        let i = t as usize;
+        if is_so(words, row, i, NOBODY) {
+            words[i] = word;
+            log[end] = t;
+            end += 1;
+            g += 1;
+        } else {
+            g += 1;
+        }
+    }
+    end
+}
+
+// One phase of a promise: strikes together the places from which no witnesses lead on to it; how long the log then is.
+pub fn phase(
+    words: &mut [u32],
+    row: &mut [u16],
+    forth: &[u16],
+    back: &[u16],
+    log: &mut [u16],
+    m: usize,
+    from: usize,
+    line: &mut [u16],
+    word: u32,
+) -> usize
+    requires { ⌜ Watching (now words) (now row) (now forth) (now back) (now log) (now line) m from word ⌝ }
+    ensures { λ end. ⌜ Watched (now (words .entry)) (now (words .exit)) (now (row .entry)) (now (row .exit)) (now (back .entry))
+        (now (log .entry)) (now (log .exit)) m end word × (length (now (line .exit)) ≡ length (now (line .entry))) ⌝ }
+{
+    let tail = lost(words, row, back, log, from, m);
+    rehang(words, row, forth, back, log, m, tail, line);
+    fall(words, row, log, m, tail, word)
+}
