@@ -2,6 +2,7 @@
 use super::Account;
 use follow::Head;
 use follow::TALLIES;
+use ground::State;
 ghost use mathlib.Core.Path.{_≡_};
 ghost use lib.ListN.{length};
 ghost use Rattle.rules.specs.Book.{Shaped};
@@ -38,7 +39,7 @@ fn joined(head: Head, kept: [u32; TALLIES], broken: [u32; TALLIES]) -> Account
 }
 
 // The account carried on by these states.
-pub fn carry(book: &[u32], account: Account, states: &[u32]) -> Account
+pub fn carry(book: &[State], account: Account, states: &[State]) -> Account
     requires { ⌜ Shaped (now book) × Carriable (accountOf account) (length (now states)) ⌝ }
     ensures { λ r. ⌜ accountOf r ≡ bookCarried (now (book .entry)) (accountOf account) (now (states .entry)) ⌝ }
 {

@@ -1,6 +1,7 @@
 // The audit of a log: a monitor's recorded states held against a sheet, piece by piece. What an account tells of a whole log is said in
 // crates/accounts/specs/Account.antt, what the call promises in Carry.antt there, and that cutting a log does not show in crates/accounts/proofs. It
 // stands on the sheet reader and the compiled rules alone.
+use ground::State;
 use reader::Answer;
 ghost use mathlib.Core.Path.{_≡_};
 ghost use mathlib.Core.Option.{none};
@@ -94,7 +95,7 @@ fn past(account: Account, more: usize) -> bool
 }
 
 // Carries the account on under a good sheet.
-fn audit_good(sheet: &[u8], account: Account, states: &[u32]) -> Report
+fn audit_good(sheet: &[u8], account: Account, states: &[State]) -> Report
     requires { ⌜ firstFault (now sheet) ≡ none ⌝ }
     ensures { λ r. ⌜ Audited (now (sheet .entry)) (accountOf account) (now (states .entry)) (r .answer) (r .place) (accountOf (r .account)) ⌝ }
 {
@@ -118,7 +119,7 @@ fn audit_good(sheet: &[u8], account: Account, states: &[u32]) -> Report
 // Audits a piece of a log: holds these states, which come behind those that the account has counted, against the sheet. Any account may be handed
 // in. 0 and the account carried on; a bad sheet's 1 to 10 and the place of its fault; 15 where the account or the piece passes 1,000,000
 // moments. A refusal hands the account back as it was.
-pub fn audit(sheet: &[u8], account: Account, states: &[u32]) -> Report
+pub fn audit(sheet: &[u8], account: Account, states: &[State]) -> Report
     ensures { λ r. ⌜ Audited (now (sheet .entry)) (accountOf account) (now (states .entry)) (r .answer) (r .place) (accountOf (r .account)) ⌝ }
 {
     match reader::read(sheet) {
@@ -140,7 +141,7 @@ pub fn audit(sheet: &[u8], account: Account, states: &[u32]) -> Report
 pub extern "C" fn naxxurbi_audit(
     sheet: &[u8],
     account: &mut [u32; numbers::NUMBERS],
-    states: &[u32],
+    states: &[State],
 ) -> u32
     ensures { λ r. ⌜ AuditedOut (now (sheet .entry)) (now (account .entry)) (now (states .entry)) r (now (account .exit)) ⌝ }
 {

@@ -2,6 +2,7 @@
 // each aim, and from a moment of the sample run to the next: the aim passes, and of the next states the nearest is taken, then the least.
 // Where the moves are stored, only the stored row is looked at.
 
+use ground::State;
 ghost use mathlib.Core.Path.{_≡_};
 ghost use mathlib.Core.Bool.{_&&_};
 ghost use Prim.Native.Nat.{_+_, _-_, _*_, _≤_, _<_};
@@ -37,7 +38,7 @@ fn no_distances(dist: &mut [u16], r: usize)
 }
 
 // How many aims there are: the promises, or one aim that asks nothing.
-pub fn count_aims(book: &[u32]) -> usize
+pub fn count_aims(book: &[State]) -> usize
     requires { ⌜ Shaped (now book) ⌝ }
     ensures { λ n. ⌜ n ≡ aimsOf (bookSystem (now (book .entry))) ⌝ }
 {
@@ -47,8 +48,8 @@ pub fn count_aims(book: &[u32]) -> usize
 
 // Row q, for each promise q.
 fn promise_rows(
-    book: &[u32],
-    table: &[u32],
+    book: &[State],
+    table: &[State],
     words: &[u32],
     dist: &mut [u16],
     r: usize,
@@ -70,8 +71,8 @@ fn promise_rows(
 
 // All rows: row q has the distances from the first r places to aim q.
 pub fn rows(
-    book: &[u32],
-    table: &[u32],
+    book: &[State],
+    table: &[State],
     words: &[u32],
     dist: &mut [u16],
     r: usize,
@@ -93,7 +94,7 @@ pub fn rows(
 // ---- one step
 
 // The first place that holds a first state, or r.
-pub fn first_place(book: &[u32], table: &[u32], r: usize) -> usize
+pub fn first_place(book: &[State], table: &[State], r: usize) -> usize
     requires { ⌜ Shaped (now book) × (r ≤ length (now table)) ⌝ }
     ensures { λ p. ⌜ FirstPlace (now (book .entry)) (now (table .entry)) r p ⌝ }
 {
@@ -108,7 +109,7 @@ pub fn first_place(book: &[u32], table: &[u32], r: usize) -> usize
 }
 
 // The aim after state s.
-fn passed(book: &[u32], aim: usize, s: u32) -> usize
+fn passed(book: &[State], aim: usize, s: State) -> usize
     requires { ⌜ Shaped (now book) × (aim < aimsOf (bookSystem (now book))) ⌝ }
     ensures { λ q. ⌜ Passes (bookSystem (now (book .entry))) aim s q × (q < aimsOf (bookSystem (now (book .entry)))) ⌝ }
 {
@@ -127,7 +128,7 @@ fn passed(book: &[u32], aim: usize, s: u32) -> usize
 }
 
 // Whether a state at distance d is a next state nearer than the nearest so far.
-fn nearer(d: u16, least: u16, clauses: &[u32], count: usize, t: u32) -> bool
+fn nearer(d: u16, least: u16, clauses: &[State], count: usize, t: State) -> bool
     requires { ⌜ (length (now clauses) ≡ gatherSize) × (count ≤ 255) ⌝ }
     ensures { λ b. ⌜ b ≡ (ltb d least && clausesOk (now (clauses .entry)) count t) ⌝ }
 {
@@ -140,9 +141,9 @@ fn nearer(d: u16, least: u16, clauses: &[u32], count: usize, t: u32) -> bool
 
 // The first of the nearest next states.
 fn nearest(
-    table: &[u32],
+    table: &[State],
     dist: &[u16],
-    clauses: &[u32],
+    clauses: &[State],
     count: usize,
     from: usize,
     r: usize,
@@ -169,7 +170,7 @@ fn nearest(
 }
 
 // Whether a state at distance d is a next state at distance `wanted`.
-fn stands_at(d: u16, wanted: u16, clauses: &[u32], count: usize, t: u32) -> bool
+fn stands_at(d: u16, wanted: u16, clauses: &[State], count: usize, t: State) -> bool
     requires { ⌜ (length (now clauses) ≡ gatherSize) × (count ≤ 255) ⌝ }
     ensures { λ b. ⌜ b ≡ (eqb d wanted && clausesOk (now (clauses .entry)) count t) ⌝ }
 {
@@ -182,9 +183,9 @@ fn stands_at(d: u16, wanted: u16, clauses: &[u32], count: usize, t: u32) -> bool
 
 // The first next state at distance `wanted`, or r.
 fn first_at(
-    table: &[u32],
+    table: &[State],
     dist: &[u16],
-    clauses: &[u32],
+    clauses: &[State],
     count: usize,
     from: usize,
     r: usize,
@@ -216,9 +217,9 @@ fn one_less(d: u16) -> u16
 // The first of the nearest next states of the state at `place`. No next state is nearer than one less than the state's own distance; where
 // that distance is not 0, one is as near, so that only places at just that distance are tested.
 fn pick(
-    table: &[u32],
+    table: &[State],
     dist: &[u16],
-    clauses: &[u32],
+    clauses: &[State],
     count: usize,
     from: usize,
     r: usize,
@@ -238,7 +239,7 @@ fn pick(
 }
 
 // The best next place of `place` for that aim, sought among all places.
-fn seek(book: &[u32], table: &[u32], dist: &[u16], r: usize, place: usize, aim: usize) -> usize
+fn seek(book: &[State], table: &[State], dist: &[u16], r: usize, place: usize, aim: usize) -> usize
     requires { ⌜ Walkable (now book) (now table) (now dist) r × (place < r) × (aim < aimsOf (bookSystem (now book))) ⌝ }
     ensures { λ p. ⌜ BestAt (bookSystem (now (book .entry))) (now (table .entry)) r place aim p ⌝ }
 {
@@ -276,8 +277,8 @@ fn nearest_in_row(dist: &[u16], from: usize, forth: &[u16], place: usize) -> usi
 
 // From one moment to the next: where the moves are stored, only the row of `place` is looked at.
 pub fn step(
-    book: &[u32],
-    table: &[u32],
+    book: &[State],
+    table: &[State],
     dist: &[u16],
     r: usize,
     place: usize,

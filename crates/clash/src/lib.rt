@@ -2,6 +2,7 @@
 // sheets with a choice of the step rules, with no room for a run. The promises are `ClashChecked` and `Planned` of specs/Clash.antt; they ask
 // nothing of their callers.
 use choice::RULES;
+use ground::State;
 use papers::answer::Verdict;
 use reader::Answer;
 ghost use mathlib.Core.Path.{_≡_};
@@ -25,7 +26,7 @@ pub struct Plan {
 }
 
 // Zeros in all three slices.
-fn clear(table: &mut [u32], words: &mut [u32], scratch: &mut [u32])
+fn clear(table: &mut [State], words: &mut [u32], scratch: &mut [State])
     ensures { λ _. ⌜ lentThree (now (table .exit)) (now (words .exit)) (now (scratch .exit))
         ≡ cleared (lentThree (now (table .entry)) (now (words .entry)) (now (scratch .entry))) ⌝ }
 {
@@ -38,9 +39,9 @@ fn clear(table: &mut [u32], words: &mut [u32], scratch: &mut [u32])
 fn weigh(
     sheet: &[u8],
     marks: &mut [u8; RULES],
-    table: &mut [u32],
+    table: &mut [State],
     words: &mut [u32],
-    scratch: &mut [u32],
+    scratch: &mut [State],
 ) -> u32
     requires { ⌜ (firstFault (now sheet) ≡ none) × (length (now marks) ≡ mostRules) ⌝ }
     ensures { λ n. ⌜ Weighs (now (sheet .entry)) (lentThree (now (table .entry)) (now (words .entry)) (now (scratch .entry)))
@@ -66,9 +67,9 @@ fn weigh(
 fn check_good(
     sheet: &[u8],
     rules: &[u32],
-    table: &mut [u32],
+    table: &mut [State],
     words: &mut [u32],
-    scratch: &mut [u32],
+    scratch: &mut [State],
 ) -> u32
     requires { ⌜ firstFault (now sheet) ≡ none ⌝ }
     ensures { λ n. ⌜ ClashChecked (now (sheet .entry)) (now (rules .entry))
@@ -93,9 +94,9 @@ fn check_good(
 pub fn check_clash(
     sheet: &[u8],
     rules: &[u32],
-    table: &mut [u32],
+    table: &mut [State],
     words: &mut [u32],
-    scratch: &mut [u32],
+    scratch: &mut [State],
 ) -> Verdict
     ensures { λ r. ⌜ ClashChecked (now (sheet .entry)) (now (rules .entry))
         (lentThree (now (table .entry)) (now (words .entry)) (now (scratch .entry))) (r .answer) (r .place)
@@ -119,9 +120,9 @@ pub fn check_clash(
 fn work(
     sheet: &[u8],
     marks: &mut [u8; RULES],
-    table: &mut [u32],
+    table: &mut [State],
     words: &mut [u32],
-    scratch: &mut [u32],
+    scratch: &mut [State],
 ) -> u32
     requires { ⌜ (firstFault (now sheet) ≡ none) × (now marks ≡ firstMarks 0) ⌝ }
     ensures { λ n. ⌜ Works (now (sheet .entry)) (lentThree (now (table .entry)) (now (words .entry)) (now (scratch .entry)))
@@ -148,7 +149,7 @@ fn work(
 }
 
 // The planner for a good sheet: no mark stays set on a refusal.
-fn plan_good(sheet: &[u8], table: &mut [u32], words: &mut [u32], scratch: &mut [u32]) -> Plan
+fn plan_good(sheet: &[u8], table: &mut [State], words: &mut [u32], scratch: &mut [State]) -> Plan
     requires { ⌜ firstFault (now sheet) ≡ none ⌝ }
     ensures { λ r. ⌜ Planned (now (sheet .entry)) (lentThree (now (table .entry)) (now (words .entry)) (now (scratch .entry)))
         (r .answer) (r .place) (r .marks) (lentThree (now (table .exit)) (now (words .exit)) (now (scratch .exit))) ⌝ }
@@ -174,7 +175,7 @@ fn plan_good(sheet: &[u8], table: &mut [u32], words: &mut [u32], scratch: &mut [
 // rule left out. The answer is 0 with the choice in `marks`, which the check accepts; 12 if the whole sheet can be kept; 17 if a sheet that it
 // tries has more reachable states than there is room for; 1 to 10 for a bad sheet, and the place is its byte. No mark is set but with 0. A bad
 // sheet changes nothing; after every other answer all that is lent is zero.
-pub fn clash(sheet: &[u8], table: &mut [u32], words: &mut [u32], scratch: &mut [u32]) -> Plan
+pub fn clash(sheet: &[u8], table: &mut [State], words: &mut [u32], scratch: &mut [State]) -> Plan
     ensures { λ r. ⌜ Planned (now (sheet .entry)) (lentThree (now (table .entry)) (now (words .entry)) (now (scratch .entry)))
         (r .answer) (r .place) (r .marks) (lentThree (now (table .exit)) (now (words .exit)) (now (scratch .exit))) ⌝ }
 {
@@ -198,9 +199,9 @@ pub fn clash(sheet: &[u8], table: &mut [u32], words: &mut [u32], scratch: &mut [
 pub extern "C" fn naxxurbi_check_clash(
     sheet: &[u8],
     rules: &[u32],
-    table: &mut [u32],
+    table: &mut [State],
     words: &mut [u32],
-    scratch: &mut [u32],
+    scratch: &mut [State],
 ) -> u32
     ensures { λ n. ⌜ ClashCheckedC (now (sheet .entry)) (now (rules .entry))
         (lentThree (now (table .entry)) (now (words .entry)) (now (scratch .entry))) n
@@ -214,9 +215,9 @@ pub extern "C" fn naxxurbi_check_clash(
 #[no_mangle]
 pub extern "C" fn naxxurbi_clash(
     sheet: &[u8],
-    table: &mut [u32],
+    table: &mut [State],
     words: &mut [u32],
-    scratch: &mut [u32],
+    scratch: &mut [State],
     marks: &mut [u8; RULES],
 ) -> u32
     ensures { λ n. ⌜ PlannedC (now (sheet .entry)) (lentThree (now (table .entry)) (now (words .entry)) (now (scratch .entry)))

@@ -1,5 +1,6 @@
 // The whole class in one call: up to 32 sheets, joined, are judged in turn with the same lent slices, and four numbers of each are noted.
 // The promise is `ClassJudged` of specs/Class.antt; it asks nothing.
+use ground::State;
 ghost use mathlib.Core.Path.{_≡_};
 ghost use Prim.Native.Nat.{_≤_, _+_};
 ghost use lib.ListN.{length};
@@ -64,10 +65,10 @@ fn note(numbers: &mut [u32], at: usize, answer: u32, count: u32, a: u32, b: u32)
 // Judges one sheet and notes its numbers from a place on.
 fn judge_one(
     sheet: &[u8],
-    table: &mut [u32],
+    table: &mut [State],
     words: &mut [u32],
-    scratch: &mut [u32],
-    run: &mut [u32],
+    scratch: &mut [State],
+    run: &mut [State],
     numbers: &mut [u32],
     at: usize,
 )
@@ -88,10 +89,10 @@ fn judge_one(
 fn judge_all(
     sheets: &[u8],
     ends: &[u32],
-    table: &mut [u32],
+    table: &mut [State],
     words: &mut [u32],
-    scratch: &mut [u32],
-    run: &mut [u32],
+    scratch: &mut [State],
+    run: &mut [State],
     numbers: &mut [u32],
 )
     requires { ⌜ Fair (length (now sheets)) (now ends) (length (now numbers)) ⌝ }
@@ -119,10 +120,10 @@ fn judge_all(
 pub fn judge_class(
     sheets: &[u8],
     ends: &[u32],
-    table: &mut [u32],
+    table: &mut [State],
     words: &mut [u32],
-    scratch: &mut [u32],
-    run: &mut [u32],
+    scratch: &mut [State],
+    run: &mut [State],
     numbers: &mut [u32],
 ) -> u32
     ensures { λ r. ⌜ ClassJudged (now (sheets .entry)) (now (ends .entry))
@@ -145,10 +146,10 @@ pub fn judge_class(
 pub extern "C" fn naxxurbi_judge_class(
     sheets: &[u8],
     ends: &[u32],
-    table: &mut [u32],
+    table: &mut [State],
     words: &mut [u32],
-    scratch: &mut [u32],
-    run: &mut [u32],
+    scratch: &mut [State],
+    run: &mut [State],
     numbers: &mut [u32],
 ) -> u32
     ensures { λ r. ⌜ ClassJudged (now (sheets .entry)) (now (ends .entry))

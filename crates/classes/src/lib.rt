@@ -1,6 +1,7 @@
 // Classes of states. States after which the same step rules ask something are of one class: they move to the same states, so that one listing
 // or count serves them all. A table of places finds an earlier state that is likely of the same class. That it is, is not promised here: who
 // uses it tests it (rules::freer), so a wrong place only costs time.
+use ground::State;
 ghost use mathlib.Core.Path.{_≡_};
 ghost use Prim.Native.Nat.{_<_, _≤_};
 ghost use lib.ListN.{length};
@@ -21,7 +22,7 @@ const SIGNATURES: usize = 65521;
 const SPREAD: usize = 40503;
 
 // A number of which step rules ask something after s, and of nothing else: the states of one class have one signature.
-fn signature(book: &[u32], s: u32) -> usize
+fn signature(book: &[State], s: State) -> usize
     requires { ⌜ Shaped (now book) ⌝ }
 {
     let steps = rules::steps(book);
@@ -45,7 +46,7 @@ fn worth(luck: usize, i: usize) -> bool {
 
 // The place that was given last for a state which is likely of the class of s, 0 where there was none. From now on it is i. Where it is not
 // worth looking, i itself.
-pub fn likely(book: &[u32], s: u32, i: usize, luck: usize, places: &mut [u16]) -> usize
+pub fn likely(book: &[State], s: State, i: usize, luck: usize, places: &mut [u16]) -> usize
     requires { ⌜ Shaped (now book) × (0 < length (now places)) × (length (now places) ≤ 65536) ⌝ }
     ensures { λ _. ⌜ length (now (places .exit)) ≡ length (now (places .entry)) ⌝ }
 {

@@ -1,6 +1,7 @@
 // Dead ends: reason 0 of a round strikes together the states with no move to an unstruck state. Each unstruck place keeps a pointer to a next
 // state that is unstruck; only where that one has been struck since is the next one sought, along the stored moves or by tests of pairs.
 
+use ground::State;
 ghost use mathlib.Core.Path.{_≡_};
 ghost use mathlib.Core.Bool.{true};
 ghost use Prim.Native.Nat.{_-_, _<_, _≤_};
@@ -21,7 +22,7 @@ fn counts(x: u32, word: u32) -> bool
 }
 
 // Whether a place counts and its state t makes the gathered clauses true.
-fn goes(clauses: &[u32], count: usize, t: u32, x: u32, word: u32) -> bool
+fn goes(clauses: &[State], count: usize, t: State, x: u32, word: u32) -> bool
     requires { ⌜ (length (now clauses) ≡ gatherSize) × (count ≤ 255) ⌝ }
     ensures { λ b. ⌜ Says (Counts word x × (clausesOk (now (clauses .entry)) count t ≡ true)) b ⌝ }
 {
@@ -33,14 +34,14 @@ fn goes(clauses: &[u32], count: usize, t: u32, x: u32, word: u32) -> bool
 
 // The place after the first one from `lo` on that counts and that s moves to; 0 if there is none.
 fn seek(
-    book: &[u32],
-    s: u32,
-    table: &[u32],
+    book: &[State],
+    s: State,
+    table: &[State],
     words: &[u32],
     r: usize,
     word: u32,
     lo: usize,
-    clauses: &mut [u32],
+    clauses: &mut [State],
 ) -> usize
     requires { ⌜ Told (now book) (now table) r × (r ≤ length (now words)) × (bookLawful (now book) s ≡ true) × (length (now clauses) ≡ gatherSize) ⌝ }
     ensures { λ q. ⌜ Sought (now (book .entry)) (now (table .entry)) (now (words .entry)) word r s lo q × (length (now (clauses .exit)) ≡ gatherSize) ⌝ }
@@ -87,15 +88,15 @@ fn seek_row(words: &[u32], i: usize, word: u32, lo: usize, forth: &[u16]) -> usi
 // The place after the first one from `lo` on that counts and that place i moves to, looked for in its row where the moves are stored; 0 if
 // there is none.
 fn seek_from(
-    book: &[u32],
-    table: &[u32],
+    book: &[State],
+    table: &[State],
     words: &[u32],
     r: usize,
     i: usize,
     word: u32,
     lo: usize,
     forth: &[u16],
-    clauses: &mut [u32],
+    clauses: &mut [State],
 ) -> usize
     requires { ⌜ Told (now book) (now table) r × (r ≤ length (now words)) × (i < r) × (length (now clauses) ≡ gatherSize)
         × Onward (now book) (now table) r (now forth) ⌝ }
@@ -137,10 +138,10 @@ fn pending(words: &[u32], i: usize, q: usize, word: u32) -> bool
 
 // Reason 0: strikes together the states with no move to an unstruck state; how many fall.
 pub fn dead_ends(
-    book: &[u32],
-    table: &[u32],
+    book: &[State],
+    table: &[State],
     words: &mut [u32],
-    scratch: &mut [u32],
+    scratch: &mut [State],
     r: usize,
     word: u32,
     forth: &[u16],
@@ -149,7 +150,7 @@ pub fn dead_ends(
     ensures { λ n. ⌜ PhaseDone (now (book .entry)) (now (table .entry)) r 0 word (now (words .entry)) (now (words .exit)) (now (scratch .entry))
         (now (scratch .exit)) n ⌝ }
 {
-    let mut clauses = [0u32; 510];
+    let mut clauses = [0u32; rules::GATHER_SIZE];
     let mut n: usize = 0;
     let mut i: usize = 0;
     while i < r {

@@ -2,6 +2,7 @@
 // kept. Found backwards from the states that keep it, in one of two ways: by tests of pairs, layer by layer, where each state of the last layer
 // is looked at once, and only against the states that are not reached yet, which are listed; or along stored moves with a queue, in time linear in places and moves.
 
+use ground::State;
 ghost use mathlib.Core.Path.{_≡_};
 ghost use Prim.Native.Nat.{_+_, _<_, _≤_};
 ghost use lib.ListN.{length};
@@ -19,7 +20,7 @@ pub const FAR: u16 = 65535;
 pub const GONE: u16 = 65534;
 
 // What a place begins with: struck, at the goal, or not reached yet.
-fn start(book: &[u32], k: usize, s: u32, word: u32) -> u16
+fn start(book: &[State], k: usize, s: State, word: u32) -> u16
     requires { ⌜ Shaped (now book) ⌝ }
     ensures { λ v. ⌜ Begun (keptIn (now (book .entry)) k s) word v ⌝ }
 {
@@ -33,7 +34,7 @@ fn start(book: &[u32], k: usize, s: u32, word: u32) -> u16
 }
 
 // Puts the goal's states at 0.
-fn begin(book: &[u32], k: usize, table: &[u32], words: &[u32], r: usize, near: &mut [u16])
+fn begin(book: &[State], k: usize, table: &[State], words: &[u32], r: usize, near: &mut [u16])
     requires { ⌜ Measurable (now book) k (now table) (now words) r × (length (now near) ≡ r) ⌝ }
     ensures { λ _. ⌜ Opening (now (book .entry)) k (now (table .entry)) (now (words .entry)) r (now (near .exit)) ⌝ }
 {
@@ -67,8 +68,8 @@ fn line_up(near: &[u16], r: usize, v: u16, list: &mut [u16]) -> usize
 // Gives d to the listed places from which the pack's state can be moved to, and closes the gaps that they leave in the list; how many places
 // are left there.
 fn spread(
-    table: &[u32],
-    pack: &[u32],
+    table: &[State],
+    pack: &[State],
     count: usize,
     d: u16,
     left: usize,
@@ -98,14 +99,14 @@ fn spread(
 // Spreads layer d: gives d + 1 to the listed places, which are not reached yet, that move into it; how many are left in the list. Stops where
 // none is.
 fn layer(
-    book: &[u32],
-    table: &[u32],
+    book: &[State],
+    table: &[State],
     r: usize,
     d: u16,
     left: usize,
     list: &mut [u16],
     near: &mut [u16],
-    pack: &mut [u32],
+    pack: &mut [State],
 ) -> usize
     requires { ⌜ Spreadable (now book) (now table) r d left (now list) (now near) × (length (now pack) ≡ gatherSize) ⌝ }
     ensures { λ kept. ⌜ LayerSifted (now (book .entry)) (now (table .entry)) r d left kept (now (near .entry)) (now (near .exit))
@@ -131,9 +132,9 @@ fn layer(
 
 // The distances of the table's first r places, in a slice of that length, with room for a list of places.
 fn measure(
-    book: &[u32],
+    book: &[State],
     k: usize,
-    table: &[u32],
+    table: &[State],
     words: &[u32],
     r: usize,
     list: &mut [u16],
@@ -143,7 +144,7 @@ fn measure(
     ensures { λ _. ⌜ Near (bookSystem (now (book .entry))) (bookSystem (now (book .entry)) .Kept k) (now (table .entry)) (now (words .entry)) r
         (now (near .exit)) × (length (now (list .exit)) ≡ length (now (list .entry))) ⌝ }
 {
-    let mut pack = [0u32; 510];
+    let mut pack = [0u32; rules::GATHER_SIZE];
     begin(book, k, table, words, r, near);
     let mut left = line_up(near, r, FAR, list);
     let mut d: u16 = 0;
@@ -159,9 +160,9 @@ fn measure(
 
 // The same, written from `from` on.
 fn by_tests(
-    book: &[u32],
+    book: &[State],
     k: usize,
-    table: &[u32],
+    table: &[State],
     words: &[u32],
     r: usize,
     queue: &mut [u16],
@@ -211,9 +212,9 @@ fn follow_row(
 // The distances of the table's first r places, in a slice of that length, by the stored moves back: from each place of the queue in turn, its
 // row is followed.
 fn measure_back(
-    book: &[u32],
+    book: &[State],
     k: usize,
-    table: &[u32],
+    table: &[State],
     words: &[u32],
     r: usize,
     back: &[u16],
@@ -239,9 +240,9 @@ fn measure_back(
 
 // The same, written from `from` on.
 fn follow(
-    book: &[u32],
+    book: &[State],
     k: usize,
-    table: &[u32],
+    table: &[State],
     words: &[u32],
     r: usize,
     back: &[u16],
@@ -261,9 +262,9 @@ fn follow(
 // The distances to promise k, counted from 0, of the table's first r places, written from `from` on: GONE for a struck place, FAR where no path of
 // unstruck states leads to the promise. By the stored moves back where they are stored, else (`back` is empty) by tests of pairs.
 pub fn distances(
-    book: &[u32],
+    book: &[State],
     k: usize,
-    table: &[u32],
+    table: &[State],
     words: &[u32],
     r: usize,
     back: &[u16],

@@ -1,5 +1,6 @@
 // An account of a log carried on by more states, move by move: its five numbers, and the tallies of the step rules beside them. What a state is and
 // what is told of it stands in crates/accounts/specs.
+use ground::State;
 ghost use mathlib.Core.Path.{_≡_};
 ghost use Prim.Native.Nat.{_+_, _<_, _≤_};
 ghost use lib.ListN.{length};
@@ -25,7 +26,7 @@ pub struct Head {
 
 // What the state t is after `count` others, where the move into it broke a step rule or did not: 0 no breach, 1 unlawful, 2 it breaks a first
 // rule, 3 a step rule.
-fn what_is(book: &[u32], count: u32, broke: bool, t: u32) -> u32
+fn what_is(book: &[State], count: u32, broke: bool, t: State) -> u32
     requires { ⌜ Shaped (now book) ⌝ }
     ensures { λ r. ⌜ r ≡ bookIs (now (book .entry)) count broke t ⌝ }
 {
@@ -52,7 +53,7 @@ fn is_first(what: u32, is: u32) -> bool
 }
 
 // The step rule that a breach of this kind is told with, the move being from s to t.
-fn rule_told(book: &[u32], is: u32, s: u32, t: u32) -> u32
+fn rule_told(book: &[State], is: u32, s: State, t: State) -> u32
     requires { ⌜ Shaped (now book) ⌝ }
     ensures { λ r. ⌜ r ≡ ruleTold is (bookBroke (now (book .entry)) s t) ⌝ }
 {
@@ -63,7 +64,7 @@ fn rule_told(book: &[u32], is: u32, s: u32, t: u32) -> u32
 }
 
 // The five numbers with `times` more states t, all by the same move, which broke a step rule or did not.
-fn note(book: &[u32], head: Head, broke: bool, t: u32, times: u32) -> Head
+fn note(book: &[State], head: Head, broke: bool, t: State, times: u32) -> Head
     requires { ⌜ Shaped (now book) × (head .count + times ≤ mostMoments) ⌝ }
     ensures { λ r. ⌜ r ≡ headNoted (now (book .entry)) head broke t times ⌝ }
 {
@@ -90,9 +91,9 @@ fn note(book: &[u32], head: Head, broke: bool, t: u32, times: u32) -> Head
 
 // Counts the move into t, made `times` times, unless t is the log's first state; whether it broke a step rule.
 fn move_into(
-    book: &[u32],
+    book: &[State],
     head: Head,
-    t: u32,
+    t: State,
     times: u32,
     kept: &mut [u32; TALLIES],
     broken: &mut [u32; TALLIES],
@@ -110,8 +111,8 @@ fn move_into(
 
 // Follows the states, noting each and counting the move into it, those that come by the same move together; the five numbers at the end.
 pub fn follow(
-    book: &[u32],
-    states: &[u32],
+    book: &[State],
+    states: &[State],
     head: Head,
     kept: &mut [u32; TALLIES],
     broken: &mut [u32; TALLIES],

@@ -1,5 +1,6 @@
 // The tallies of a move, or of one and the same move made several times: for each step rule whose left side held, whether it kept or broke it.
 use super::TALLIES;
+use ground::State;
 ghost use mathlib.Core.Path.{_≡_};
 ghost use mathlib.Core.Bool.{cond};
 ghost use Prim.Native.Nat.{_+_, _<_, _≤_};
@@ -21,10 +22,10 @@ fn counted(passed: bool, times: u32) -> u32
 // Counts `times` moves from s to t for step rule i; whether they broke the rule. Both tallies are written, whatever the move: which one grows is
 // hard to foresee, and a branch on it costs more than the store.
 fn tally_rule(
-    book: &[u32],
+    book: &[State],
     i: usize,
-    s: u32,
-    t: u32,
+    s: State,
+    t: State,
     times: u32,
     kept: &mut [u32; TALLIES],
     broken: &mut [u32; TALLIES],
@@ -50,9 +51,9 @@ fn tally_rule(
 // Counts `times` moves from s to t for every step rule; whether they broke one. Which one was the first is not asked here: without that, the
 // compiler counts several rules at once.
 pub fn tally(
-    book: &[u32],
-    s: u32,
-    t: u32,
+    book: &[State],
+    s: State,
+    t: State,
     times: u32,
     kept: &mut [u32; TALLIES],
     broken: &mut [u32; TALLIES],
@@ -74,7 +75,7 @@ pub fn tally(
 }
 
 // Whether the move from s to t breaks step rule i.
-fn broken_by(book: &[u32], i: usize, s: u32, t: u32) -> bool
+fn broken_by(book: &[State], i: usize, s: State, t: State) -> bool
     requires { ⌜ Shaped (now book) × (i < stepsOf (now book)) ⌝ }
     ensures { λ r. ⌜ r ≡ brokenBy (now (book .entry)) s t i ⌝ }
 {
@@ -84,7 +85,7 @@ fn broken_by(book: &[u32], i: usize, s: u32, t: u32) -> bool
 }
 
 // The first step rule that the move from s to t breaks, counted from 1, or 0.
-pub fn first_broken(book: &[u32], s: u32, t: u32) -> u32
+pub fn first_broken(book: &[State], s: State, t: State) -> u32
     requires { ⌜ Shaped (now book) ⌝ }
     ensures { λ r. ⌜ r ≡ bookBroke (now (book .entry)) s t ⌝ }
 {

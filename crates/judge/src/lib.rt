@@ -1,6 +1,7 @@
 // The judge: reads a sheet, lists its reachable states, strikes those that nobody could keep, and hands over a sample run or a strike list
 // in the slices that it was lent. Its promise is `Judged` of the meaning; it asks nothing.
 use ground::MOST_STATES;
+use ground::State;
 use ground::lesser;
 use reader::Answer;
 ghost use mathlib.Core.Path.{_≡_};
@@ -36,7 +37,7 @@ fn refusal(answer: u32, b: u32, place: u32) -> Judgement
 }
 
 // Leaves the first t places of the table and the first w of the words; zeros everywhere else.
-fn leave(table: &mut [u32], words: &mut [u32], scratch: &mut [u32], t: usize, w: usize)
+fn leave(table: &mut [State], words: &mut [u32], scratch: &mut [State], t: usize, w: usize)
     requires { ⌜ (t ≤ length (now table)) × (w ≤ length (now words)) ⌝ }
     ensures { λ _.
         ⌜ LeftOver t w (now (table .entry)) (now (words .entry)) (now (scratch .entry)) (now (table .exit)) (now (words .exit)) (now (scratch .exit)) ⌝ }
@@ -54,7 +55,7 @@ fn room(table: usize, words: usize, scratch: usize) -> usize
 }
 
 // Leaves the strike list of r struck states: in order, then zeros.
-fn write_strikes(table: &mut [u32], words: &mut [u32], scratch: &mut [u32], r: usize)
+fn write_strikes(table: &mut [State], words: &mut [u32], scratch: &mut [State], r: usize)
     requires { ⌜ Orderable (now table) (now words) (now scratch) r ⌝ }
     ensures { λ _.
         ⌜ StrikesWritten (now (table .entry)) (now (words .entry)) (now (scratch .entry)) r
@@ -66,11 +67,11 @@ fn write_strikes(table: &mut [u32], words: &mut [u32], scratch: &mut [u32], r: u
 
 // For a sheet that can be kept, by k livable states: the sample run if it fits.
 fn judge_kept(
-    book: &[u32],
-    table: &mut [u32],
+    book: &[State],
+    table: &mut [State],
     words: &mut [u32],
-    scratch: &mut [u32],
-    run: &mut [u32],
+    scratch: &mut [State],
+    run: &mut [State],
     k: usize,
 ) -> Judgement
     requires { ⌜ Kept (now book) (lentOf (now table) (now words) (now scratch) (now run)) k ⌝ }
@@ -99,11 +100,11 @@ fn judge_kept(
 
 // With the r reachable states listed in the table.
 fn judge_reached(
-    book: &[u32],
-    table: &mut [u32],
+    book: &[State],
+    table: &mut [State],
     words: &mut [u32],
-    scratch: &mut [u32],
-    run: &mut [u32],
+    scratch: &mut [State],
+    run: &mut [State],
     r: usize,
 ) -> Judgement
     requires { ⌜ Reached (now book) (lentOf (now table) (now words) (now scratch) (now run)) r ⌝ }
@@ -129,11 +130,11 @@ fn judge_reached(
 
 // For a good sheet, compiled into its book.
 fn judge_book(
-    book: &[u32],
-    table: &mut [u32],
+    book: &[State],
+    table: &mut [State],
     words: &mut [u32],
-    scratch: &mut [u32],
-    run: &mut [u32],
+    scratch: &mut [State],
+    run: &mut [State],
 ) -> Judgement
     requires { ⌜ Shaped (now book) ⌝ }
     ensures { λ j. ⌜ JudgedBy (bookSystem (now (book .entry)))
@@ -152,10 +153,10 @@ fn judge_book(
 // For a good sheet.
 fn judge_good(
     sheet: &[u8],
-    table: &mut [u32],
+    table: &mut [State],
     words: &mut [u32],
-    scratch: &mut [u32],
-    run: &mut [u32],
+    scratch: &mut [State],
+    run: &mut [State],
 ) -> Judgement
     requires { ⌜ firstFault (now sheet) ≡ none ⌝ }
     ensures { λ r. ⌜ Judged (now (sheet .entry))
@@ -174,10 +175,10 @@ fn judge_good(
 // byte; nothing lent is changed). What each slice then holds is `outcome` of the meaning.
 pub fn judge(
     sheet: &[u8],
-    table: &mut [u32],
+    table: &mut [State],
     words: &mut [u32],
-    scratch: &mut [u32],
-    run: &mut [u32],
+    scratch: &mut [State],
+    run: &mut [State],
 ) -> Judgement
     ensures { λ r. ⌜ Judged (now (sheet .entry))
         (lentOf (now (table .entry)) (now (words .entry)) (now (scratch .entry)) (now (run .entry)))
@@ -198,10 +199,10 @@ pub fn judge(
 #[no_mangle]
 pub extern "C" fn naxxurbi_judge(
     sheet: &[u8],
-    table: &mut [u32],
+    table: &mut [State],
     words: &mut [u32],
-    scratch: &mut [u32],
-    run: &mut [u32],
+    scratch: &mut [State],
+    run: &mut [State],
     out: &mut [u32; 5],
 )
     ensures { λ _. ⌜ JudgedOut (now (sheet .entry))

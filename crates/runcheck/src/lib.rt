@@ -75,7 +75,7 @@ fn check_paper(sheet: &[u8], bytes: &[u8], numbers: &[State], a: u32) -> u32
 }
 
 // Whether the run is accepted.
-fn accepted(book: &[u32], bytes: &[u8], numbers: &[State], a: usize) -> bool
+fn accepted(book: &[State], bytes: &[u8], numbers: &[State], a: usize) -> bool
     requires { ⌜ Shaped (now book) ⌝ }
     ensures { λ r. ⌜ Says (RunAccepted (bookSystem (now (book .entry))) (statesOf (now (bytes .entry)) (now (numbers .entry))) a) r ⌝ }
 {
@@ -100,7 +100,7 @@ fn accepted(book: &[u32], bytes: &[u8], numbers: &[State], a: usize) -> bool
 }
 
 // Whether each state moves to the following one.
-fn moves_on(book: &[u32], bytes: &[u8], numbers: &[State]) -> bool
+fn moves_on(book: &[State], bytes: &[u8], numbers: &[State]) -> bool
     requires { ⌜ Shaped (now book) × (0 < length (statesOf (now bytes) (now numbers))) ⌝ }
     ensures { λ r. ⌜ Says (MovesOn (bookSystem (now (book .entry))) (statesOf (now (bytes .entry)) (now (numbers .entry)))) r ⌝ }
 {
@@ -120,7 +120,7 @@ fn moves_on(book: &[u32], bytes: &[u8], numbers: &[State]) -> bool
 }
 
 // Whether each promise is true in some state from a on.
-fn keeps_all(book: &[u32], bytes: &[u8], numbers: &[State], a: usize) -> bool
+fn keeps_all(book: &[State], bytes: &[u8], numbers: &[State], a: usize) -> bool
     requires { ⌜ Shaped (now book) × (a < length (statesOf (now bytes) (now numbers))) ⌝ }
     ensures { λ r. ⌜ Says (AllKept (bookSystem (now (book .entry))) (statesOf (now (bytes .entry)) (now (numbers .entry))) a) r ⌝ }
 {
@@ -136,7 +136,7 @@ fn keeps_all(book: &[u32], bytes: &[u8], numbers: &[State], a: usize) -> bool
 }
 
 // Whether promise k is.
-fn keeps(book: &[u32], bytes: &[u8], numbers: &[State], a: usize, k: usize) -> bool
+fn keeps(book: &[State], bytes: &[u8], numbers: &[State], a: usize, k: usize) -> bool
     requires { ⌜ Shaped (now book) × (a < length (statesOf (now bytes) (now numbers))) ⌝ }
     ensures { λ r. ⌜ Says (KeptFrom (bookSystem (now (book .entry))) (statesOf (now (bytes .entry)) (now (numbers .entry))) a k) r ⌝ }
 {

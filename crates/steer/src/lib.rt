@@ -2,6 +2,7 @@
 // walk finds the moment b at which a pair of state and aim comes again, a second one writes the b states, if they fit. Where there are many
 // states, the moves between them are stored once, if they have room, and the distances and every step look at stored moves only.
 
+use ground::State;
 ghost use mathlib.Core.Path.{_≡_};
 ghost use mathlib.Core.Bool.{true};
 ghost use Prim.Native.Nat.{_*_, _≤_};
@@ -38,8 +39,8 @@ pub struct End {
 
 // Walks to the first moment whose pair of state and aim was met before.
 fn find_end(
-    book: &[u32],
-    table: &[u32],
+    book: &[State],
+    table: &[State],
     words: &mut [u32],
     dist: &[u16],
     r: usize,
@@ -76,9 +77,9 @@ fn back_from(a: usize, i: usize, place: usize, last: usize, aim: usize, goal: us
 
 // Walks again and writes the b states; the moment that the pair of `last` and `goal` was first met.
 fn write_run(
-    book: &[u32],
-    table: &[u32],
-    run: &mut [u32],
+    book: &[State],
+    table: &[State],
+    run: &mut [State],
     dist: &[u16],
     r: usize,
     b: usize,
@@ -107,10 +108,10 @@ fn write_run(
 
 // The whole work, with room for the rows.
 fn walk(
-    book: &[u32],
-    table: &[u32],
+    book: &[State],
+    table: &[State],
     words: &mut [u32],
-    run: &mut [u32],
+    run: &mut [State],
     dist: &mut [u16],
     r: usize,
     forth: &[u16],
@@ -138,7 +139,13 @@ fn walk(
 }
 
 // With room for few distances and for no moves, so that small sheets stay quick.
-fn walk_small(book: &[u32], table: &[u32], words: &mut [u32], run: &mut [u32], r: usize) -> Steps
+fn walk_small(
+    book: &[State],
+    table: &[State],
+    words: &mut [u32],
+    run: &mut [State],
+    r: usize,
+) -> Steps
     requires { ⌜ Steerable (now book) (now table) (now words) r × (aimsOf (bookSystem (now book)) * r ≤ fewDistances)
         × (r ≤ fewStates) ⌝ }
     ensures { λ s. ⌜ Walked (now (book .entry)) (now (words .entry)) (now (words .exit)) (now (run .entry)) (now (run .exit)) (s .a) (s .b) ⌝ }
@@ -161,7 +168,13 @@ fn walk_small(book: &[u32], table: &[u32], words: &mut [u32], run: &mut [u32], r
 }
 
 // With room for as many distances as there can be, and for the moves.
-fn walk_large(book: &[u32], table: &[u32], words: &mut [u32], run: &mut [u32], r: usize) -> Steps
+fn walk_large(
+    book: &[State],
+    table: &[State],
+    words: &mut [u32],
+    run: &mut [State],
+    r: usize,
+) -> Steps
     requires { ⌜ Steerable (now book) (now table) (now words) r ⌝ }
     ensures { λ s. ⌜ Walked (now (book .entry)) (now (words .entry)) (now (words .exit)) (now (run .entry)) (now (run .exit)) (s .a) (s .b) ⌝ }
 {
@@ -196,7 +209,13 @@ fn is_small(room: usize, r: usize) -> bool
 
 // Finds the sample run of the r livable states in the table's front. b is its length; if b places fit, run begins with its states and a is
 // the moment that it goes back to, else run is unchanged. The words are worked in.
-pub fn steer(book: &[u32], table: &[u32], words: &mut [u32], run: &mut [u32], r: usize) -> Steps
+pub fn steer(
+    book: &[State],
+    table: &[State],
+    words: &mut [u32],
+    run: &mut [State],
+    r: usize,
+) -> Steps
     requires { ⌜ Steerable (now book) (now table) (now words) r ⌝ }
     ensures { λ s. ⌜ Walked (now (book .entry)) (now (words .entry)) (now (words .exit)) (now (run .entry)) (now (run .exit)) (s .a) (s .b) ⌝ }
 {

@@ -4,6 +4,7 @@ use super::Turn;
 use super::base_after;
 use super::reason_after;
 use super::rested;
+use ground::State;
 ghost use mathlib.Core.Path.{_≡_};
 ghost use mathlib.Core.Logic.{_⊎_};
 ghost use lib.ListN.{length};
@@ -18,7 +19,7 @@ pub const REASONS: usize = 17;
 const NEVER: u16 = 65535;
 
 // Fills the rows: none has a way on yet (row 0), and for each promise who keeps it (row 1 on).
-fn begin_rows(book: &[u32], table: &[u32], r: usize, wit: &mut [u16])
+fn begin_rows(book: &[State], table: &[State], r: usize, wit: &mut [u16])
     requires { ⌜ Beginnable (now book) (now table) r (now wit) ⌝ }
     ensures { λ _. ⌜ BegunRows (now (book .entry)) (now (table .entry)) r (now (wit .entry)) (now (wit .exit)) ⌝ }
 {
@@ -80,8 +81,8 @@ fn news_from(reason: usize, m: usize, end: usize) -> usize
 
 // The rounds along stored moves, from words that are all 0; how many states are left.
 pub fn rounds_along(
-    book: &[u32],
-    table: &[u32],
+    book: &[State],
+    table: &[State],
     words: &mut [u32],
     r: usize,
     forth: &[u16],

@@ -2,6 +2,7 @@
 // round after round, until as many phases as there are reasons have struck nothing. Where there are many states their moves are stored first,
 // forth and back, so that a phase follows them instead of testing pairs of states.
 
+use ground::State;
 ghost use mathlib.Core.Path.{_≡_};
 ghost use mathlib.Core.Logic.{_⊎_};
 ghost use Prim.Native.Nat.{_+_, _<_, _≤_, suc};
@@ -50,10 +51,10 @@ pub struct Turn {
 
 // One phase: strikes together, for one reason, the states that it does not save; how many fall.
 fn phase(
-    book: &[u32],
-    table: &[u32],
+    book: &[State],
+    table: &[State],
     words: &mut [u32],
-    scratch: &mut [u32],
+    scratch: &mut [State],
     r: usize,
     turn: Turn,
     forth: &[u16],
@@ -113,10 +114,10 @@ fn base_after(base: u32, reason: usize, p: usize) -> u32
 // The rounds, from words and pointers that are all 0; how many states are left. Stops when as many phases as there are reasons have struck
 // nothing in a row.
 fn rounds(
-    book: &[u32],
-    table: &[u32],
+    book: &[State],
+    table: &[State],
     words: &mut [u32],
-    scratch: &mut [u32],
+    scratch: &mut [State],
     r: usize,
     forth: &[u16],
     back: &[u16],
@@ -158,10 +159,10 @@ fn rounds(
 
 // Strikes few states, from words and pointers that are all 0, by tests of pairs.
 fn strike_few(
-    book: &[u32],
-    table: &[u32],
+    book: &[State],
+    table: &[State],
     words: &mut [u32],
-    scratch: &mut [u32],
+    scratch: &mut [State],
     r: usize,
 ) -> usize
     requires { ⌜ Strikable (now book) (now table) (now words) (now scratch) r × Zeros (now words) r × Zeros (now scratch) r × (r < fewStates) ⌝ }
@@ -187,10 +188,10 @@ fn strike_few(
 
 // Strikes many states whose moves are not stored, from words and pointers that are all 0, by tests of pairs.
 fn strike_by_tests(
-    book: &[u32],
-    table: &[u32],
+    book: &[State],
+    table: &[State],
     words: &mut [u32],
-    scratch: &mut [u32],
+    scratch: &mut [State],
     r: usize,
 ) -> usize
     requires { ⌜ Strikable (now book) (now table) (now words) (now scratch) r × Zeros (now words) r × Zeros (now scratch) r ⌝ }
@@ -216,8 +217,8 @@ fn strike_by_tests(
 
 // Strikes many states along their stored moves, from words that are all 0.
 fn strike_along(
-    book: &[u32],
-    table: &[u32],
+    book: &[State],
+    table: &[State],
     words: &mut [u32],
     r: usize,
     forth: &[u16],
@@ -245,10 +246,10 @@ fn strike_along(
 
 // Strikes many states, from words and pointers that are all 0, along their stored moves if there is room for these.
 fn strike_many(
-    book: &[u32],
-    table: &[u32],
+    book: &[State],
+    table: &[State],
     words: &mut [u32],
-    scratch: &mut [u32],
+    scratch: &mut [State],
     r: usize,
 ) -> usize
     requires { ⌜ Strikable (now book) (now table) (now words) (now scratch) r × Zeros (now words) r × Zeros (now scratch) r ⌝ }
@@ -267,10 +268,10 @@ fn strike_many(
 // Gives each of the table's first r states, which are all reachable states, its word: 0 if it is livable, or else 32 times the round plus
 // the reason for which it is struck; how many are left. The scratch is worked in.
 pub fn strike(
-    book: &[u32],
-    table: &[u32],
+    book: &[State],
+    table: &[State],
     words: &mut [u32],
-    scratch: &mut [u32],
+    scratch: &mut [State],
     r: usize,
 ) -> usize
     requires { ⌜ Strikable (now book) (now table) (now words) (now scratch) r ⌝ }

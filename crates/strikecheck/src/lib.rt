@@ -92,7 +92,7 @@ fn check_paper(sheet: &[u8], sb: &[u8], sn: &[State], wb: &[u8], wn: &[u32]) -> 
 }
 
 // Whether the list is accepted.
-fn accepted(book: &[u32], sb: &[u8], sn: &[State], wb: &[u8], wn: &[u32]) -> bool
+fn accepted(book: &[State], sb: &[u8], sn: &[State], wb: &[u8], wn: &[u32]) -> bool
     requires { ⌜ Shaped (now book) ⌝ }
     ensures { λ r. ⌜ Says (Accepted (now (book .entry)) (now (sb .entry)) (now (sn .entry)) (now (wb .entry)) (now (wn .entry))) r ⌝ }
 {
@@ -136,7 +136,7 @@ fn words_rise(wb: &[u8], wn: &[u32]) -> bool
 }
 
 // Whether each word's remainder by 32 is at most the number of promises.
-fn reasons_fit(book: &[u32], wb: &[u8], wn: &[u32]) -> bool
+fn reasons_fit(book: &[State], wb: &[u8], wn: &[u32]) -> bool
     requires { ⌜ Shaped (now book) ⌝ }
     ensures { λ r. ⌜ Says (ReasonsFit (bookSystem (now (book .entry))) (wordsOf (now (wb .entry)) (now (wn .entry)))) r ⌝ }
 {
@@ -155,7 +155,7 @@ fn reasons_fit(book: &[u32], wb: &[u8], wn: &[u32]) -> bool
 }
 
 // Whether each state is lawful.
-fn all_lawful(book: &[u32], sb: &[u8], sn: &[State]) -> bool
+fn all_lawful(book: &[State], sb: &[u8], sn: &[State]) -> bool
     requires { ⌜ Shaped (now book) ⌝ }
     ensures { λ r. ⌜ Says (AllLawful (bookSystem (now (book .entry))) (statesOf (now (sb .entry)) (now (sn .entry)))) r ⌝ }
 {
@@ -174,7 +174,7 @@ fn all_lawful(book: &[u32], sb: &[u8], sn: &[State]) -> bool
 // Whether every entry shows what it must. Of the words, the first `near` are smaller than the entry's, and the first `far` the same or
 // smaller; both only grow. `last` is the entry last counted for; `likely` one whose state is likely of the same class.
 fn entries_right(
-    book: &[u32],
+    book: &[State],
     sb: &[u8],
     sn: &[State],
     wb: &[u8],
@@ -218,7 +218,7 @@ fn entries_right(
 
 // True only if the state of entry `likely` or of entry `last` stands before entry i and may move wherever that one's may: if the earlier
 // entry is right, there is nothing to count.
-fn follows(book: &[u32], sb: &[u8], sn: &[State], i: usize, likely: usize, last: usize) -> bool
+fn follows(book: &[State], sb: &[u8], sn: &[State], i: usize, likely: usize, last: usize) -> bool
     requires { ⌜ Shaped (now book) × (i < length (statesOf (now sb) (now sn))) ⌝ }
     ensures { λ r. ⌜ (r ≡ true → Follows (now (book .entry)) (statesOf (now (sb .entry)) (now (sn .entry))) i) ⌝ }
 {
@@ -229,7 +229,7 @@ fn follows(book: &[u32], sb: &[u8], sn: &[State], i: usize, likely: usize, last:
 }
 
 // True only if entry k stands before entry i and its state may move wherever that one's may.
-fn shown_by(book: &[u32], sb: &[u8], sn: &[State], i: usize, k: usize) -> bool
+fn shown_by(book: &[State], sb: &[u8], sn: &[State], i: usize, k: usize) -> bool
     requires { ⌜ Shaped (now book) × (i < length (statesOf (now sb) (now sn))) ⌝ }
     ensures { λ r. ⌜ (r ≡ true → Follows (now (book .entry)) (statesOf (now (sb .entry)) (now (sn .entry))) i) ⌝ }
 {
@@ -267,7 +267,7 @@ fn places(reason: u32, near: usize, far: usize) -> usize
 
 // The reason's promise is false in s, and every next state is among the first m, which may be known.
 fn entry_right(
-    book: &[u32],
+    book: &[State],
     s: State,
     reason: u32,
     sb: &[u8],
@@ -289,7 +289,7 @@ fn entry_right(
 }
 
 // Whether the reason's promise is true in s; reason 0 has none.
-fn kept_by(book: &[u32], reason: u32, s: State) -> bool
+fn kept_by(book: &[State], reason: u32, s: State) -> bool
     requires { ⌜ Shaped (now book) ⌝ }
     ensures { λ r. ⌜ Says (KeptBy (bookSystem (now (book .entry))) reason s) r ⌝ }
 {

@@ -1,6 +1,7 @@
 // Trials of a sheet with a choice of its step rules (document 02, order 5): each is judged with no room for a run. One choice is tried, or a
 // choice with each of its rules left out by itself, or rules are dropped from the last to the first.
 use choice::RULES;
+use ground::State;
 use reader::header::MOST_BYTES;
 ghost use mathlib.Core.Path.{_≡_};
 ghost use mathlib.Core.Option.{none};
@@ -15,9 +16,9 @@ ghost use Rattle.trials.specs.Parts.{BytesJudged, Trial, EachLeftOut, Dr
 fn judge_front(
     buffer: &[u8; MOST_BYTES],
     n: usize,
-    table: &mut [u32],
+    table: &mut [State],
     words: &mut [u32],
-    scratch: &mut [u32],
+    scratch: &mut [State],
 ) -> u32
     requires { ⌜ n ≤ mostBytes ⌝ }
     ensures { λ a. ⌜ BytesJudged (take n (now (buffer .entry)))
@@ -34,9 +35,9 @@ fn judge_front(
 pub fn trial(
     sheet: &[u8],
     marks: &[u8; RULES],
-    table: &mut [u32],
+    table: &mut [State],
     words: &mut [u32],
-    scratch: &mut [u32],
+    scratch: &mut [State],
 ) -> u32
     requires { ⌜ firstFault (now sheet) ≡ none ⌝ }
     ensures { λ n. ⌜ Trial (now (sheet .entry)) (lentThree (now (table .entry)) (now (words .entry)) (now (scratch .entry)))
@@ -52,9 +53,9 @@ fn left_out(
     sheet: &[u8],
     marks: &mut [u8; RULES],
     i: usize,
-    table: &mut [u32],
+    table: &mut [State],
     words: &mut [u32],
-    scratch: &mut [u32],
+    scratch: &mut [State],
 ) -> u32
     requires { ⌜ (firstFault (now sheet) ≡ none) × (i < mostRules) ⌝ }
     ensures { λ n. ⌜ Trial (now (sheet .entry)) (lentThree (now (table .entry)) (now (words .entry)) (now (scratch .entry)))
@@ -73,9 +74,9 @@ fn left_out(
 pub fn each_left_out(
     sheet: &[u8],
     marks: &mut [u8; RULES],
-    table: &mut [u32],
+    table: &mut [State],
     words: &mut [u32],
-    scratch: &mut [u32],
+    scratch: &mut [State],
 ) -> u32
     requires { ⌜ (firstFault (now sheet) ≡ none) × (length (now marks) ≡ mostRules) ⌝ }
     ensures { λ n. ⌜ EachLeftOut (now (sheet .entry)) (lentThree (now (table .entry)) (now (words .entry)) (now (scratch .entry)))
@@ -104,9 +105,9 @@ pub fn drop_rules(
     sheet: &[u8],
     marks: &mut [u8; RULES],
     count: usize,
-    table: &mut [u32],
+    table: &mut [State],
     words: &mut [u32],
-    scratch: &mut [u32],
+    scratch: &mut [State],
 ) -> bool
     requires { ⌜ (firstFault (now sheet) ≡ none) × (count ≤ mostRules) ⌝ }
     ensures { λ r. ⌜ Drops (now (sheet .entry)) (lentThree (now (table .entry)) (now (words .entry)) (now (scratch .entry)))

@@ -1,6 +1,7 @@
 // Watching a promise along stored moves. Each unstruck place has a witness: it keeps the promise itself, or it names a next place whose witnesses
 // lead on to one that does. A phase looks again only at places whose witnesses were cut by a strike since the promise's last phase, and at those
 // that hang on them; who finds no new witness falls. The struck places stand in a log, in the order in which they fell.
+use ground::State;
 ghost use mathlib.Core.Path.{_≡_};
 ghost use mathlib.Core.List.{List};
 ghost use Prim.Native.Nat.{ℕ, _+_, _<_, _≤_};
@@ -22,7 +23,7 @@ pub const NOBODY: u16 = 65535;
 pub const ITSELF: u16 = 65534;
 
 // What each place begins with: it keeps promise k, counted from 0, or nobody helps it yet.
-pub fn begin(book: &[u32], k: usize, table: &[u32], row: &mut [u16])
+pub fn begin(book: &[State], k: usize, table: &[State], row: &mut [u16])
     requires { ⌜ Shaped (now book) × (k < promisesOf (now book)) × (length (now row) ≤ length (now table)) ⌝ }
     ensures { λ _. ⌜ BegunRow (now (book .entry)) k (now (table .entry)) (now (row .entry)) (now (row .exit)) ⌝ }
 {
