@@ -72,6 +72,18 @@ static inline void make_at_odds(uint32_t letters, uint32_t bound)
     end(0);
 }
 
+/* Exactly one of letter 1 and its opposite, which every state meets: no letter is known until it is settled, the most that a walk takes of a stack. */
+static inline void make_met(uint32_t letters)
+{
+    begin(letters, 1, 0, 0, 0);
+    byte(4);
+    byte(0);
+    byte(1);
+    byte(255);
+    byte(1);
+    end(0);
+}
+
 /* No rules at all. */
 static inline void make_free(uint32_t letters, uint32_t promises)
 {

@@ -12,7 +12,7 @@
 #include "test.h"
 
 /* What the header states, in pages of 4,096 bytes (a class: the judge's); and how wide the fences are: a call may take all its stack at once. */
-enum { READ_PAGES = 1, RUN_PAGES = 2, STRIKES_PAGES = 4, AUDIT_PAGES = 4, JUDGE_PAGES = 208, CLASH_PAGES = 208, FENCE = 4 << 20 };
+enum { READ_PAGES = 1, RUN_PAGES = 2, STRIKES_PAGES = 4, AUDIT_PAGES = 4, JUDGE_PAGES = 224, CLASH_PAGES = 224, FENCE = 4 << 20 };
 
 enum { STATES = 16384, MOMENTS = 262144, KEPT = 12, CROWDED = 17 };
 
@@ -183,6 +183,8 @@ int main(void)
     all_calls("14 letters, 16,384 states, 16 promises", 0);
     make_free(ALL_LETTERS, 0);
     all_calls("24 letters, more states than room", 11);
+    make_met(ALL_LETTERS);
+    all_calls("24 letters, a limit that every state meets", 11);
     make_free(1, 0);
     all_calls("1 letter", 0);
     bad_sheet();
