@@ -6,7 +6,7 @@
 //! walks in vain unless it sees what is forced. The numbers of the letters say
 //! nothing, so each sheet comes in four orders and should cost the same in all.
 
-use crate::make::{add_one, counter, late_clash, list, literal, random_draft, Draft, Family, Rng};
+use crate::make::{add_one, counter, counter_to_dead_end, late_clash, list, literal, random_draft, Draft, Family, Rng};
 use crate::sheet::{self, Limit};
 use crate::source::{always, football, Team};
 
@@ -497,32 +497,37 @@ pub fn crowded_counter(letters: u8) -> Draft {
     draft
 }
 
-/// Random rules over 13 to 20 letters, of which many states are reached and
-/// struck in more than one round: 8,000 to 16,384 states.
+/// Random rules over 13 to 20 letters, and at least so many promises.
+fn random_rules(rng: &mut Rng, promises: usize) -> Draft {
+    let letters = rng.within(13, 20) as u8;
+    let mut draft = Draft::new(letters);
+    for _ in 0..rng.below(5) {
+        let size = rng.within(3, letters as usize / 2);
+        let limit = list(rng, letters, size);
+        draft.at_most(rng.within(1, size - 1) as u8, limit);
+    }
+    for _ in 0..rng.within(1, 3) {
+        let size = rng.within(1, 2);
+        let first = list(rng, letters, size);
+        draft.first(first);
+    }
+    for _ in 0..rng.within(8, 40) {
+        let (one, two) = (rng.within(1, 3), rng.within(1, 3));
+        let (left, right) = (list(rng, letters, one), list(rng, letters, two));
+        draft.step(left, right);
+    }
+    for _ in 0..rng.within(promises, 16) {
+        let literal = literal(rng, letters);
+        draft.promise(literal);
+    }
+    draft
+}
+
+/// Random rules by which many states are reached: 8,000 to 16,384 of them.
 pub fn many_states(seed: u64) -> Draft {
     let rng = &mut Rng::new(seed);
     loop {
-        let letters = rng.within(13, 20) as u8;
-        let mut draft = Draft::new(letters);
-        for _ in 0..rng.below(5) {
-            let size = rng.within(3, letters as usize / 2);
-            let limit = list(rng, letters, size);
-            draft.at_most(rng.within(1, size - 1) as u8, limit);
-        }
-        for _ in 0..rng.within(1, 3) {
-            let size = rng.within(1, 2);
-            let first = list(rng, letters, size);
-            draft.first(first);
-        }
-        for _ in 0..rng.within(8, 40) {
-            let (one, two) = (rng.within(1, 3), rng.within(1, 3));
-            let (left, right) = (list(rng, letters, one), list(rng, letters, two));
-            draft.step(left, right);
-        }
-        for _ in 0..rng.within(2, 16) {
-            let literal = literal(rng, letters);
-            draft.promise(literal);
-        }
+        let draft = random_rules(rng, 2);
         if draft.bytes().len() <= 600 {
             let found = crate::judge::explored(&draft.bytes(), 16_384).and_then(|found| found.states);
             if found.is_some_and(|states| states >= 8_000) {
@@ -530,6 +535,73 @@ pub fn many_states(seed: u64) -> Draft {
             }
         }
     }
+}
+
+/// Seeds of random rules with 12 to 16 promises by which 8,000 to 16,384 states
+/// are reached and struck in several rounds: such are rare, and were searched for.
+pub const MANY_ROUNDS: [u64; 2] = [280, 101_087];
+
+/// The random rules of such a seed.
+pub fn many_rounds(seed: u64) -> Draft {
+    random_rules(&mut Rng::new(seed), 12)
+}
+
+/// Rules that take one from the number made up of letters 1 to `high`, where `when`
+/// holds: a letter turns over exactly when none below it holds.
+fn take_one(draft: &mut Draft, high: i8, when: i8) {
+    for letter in 1..=high {
+        let none_below: Vec<i8> = std::iter::once(when).chain((1..letter).map(|lower| -lower)).collect();
+        for turned in [letter, -letter] {
+            draft.step([&none_below[..], &[turned]].concat(), [-turned]);
+            for lower in 1..letter {
+                draft.step([when, lower, turned], [turned]);
+            }
+        }
+    }
+}
+
+/// The rounds at their worst: a chain of 2^letters states whose last one moves to
+/// each of 2^helpers helpers. A helper moves to a number that counts down to a
+/// dead end, so that in each round one helper is struck. All states of the chain
+/// hang on the last one, and the last one on the first helper that is left: in
+/// each round all are cut off and hung anew. Only the chain does not keep the
+/// promises, 16 times the same.
+pub fn rehung_chain(letters: u8, helpers: u8) -> Draft {
+    let mut draft = Draft::new(letters + 3);
+    let (high, low) = (letters as i8, helpers as i8);
+    let (chain, helper, falling) = (high + 1, high + 2, high + 3);
+    draft.exactly(1, [chain, helper, falling]).first([chain]);
+    add_one(&mut draft, 1, high, &[chain], &[helper]);
+    let mut last: Vec<i8> = (1..=high).collect();
+    last.push(chain);
+    draft.step(last.clone(), [helper]);
+    for letter in 1..=high {
+        draft.first([-letter]).step([chain, -letter], [chain]);
+        if letter > low {
+            draft.step(last.clone(), [-letter]).step([helper], [-letter]).step([falling], [-letter]);
+        } else {
+            draft.step([helper, letter], [letter]).step([helper, -letter], [-letter]);
+        }
+    }
+    draft.step([helper], [falling]).step([falling], [falling]);
+    take_one(&mut draft, low, falling);
+    draft.step((1..=low).map(|letter| -letter).chain([falling]).collect::<Vec<_>>(), []);
+    for _ in 0..16 {
+        draft.promise(-chain);
+    }
+    draft
+}
+
+/// A counter to a dead end beside free letters, so that each state has 2^free next
+/// states: too many moves to be stored, and a round for each number. 16 promises
+/// of the lowest letter.
+pub fn counter_beside(letters: u8, free: u8) -> Draft {
+    let mut draft = counter_to_dead_end(letters);
+    draft.letters += free;
+    for _ in 0..16 {
+        draft.promise(1);
+    }
+    draft
 }
 
 /// The families with many rounds or many states.
@@ -542,5 +614,17 @@ pub fn many() -> Vec<Family> {
         name: format!("many states, seed {seed}"),
         sheet: many_states(seed).bytes(),
     });
-    counters.into_iter().chain(random).collect()
+    let hung = [(9, 7), (10, 8), (11, 8)].map(|(letters, helpers)| Family {
+        name: format!("chain of 2^{letters} states hung anew, 2^{helpers} helpers"),
+        sheet: rehung_chain(letters, helpers).bytes(),
+    });
+    let beside = [(7, 5), (8, 5), (9, 5)].map(|(letters, free)| Family {
+        name: format!("counter of {letters} letters to a dead end beside {free} free letters"),
+        sheet: counter_beside(letters, free).bytes(),
+    });
+    let rounds = MANY_ROUNDS.iter().map(|&seed| Family {
+        name: format!("many states and rounds, seed {seed}"),
+        sheet: many_rounds(seed).bytes(),
+    });
+    counters.into_iter().chain(hung).chain(beside).chain(random).chain(rounds).collect()
 }
