@@ -48,19 +48,19 @@
  *    - while a call runs, nobody else writes what it was given, nor reads what it may write;
  *    - the stack has room, as follows.
  *
- * Stack, in pages of 4,096 bytes: 224 for the judge, for a class and for the two calls about rules that fight, 4 for the strike checker, 4 for
+ * Stack, in pages of 4,096 bytes: 256 for the judge, for a class and for the two calls about rules that fight, 4 for the strike checker, 4 for
  * the audit, 2 for the run checker, 1 for the reader; what the caller and signal handlers take comes on top. host/c/stack.c runs each call on
  * a fenced stack of just this size, on sheets of 24 letters that are judged to the end and on a bad one, and prints what they take: the judge,
- * a class, the strike checker, the audit, the run checker and the reader at most 906,552, 906,728, 16,244, 12,200, 7,192 and 280 bytes,
- * naxxurbi_clash and naxxurbi_check_clash 911,336 and 911,064. Of the audit's, 3,056 are the loader's, the first time that memcpy is called.
+ * a class, the strike checker, the audit, the run checker and the reader at most 1,036,672, 1,036,880, 16,244, 12,200, 7,192 and 280 bytes,
+ * naxxurbi_clash and naxxurbi_check_clash 1,041,440 and 1,041,184. Of the audit's, 3,056 are the loader's, the first time that memcpy is called.
  *
- * The judge takes nearly as much for the smallest sheet (one letter, no rules: 894,216 bytes), since its rooms have a fixed size.
+ * The judge takes nearly as much for the smallest sheet (one letter, no rules: 1,027,608 bytes), since its rooms have a fixed size.
  *
  * Link libnaxxurbi.a, which bin/install makes and which has every call; a program takes in only the objects that it calls. Or link the
  * archives it is made of: libfirmware.a (both checkers), libjudge.a (naxxurbi_judge), libreader.a (naxxurbi_read, naxxurbi_read_place),
  * libaudit.a (naxxurbi_audit), libserial.a (the serial lead), libclass.a (naxxurbi_judge_class), libclash.a (naxxurbi_check_clash,
  * naxxurbi_clash); each stands alone.
- * Their code takes at most 15 KB, 20 KB, 2 KB, 8 KB, 3 KB, 20 KB and 23 KB (of 1,024 bytes); they have no data of their own. The only outside
+ * Their code takes at most 15 KB, 26 KB, 2 KB, 8 KB, 3 KB, 26 KB and 29 KB (of 1,024 bytes); they have no data of their own. The only outside
  * functions that they call are memset and memcpy.
  *
  * Time. The run checker looks at each state once for each rule and promise. The strike checker counts, for the first states and for each

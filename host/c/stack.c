@@ -12,7 +12,7 @@
 #include "test.h"
 
 /* What the header states, in pages of 4,096 bytes (a class: the judge's); and how wide the fences are: a call may take all its stack at once. */
-enum { READ_PAGES = 1, RUN_PAGES = 2, STRIKES_PAGES = 4, AUDIT_PAGES = 4, JUDGE_PAGES = 224, CLASH_PAGES = 224, FENCE = 4 << 20 };
+enum { READ_PAGES = 1, RUN_PAGES = 2, STRIKES_PAGES = 4, AUDIT_PAGES = 4, JUDGE_PAGES = 256, CLASH_PAGES = 256, FENCE = 4 << 20 };
 
 enum { STATES = 16384, MOMENTS = 262144, KEPT = 12, CROWDED = 17 };
 

@@ -1,4 +1,5 @@
 pub mod Fronts
 pub mod Keeping
-pub mod Counting
-pub mod Ordering
+pub mod Placing
+pub mod Merging
+pub mod Joining

@@ -1,2 +1,3 @@
 pub mod Arranged
 pub mod Placing
+pub mod Sorting

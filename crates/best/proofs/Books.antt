@@ -3,16 +3,17 @@
 use mathlib.Core.Path.{_≡_}
 use mathlib.Core.Bool.{true}
 use mathlib.Core.List.{List}
-use Prim.Native.Nat.{ℕ, _^_, _<_}
-use lib.ListN.{getD}
+use Prim.Native.Nat.{ℕ, _^_, _≤_, _<_}
+use lib.ListN.{length, getD}
 use Rattle.meaning.specs.System.{Livable, Finite}
+use Rattle.meaning.specs.Promises.{mostStates}
 use Rattle.meaning.proofs.Exists.{livable-next}
 use Rattle.meaning.proofs.Parts.{T?}
-use Rattle.rules.specs.Book.{bookSystem, bookLawful, bookFirst, bookMoves, bookKept, lettersOf, promisesOf}
+use Rattle.rules.specs.Book.{Shaped, bookSystem, bookLawful, bookFirst, bookMoves, bookKept, lettersOf, promisesOf}
 use Rattle.rules.proofs.Facts.{lawful-below, first-lawful, move-from, move-to}
 use Rattle.web.specs.Web.{Storable}
 use Rattle.distances.specs.Layers.{Measurable}
-use Rattle.best.specs.Rows.{LivableTable, Rowable}
+use Rattle.best.specs.Rows.{Livables, LivableTable, Rowable}
 
 -- A livable state is lawful.
 pub livable-lawful : (book : List ℕ) (s : ℕ) → Livable (bookSystem book) s → bookLawful book s ≡ true
@@ -31,16 +32,25 @@ finite-book book = record {
   kept? = λ k s. T? (bookKept book k s);
 }
 
-module _ {book table : List ℕ} {r : ℕ} (t : LivableTable book table r) where
-  -- Every state of the table is lawful.
-  table-lawful : (i : ℕ) → i < r → bookLawful book (getD table i 0) ≡ true
-  table-lawful i h = livable-lawful book (getD table i 0) (t .livables .sound i h)
+-- A table of livable states is one of lawful states.
+pub livable-table : {book table : List ℕ} {r : ℕ} → Shaped book → 1 ≤ r → r ≤ mostStates → r ≤ length table → Livables (bookSystem book) table r
+    → LivableTable book table r
+livable-table {book} {table} shaped some few in-table livables = record {
+  states = record {
+    shaped = shaped;
+    in-table = in-table;
+    few = few;
+    lawful = λ i h. livable-lawful book (getD table i 0) (livables .sound i h);
+  };
+  some = some;
+  livables = livables;
+}
 
-  -- The moves between the livable states can be stored.
-  pub table-storable : Storable book table r
-  table-storable = record { shaped = t .shaped; in-table = t .in-table; few = t .few; lawful = table-lawful; rises = t .livables .rises }
+-- The moves between the livable states can be stored.
+pub table-storable : {book table : List ℕ} {r : ℕ} → LivableTable book table r → Storable book table r
+table-storable t = let s = t .states in
+    record { shaped = s .shaped; in-table = s .in-table; few = s .few; lawful = s .lawful; rises = t .livables .rises }
 
 -- Distances to a promise can be measured.
 pub rows-measurable : {book table words : List ℕ} {r : ℕ} → Rowable book table words r → (q : ℕ) → q < promisesOf book → Measurable book q table words r
-rows-measurable L q h = let t = L .states in
-    record { shaped = t .shaped; promise = h; in-table = t .in-table; in-words = L .in-words; few = t .few; lawful = table-lawful t }
+rows-measurable L q h = record { states = L .states .states; promise = h; in-words = L .in-words }

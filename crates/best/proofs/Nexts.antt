@@ -15,17 +15,19 @@ use Rattle.meaning.proofs.SampleRun.{kept-of-met, next-aim-on, next-aim-back}
 use Rattle.meaning.proofs.Exists.{livable-next}
 use Rattle.ground.specs.Listed.{Between}
 use Rattle.ground.proofs.Tests.{no-both}
-use Rattle.rules.specs.Book.{bookSystem, bookKept, NextClauses, gatherSize}
-use Rattle.rules.proofs.Facts.{kept-is, kept-true, move-steps, steps-move}
+use Rattle.rules.specs.Book.{bookSystem, bookKept}
+use Rattle.rules.specs.Table.{To}
+use Rattle.rules.proofs.Facts.{kept-is, kept-true}
+use Rattle.signs.specs.Signs.{Signed}
 use Rattle.web.specs.Layout.{startAt, endAt, cellsOf}
-use Rattle.web.specs.Web.{To, Forth}
+use Rattle.web.specs.Web.{Forth}
 use Rattle.web.proofs.Both.{rows-has}
 use Rattle.distances.specs.Far.{far}
 use Rattle.best.specs.Rows.{Livables, aimsOf, Walkable}
-use Rattle.best.specs.Step.{Nearest, FirstNearest, PassesBelow, passesAt, rowAt, Pickable, Lookable, BestAt}
-use Rattle.best.proofs.Books.{livable-lawful}
+use Rattle.best.specs.Step.{Nearest, FirstNearest, Below, rowAt, FirstAt, Scannable, Lookable, BestAt}
 use Rattle.best.proofs.Places.{places-rise}
 use Rattle.best.proofs.Distances.{row-within}
+use Rattle.best.proofs.Scans.{nearest-at}
 
 -- ---- the aim
 
@@ -115,35 +117,28 @@ module _ {book table dist : List ℕ} {r : ℕ} (w : Walkable book table dist r)
 
   -- ---- where the places are tested
 
-  module _ {clauses : List ℕ} {count : ℕ} (next : NextClauses book (getD table place 0) clauses count) where
-    -- A livable state that passes is a next state.
-    passing-next : (x : ℕ) → PassesBelow (passesAt clauses count table) r x → (x < r) × To book table place x
-    passing-next x (l, ok) = let L = w .states .livables in (
-      l,
-      steps-move book (getD table place 0) (getD table x 0) (livable-lawful book (getD table place 0) (L .sound place inside))
-          (livable-lawful book (getD table x 0) (L .sound x l)) (sym (next .says (getD table x 0)) ∙ ok),
-    )
+  -- No next state is nearer than one less than the state's own distance: by way of it the state would be nearer.
+  next-not-nearer : (x : ℕ) → x < r → To book table place x → rowAt dist (aim * r) place - 1 ≤ rowAt dist (aim * r) x
+  next-not-nearer x h move =
+      let alive = w .states .livables .sound place inside in
+      let way = w .rowed .distance aim x aimed h .way in
+      let fewest : rowAt dist (aim * r) place ≤ suc (rowAt dist (aim * r) x)
+      = w .rowed .distance aim place aimed inside .fewest (suc (rowAt dist (aim * r) x)) (alive, (getD table x 0, move, way)) in
+      omega arith
 
-    -- No next state is nearer than one less than the state's own distance: by way of it the state would be nearer.
-    pub next-not-nearer : (x : ℕ) → x < r → passesAt clauses count table x ≡ true → rowAt dist (aim * r) place - 1 ≤ rowAt dist (aim * r) x
-    next-not-nearer x h ok =
-        let alive = w .states .livables .sound place inside in
-        let way = w .rowed .distance aim x aimed h .way in
-        let fewest : rowAt dist (aim * r) place ≤ suc (rowAt dist (aim * r) x)
-        = w .rowed .distance aim place aimed inside .fewest (suc (rowAt dist (aim * r) x)) (alive, (getD table x 0, passing-next x (h, ok) .1, way)) in
-        omega arith
+  -- The places can be scanned,
+  pub next-scannable : {signs : List ℕ} → Signed book table r signs → Scannable book table dist r signs place (aim * r)
+  next-scannable signed = record { signed = signed; inside = inside; in-dist = row-within w aim aimed }
 
-    -- So all can be picked from.
-    pub next-pickable : length clauses ≡ gatherSize → Pickable table dist clauses count (aim * r) r place
-    next-pickable long = record {
-      scannable = record { in-table = w .states .in-table; in-dist = row-within w aim aimed; long = long; few = next .gathered .few };
-      inside = inside;
-      low = next-not-nearer;
-    }
+  -- and the first of the nearest is the best.
+  pub best-tested : (p : ℕ) → FirstNearest (Below (To book table place) r) (rowAt dist (aim * r)) p → BestAt (bookSystem book) table r place aim p
+  best-tested = best-of (λ x m. m) (λ x l m. (l, m))
 
-    -- The first of the nearest is the best.
-    pub best-passing : (p : ℕ) → FirstNearest (PassesBelow (passesAt clauses count table) r) (rowAt dist (aim * r)) p → BestAt (bookSystem book) table r place aim p
-    best-passing = best-of passing-next (λ x l m. (l, next .says (getD table x 0) ∙ move-steps book (getD table place 0) (getD table x 0) m))
+  -- So is the first that is one nearer than the state itself, if there is one.
+  pub best-hit : (wanted p : ℕ) → wanted ≡ rowAt dist (aim * r) place - 1 → FirstAt (To book table place) (rowAt dist (aim * r)) r wanted p → p < r
+      → BestAt (bookSystem book) table r place aim p
+  best-hit wanted p e at h =
+      best-tested p (nearest-at (λ x l m. subst (λ (y : ℕ). y ≤ rowAt dist (aim * r) x) (sym e) (next-not-nearer x l m)) at h)
 
   -- ---- where the moves are stored
 
@@ -151,7 +146,7 @@ module _ {book table dist : List ℕ} {r : ℕ} (w : Walkable book table dist r)
     -- The row of a place can be looked through.
     pub row-lookable : Lookable dist (aim * r) moves place
     row-lookable = record {
-      row = rows-has _ r moves (forth .long) (w .states .few) (forth .rows) place inside;
+      row = rows-has _ r moves (forth .long) (w .states .states .few) (forth .rows) place inside;
       in-dist = λ e p q. omega (arith, forth .rows .sound place e inside p q .0, row-within w aim aimed);
       ascends = λ e p q. forth .ascends place e inside p q;
     }

@@ -1,19 +1,15 @@
 -- The nearest of some places, found one place after the other: in a scan of the table, where places are tested, and in a stored row.
 -- Assumes nothing.
 use mathlib.Core.Path.{_≡_, refl, sym, subst}
-use mathlib.Core.Bool.{Bool, true, false, _&&_}
 use mathlib.Core.Logic.{_⊎_, inl, inr}
 use mathlib.Core.List.{List}
 use Prim.Native.Nat.{ℕ, zero, suc, _+_, _-_, _≤_, _<_}
 use native.Mathlib.Decide.{decLt}
 use native.Mathlib.Omega.{arith}
-use borrow.Author.Tests.{ltb-true, ltb-false, eqb-true, eqb-false}
-use lib.Dec.{ltb, eqb}
 use lib.ListN.{getD}
 use Rattle.ground.specs.Listed.{Between}
-use Rattle.ground.proofs.Tests.{and-both}
 use Rattle.distances.specs.Far.{far}
-use Rattle.best.specs.Step.{Nearest, FirstNearest, PassesBelow, FirstAt}
+use Rattle.best.specs.Step.{Nearest, FirstNearest, Below, FirstAt}
 
 -- Of no places none is the nearest.
 pub nearest-none : {P : ℕ → Type 0} {d : ℕ → ℕ} → ((x : ℕ) → P x → ⊥) → Nearest P d 0 far
@@ -52,57 +48,48 @@ module _ {P Q : ℕ → Type 0} {d : ℕ → ℕ} {best least : ℕ} (n : Neares
 
 -- ---- in a scan
 
--- Where the second is passed, the first failed.
-first-false : (b c : Bool) → (b && c) ≡ false → c ≡ true → b ≡ false
-first-false true c q o = let z : _≡_ {A = ℕ} 0 1 = cc in absurd (omega arith)
-first-false false c q o = refl
-
--- With one place more a place passed before, or it is that one.
-passing-more : (ok : ℕ → Bool) (j y : ℕ) → PassesBelow ok (j + 1) y → PassesBelow ok j y ⊎ (y ≡ j)
-passing-more ok j y m = by (decLt y j)
+-- With one place more a place was among those before, or it is that one.
+below-grows : (P : ℕ → Type 0) (j y : ℕ) → Below P (j + 1) y → Below P j y ⊎ (y ≡ j)
+below-grows P j y m = by (decLt y j)
   where
-    by : Dec (y < j) → PassesBelow ok j y ⊎ (y ≡ j)
+    by : Dec (y < j) → Below P j y ⊎ (y ≡ j)
     by (yes l) = inl (l, m .1)
     by (no l) = inr (omega (arith, m .0))
 
-module _ (ok : ℕ → Bool) (d : ℕ → ℕ) (j : ℕ) {best least : ℕ} (n : Nearest (PassesBelow ok j) d best least) where
-  -- A place that passes and is nearer is the nearest so far.
-  pub scanned-nearer : (ltb (d j) least && ok j) ≡ true → Nearest (PassesBelow ok (j + 1)) d j (d j)
-  scanned-nearer t =
-      let w = and-both (ltb (d j) least) (ok j) t in
-      nearest-closer n j (ltb-true (d j) least (w .0)) (omega arith, w .1) (passing-more ok j)
+module _ (P : ℕ → Type 0) (d : ℕ → ℕ) (j : ℕ) {best least : ℕ} (n : Nearest (Below P j) d best least) where
+  -- A place of P that is nearer is the nearest so far.
+  pub scanned-nearer : (d j < least) × P j → Nearest (Below P (j + 1)) d j (d j)
+  scanned-nearer w = nearest-closer n j (w .0) (omega arith, w .1) (below-grows P j)
 
   -- Any other place changes nothing.
-  pub scanned-not : (ltb (d j) least && ok j) ≡ false → Nearest (PassesBelow ok (j + 1)) d best least
-  scanned-not t = nearest-stays n (λ y m. (omega (arith, m .0), m .1)) (λ y m. by y (m .1) (passing-more ok j y m))
+  pub scanned-not : ((d j < least) × P j → ⊥) → Nearest (Below P (j + 1)) d best least
+  scanned-not other = nearest-stays n (λ y m. (omega (arith, m .0), m .1)) (λ y m. by y (m .1) (below-grows P j y m))
     where
-      by : (y : ℕ) → ok y ≡ true → PassesBelow ok j y ⊎ (y ≡ j) → PassesBelow ok j y ⊎ ((least ≤ d y) × ((z : ℕ) → PassesBelow ok j z → z < y))
-      by y o (inl p) = inl p
-      by y o (inr e) = inr (
-        subst (λ (z : ℕ). least ≤ d z) (sym e) (ltb-false (d j) least (first-false (ltb (d j) least) (ok j) t (subst (λ (z : ℕ). ok z ≡ true) e o))),
-        λ z p. omega (arith, p .0),
-      )
+      far-enough : P j → least ≤ d j
+      far-enough p = not-nearer (decLt (d j) least)
+        where
+          not-nearer : Dec (d j < least) → least ≤ d j
+          not-nearer (yes l) = absurd (other (l, p))
+          not-nearer (no l) = omega arith
 
--- Where no place that passes has a lesser number than `wanted`, the first that has just that number is the first of the nearest.
-pub nearest-at : {ok : ℕ → Bool} {d : ℕ → ℕ} {r wanted p : ℕ} → ((x : ℕ) → x < r → ok x ≡ true → wanted ≤ d x) → FirstAt ok d r wanted p → p < r
-    → FirstNearest (PassesBelow ok r) d p
-nearest-at {ok} {d} {r} {wanted} {p} low at h = record {
+      by : (y : ℕ) → P y → Below P j y ⊎ (y ≡ j) → Below P j y ⊎ ((least ≤ d y) × ((z : ℕ) → Below P j z → z < y))
+      by y p (inl b) = inl b
+      by y p (inr e) = inr (subst (λ (z : ℕ). least ≤ d z) (sym e) (far-enough (subst P e p)), λ z b. omega (arith, b .0))
+
+-- Where no place of P has a lesser number than `wanted`, the first that has just that number is the first of the nearest.
+pub nearest-at : {P : ℕ → Type 0} {d : ℕ → ℕ} {r wanted p : ℕ} → ((x : ℕ) → x < r → P x → wanted ≤ d x) → FirstAt P d r wanted p → p < r
+    → FirstNearest (Below P r) d p
+nearest-at {P} {d} {r} {wanted} {p} low at h = record {
   least = wanted;
-  nearest = record { low = λ x m. low x (m .0) (m .1); first = first; here = inr ((h, hit .1), eqb-true (d p) wanted (hit .0)) };
+  nearest = record { low = λ x m. low x (m .0) (m .1); first = first; here = inr ((h, at .here h .1), at .here h .0) };
 }
   where
-    hit : (eqb (d p) wanted ≡ true) × (ok p ≡ true)
-    hit = and-both (eqb (d p) wanted) (ok p) (at .here h)
-
-    first : (x : ℕ) → PassesBelow ok r x → x < p → wanted < d x
+    first : (x : ℕ) → Below P r x → x < p → wanted < d x
     first x m l = by (decLt wanted (d x))
       where
-        other : d x ≡ wanted → ⊥
-        other = eqb-false (d x) wanted (first-false (eqb (d x) wanted) (ok x) (at .earlier x l) (m .1))
-
         by : Dec (wanted < d x) → wanted < d x
         by (yes q) = q
-        by (no q) = absurd (other (omega (arith, low x (m .0) (m .1))))
+        by (no q) = absurd (at .earlier x l (omega (arith, low x (m .0) (m .1)), m .1))
 
 -- ---- in a stored row
 

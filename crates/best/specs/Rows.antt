@@ -6,10 +6,10 @@ use Prim.Native.Nat.{ℕ, suc, _+_, _-_, _*_, _≤_, _<_}
 use lib.ListN.{length, getD}
 use Rattle.meaning.specs.System.{System, Livable}
 use Rattle.meaning.specs.Sample.{Distance}
-use Rattle.meaning.specs.Promises.{mostStates}
 use Rattle.ground.specs.Wiping.{Zeros}
 use Rattle.distances.specs.Far.{far}
-use Rattle.rules.specs.Book.{Shaped, bookSystem}
+use Rattle.rules.specs.Book.{bookSystem}
+use Rattle.rules.specs.Table.{LawfulTable}
 
 -- the first r places of the table hold the livable states, ascending
 pub record Livables (S : System) (table : List ℕ) (r : ℕ) : Type 0 where
@@ -17,12 +17,10 @@ pub record Livables (S : System) (table : List ℕ) (r : ℕ) : Type 0 where
   pub sound : (x : ℕ) → x < r → Livable S (getD table x 0)
   pub whole : (s : ℕ) → Livable S s → (x : ℕ) × (x < r) × (getD table x 0 ≡ s)
 
--- a book, and a table whose first r places hold its livable states, at least one
+-- a book, and a table whose first r places hold its livable states, at least one, each of them lawful
 pub record LivableTable (book table : List ℕ) (r : ℕ) : Type 0 where
-  pub shaped : Shaped book
+  pub states : LawfulTable book table r
   pub some : 1 ≤ r
-  pub few : r ≤ mostStates
-  pub in-table : r ≤ length table
   pub livables : Livables (bookSystem book) table r
 
 -- how many aims there are: with no promises the one aim asks nothing

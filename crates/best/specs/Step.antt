@@ -1,18 +1,18 @@
 -- What the parts of one step of the sample run promise one another: the first place, the nearest of some places, and the next moment.
 -- Assumes nothing.
 use mathlib.Core.Path.{_≡_}
-use mathlib.Core.Bool.{Bool, true, false, _&&_}
+use mathlib.Core.Bool.{true, false}
 use mathlib.Core.Logic.{_⊎_}
 use mathlib.Core.List.{List}
-use Prim.Native.Nat.{ℕ, suc, _+_, _-_, _≤_, _<_}
-use lib.Dec.{eqb}
+use Prim.Native.Nat.{ℕ, suc, _+_, _≤_, _<_}
 use lib.ListN.{length, getD}
 use Rattle.meaning.specs.System.{System}
 use Rattle.meaning.specs.Sample.{Passes, Best}
 use Rattle.web.specs.Layout.{startAt, endAt, cellAt, HasRow}
 use Rattle.web.specs.Web.{Forth}
 use Rattle.distances.specs.Far.{far}
-use Rattle.rules.specs.Book.{bookFirst, clausesOk, gatherSize}
+use Rattle.rules.specs.Book.{bookFirst}
+use Rattle.signs.specs.Signs.{Signed}
 use Rattle.best.specs.Rows.{aimsOf}
 
 -- p is the first of the first r places that holds a first state, or r where there is none
@@ -34,35 +34,25 @@ pub record FirstNearest (P : ℕ → Type 0) (d : ℕ → ℕ) (best : ℕ) : Ty
   pub least : ℕ
   pub nearest : Nearest P d best least
 
--- place x is one of the first j, and it passes the test
-abbrev pub PassesBelow : (ok : ℕ → Bool) (j x : ℕ) → Type 0
-PassesBelow ok j x = (x < j) × (ok x ≡ true)
+-- place x is one of the first j, and it is in P
+abbrev pub Below : (P : ℕ → Type 0) (j x : ℕ) → Type 0
+Below P j x = (x < j) × P x
 
--- the state at place x makes the gathered clauses true; place x's number in the row that starts at `from`
-abbrev pub passesAt : (clauses : List ℕ) (count : ℕ) (table : List ℕ) → ℕ → Bool
-passesAt clauses count table x = clausesOk clauses count (getD table x 0)
-
+-- place x's number in the row that starts at `from`
 abbrev pub rowAt : (dist : List ℕ) (from : ℕ) → ℕ → ℕ
 rowAt dist from x = getD dist (from + x) 0
 
--- p is the first of the first r places that pass the test at just that number, or r where there is none
-pub record FirstAt (ok : ℕ → Bool) (d : ℕ → ℕ) (r wanted p : ℕ) : Type 0 where
+-- p is the first of the first r places that are in P at just that number, or r where there is none
+pub record FirstAt (P : ℕ → Type 0) (d : ℕ → ℕ) (r wanted p : ℕ) : Type 0 where
   pub inside : p ≤ r
-  pub earlier : (x : ℕ) → x < p → (eqb (d x) wanted && ok x) ≡ false
-  pub here : p < r → (eqb (d p) wanted && ok p) ≡ true
+  pub earlier : (x : ℕ) → x < p → (d x ≡ wanted) × P x → ⊥
+  pub here : p < r → (d p ≡ wanted) × P p
 
--- what a scan of all places stands on
-pub record Scannable (table dist clauses : List ℕ) (count from r : ℕ) : Type 0 where
-  pub in-table : r ≤ length table
-  pub in-dist : from + r ≤ length dist
-  pub long : length clauses ≡ gatherSize
-  pub few : count ≤ 255
-
--- what picking a next state of the state at `place` stands on: no next state is nearer than one less than its own distance
-pub record Pickable (table dist clauses : List ℕ) (count from r place : ℕ) : Type 0 where
-  pub scannable : Scannable table dist clauses count from r
+-- what a scan for the next places of `place` stands on
+pub record Scannable (book table dist : List ℕ) (r : ℕ) (signs : List ℕ) (place from : ℕ) : Type 0 where
+  pub signed : Signed book table r signs
   pub inside : place < r
-  pub low : (x : ℕ) → x < r → passesAt clauses count table x ≡ true → rowAt dist from place - 1 ≤ rowAt dist from x
+  pub in-dist : from + r ≤ length dist
 
 -- a stored row that can be looked through: its cells ascend, and each is a place with a number in the row of distances that starts at `from`
 pub record Lookable (dist : List ℕ) (from : ℕ) (forth : List ℕ) (place : ℕ) : Type 0 where
@@ -72,9 +62,10 @@ pub record Lookable (dist : List ℕ) (from : ℕ) (forth : List ℕ) (place : �
 
 -- ---- the next moment
 
--- if moves are stored, they are the moves forth
-abbrev pub Onward : (book table : List ℕ) (r : ℕ) (forth : List ℕ) → Type 0
-Onward book table r forth = (length forth ≡ 0 → ⊥) → Forth book table r forth
+-- if moves are stored, they are the moves forth, else there are signs
+pub record Onward (book table : List ℕ) (r : ℕ) (forth signs : List ℕ) : Type 0 where
+  pub stored : (length forth ≡ 0 → ⊥) → Forth book table r forth
+  pub tested : length forth ≡ 0 → Signed book table r signs
 
 -- the state at place p is the best next state of the one at `place`, for that aim
 abbrev pub BestAt : (S : System) (table : List ℕ) (r place aim p : ℕ) → Type 0

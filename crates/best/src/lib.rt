@@ -1,21 +1,22 @@
 // The best next state: document 01, "The judge's two papers", first paragraph. The distances from every livable state to every aim, one row for
 // each aim, and from a moment of the sample run to the next: the aim passes, and of the next states the nearest is taken, then the least.
-// Where the moves are stored, only the stored row is looked at.
+// Where the moves are stored, only the stored row is looked at, else places are tested by their signs.
 
 use ground::State;
 ghost use mathlib.Core.Path.{_≡_};
-ghost use mathlib.Core.Bool.{_&&_};
-ghost use Prim.Native.Nat.{_+_, _-_, _*_, _≤_, _<_};
-ghost use lib.Dec.{ltb, eqb};
+ghost use Prim.Native.Nat.{_-_, _*_, _≤_, _<_};
 ghost use lib.ListN.{length};
 ghost use Rattle.meaning.specs.Sample.{Passes};
 ghost use Rattle.ground.specs.Listed.{Between};
+ghost use Rattle.ground.specs.Says.{Says};
 ghost use Rattle.ground.specs.Wiping.{Wiped};
-ghost use Rattle.rules.specs.Book.{Shaped, bookSystem, clausesOk, promisesOf, gatherSize};
+ghost use Rattle.rules.specs.Book.{Shaped, bookSystem, promisesOf};
+ghost use Rattle.rules.specs.Table.{To};
+ghost use Rattle.signs.specs.Signs.{Signed};
 ghost use Rattle.distances.specs.Follow.{Followable};
 ghost use Rattle.web.specs.Layout.{startAt, endAt, cellsOf};
 ghost use Rattle.best.specs.Rows.{aimsOf, Rowable, RowsMeasured, Walkable};
-ghost use Rattle.best.specs.Step.{FirstPlace, FirstNearest, PassesBelow, passesAt, rowAt, FirstAt, Scannable, Pickable, Lookable, Onward, BestAt, Stepped};
+ghost use Rattle.best.specs.Step.{FirstPlace, FirstNearest, Below, rowAt, FirstAt, Scannable, Lookable, Onward, BestAt, Stepped};
 
 // A moment of the walk: the state's place in the table, and the aim on arriving there.
 pub struct Moment {
@@ -37,15 +38,6 @@ fn no_distances(dist: &mut [u16], r: usize)
     }
 }
 
-// How many aims there are: the promises, or one aim that asks nothing.
-pub fn count_aims(book: &[State]) -> usize
-    requires { ⌜ Shaped (now book) ⌝ }
-    ensures { λ n. ⌜ n ≡ aimsOf (bookSystem (now (book .entry))) ⌝ }
-{
-    let p = rules::promises(book);
-    if p == 0 { 1 } else { p }
-}
-
 // Row q, for each promise q.
 fn promise_rows(
     book: &[State],
@@ -56,15 +48,16 @@ fn promise_rows(
     p: usize,
     back: &[u16],
     queue: &mut [u16],
+    signs: &[u64],
 )
     requires { ⌜ Rowable (now book) (now table) (now words) r × (p ≡ promisesOf (now book)) × (1 ≤ p) × (p * r ≤ length (now dist))
-        × Followable (now book) (now table) r (now back) (now queue) ⌝ }
+        × Followable (now book) (now table) r (now back) (now queue) (now signs) ⌝ }
     ensures { λ _. ⌜ RowsMeasured (now (book .entry)) (now (table .entry)) r (now (dist .entry)) (now (dist .exit)) ⌝ }
 {
     let mut q = 0;
     while q < p {
         let from = q * r;
-        distances::distances(book, q, table, words, r, back, queue, dist, from);
+        distances::distances(book, q, table, words, r, back, queue, dist, from, signs);
         q += 1;
     }
 }
@@ -78,16 +71,17 @@ pub fn rows(
     r: usize,
     back: &[u16],
     queue: &mut [u16],
+    signs: &[u64],
 )
     requires { ⌜ Rowable (now book) (now table) (now words) r × (aimsOf (bookSystem (now book)) * r ≤ length (now dist))
-        × Followable (now book) (now table) r (now back) (now queue) ⌝ }
+        × Followable (now book) (now table) r (now back) (now queue) (now signs) ⌝ }
     ensures { λ _. ⌜ RowsMeasured (now (book .entry)) (now (table .entry)) r (now (dist .entry)) (now (dist .exit)) ⌝ }
 {
     let p = rules::promises(book);
     if p == 0 {
         no_distances(dist, r);
     } else {
-        promise_rows(book, table, words, dist, r, p, back, queue);
+        promise_rows(book, table, words, dist, r, p, back, queue, signs);
     }
 }
 
@@ -127,29 +121,38 @@ fn passed(book: &[State], aim: usize, s: State) -> usize
     aim
 }
 
-// Whether a state at distance d is a next state nearer than the nearest so far.
-fn nearer(d: u16, least: u16, clauses: &[State], count: usize, t: State) -> bool
-    requires { ⌜ (length (now clauses) ≡ gatherSize) × (count ≤ 255) ⌝ }
-    ensures { λ b. ⌜ b ≡ (ltb d least && clausesOk (now (clauses .entry)) count t) ⌝ }
+// Whether place x, at distance d, is a next place of `place` nearer than the nearest so far.
+fn nearer(
+    book: &[State],
+    table: &[State],
+    r: usize,
+    signs: &[u64],
+    place: usize,
+    x: usize,
+    d: u16,
+    least: u16,
+) -> bool
+    requires { ⌜ Signed (now book) (now table) r (now signs) × (place < r) × (x < r) ⌝ }
+    ensures { λ b. ⌜ Says ((d < least) × To (now (book .entry)) (now (table .entry)) place x) b ⌝ }
 {
     if d < least {
-        rules::fits(clauses, count, t)
-    } else {
-        false
+        return signs::meets(book, table, r, signs, place, x);
     }
+    false
 }
 
-// The first of the nearest next states.
+// The first of the nearest next places of `place`.
 fn nearest(
+    book: &[State],
     table: &[State],
     dist: &[u16],
-    clauses: &[State],
-    count: usize,
-    from: usize,
     r: usize,
+    signs: &[u64],
+    place: usize,
+    from: usize,
 ) -> usize
-    requires { ⌜ Scannable (now table) (now dist) (now clauses) count from r ⌝ }
-    ensures { λ p. ⌜ FirstNearest (PassesBelow (passesAt (now (clauses .entry)) count (now (table .entry))) r) (rowAt (now (dist .entry)) from) p ⌝ }
+    requires { ⌜ Scannable (now book) (now table) (now dist) r (now signs) place from ⌝ }
+    ensures { λ p. ⌜ FirstNearest (Below (To (now (book .entry)) (now (table .entry)) place) r) (rowAt (now (dist .entry)) from) p ⌝ }
 {
     let mut best: usize = 0;
     let mut least: u16 = distances::FAR;
@@ -157,8 +160,7 @@ fn nearest(
     while x < r {
         let at = from + x;
         let d = dist[at];
-        let t = table[x];
-        if nearer(d, least, clauses, count, t) {
+        if nearer(book, table, r, signs, place, x, d, least) {
             best = x;
             least = d;
             x += 1;
@@ -169,37 +171,45 @@ fn nearest(
     best
 }
 
-// Whether a state at distance d is a next state at distance `wanted`.
-fn stands_at(d: u16, wanted: u16, clauses: &[State], count: usize, t: State) -> bool
-    requires { ⌜ (length (now clauses) ≡ gatherSize) × (count ≤ 255) ⌝ }
-    ensures { λ b. ⌜ b ≡ (eqb d wanted && clausesOk (now (clauses .entry)) count t) ⌝ }
+// Whether place x, at distance d, is a next place of `place` at distance `wanted`.
+fn stands_at(
+    book: &[State],
+    table: &[State],
+    r: usize,
+    signs: &[u64],
+    place: usize,
+    x: usize,
+    d: u16,
+    wanted: u16,
+) -> bool
+    requires { ⌜ Signed (now book) (now table) r (now signs) × (place < r) × (x < r) ⌝ }
+    ensures { λ b. ⌜ Says ((d ≡ wanted) × To (now (book .entry)) (now (table .entry)) place x) b ⌝ }
 {
     if d == wanted {
-        rules::fits(clauses, count, t)
-    } else {
-        false
+        return signs::meets(book, table, r, signs, place, x);
     }
+    false
 }
 
-// The first next state at distance `wanted`, or r.
+// The first next place of `place` at distance `wanted`, or r.
 fn first_at(
+    book: &[State],
     table: &[State],
     dist: &[u16],
-    clauses: &[State],
-    count: usize,
-    from: usize,
     r: usize,
+    signs: &[u64],
+    place: usize,
+    from: usize,
     wanted: u16,
 ) -> usize
-    requires { ⌜ Scannable (now table) (now dist) (now clauses) count from r ⌝ }
-    ensures { λ p. ⌜ FirstAt (passesAt (now (clauses .entry)) count (now (table .entry))) (rowAt (now (dist .entry)) from) r wanted p ⌝ }
+    requires { ⌜ Scannable (now book) (now table) (now dist) r (now signs) place from ⌝ }
+    ensures { λ p. ⌜ FirstAt (To (now (book .entry)) (now (table .entry)) place) (rowAt (now (dist .entry)) from) r wanted p ⌝ }
 {
     let mut x: usize = 0;
     while x < r {
         let at = from + x;
         let d = dist[at];
-        let t = table[x];
-        if stands_at(d, wanted, clauses, count, t) {
+        if stands_at(book, table, r, signs, place, x, d, wanted) {
             return x;
         }
         x += 1;
@@ -214,40 +224,30 @@ fn one_less(d: u16) -> u16
     if d > 0 { d - 1 } else { 0 }
 }
 
-// The first of the nearest next states of the state at `place`. No next state is nearer than one less than the state's own distance; where
-// that distance is not 0, one is as near, so that only places at just that distance are tested.
-fn pick(
+// The best next place of `place` for that aim, sought among all places. No next state is nearer than one less than the state's own distance;
+// where that distance is not 0, one is as near, so that only places at just that distance are tested.
+fn seek(
+    book: &[State],
     table: &[State],
     dist: &[u16],
-    clauses: &[State],
-    count: usize,
-    from: usize,
     r: usize,
     place: usize,
+    aim: usize,
+    signs: &[u64],
 ) -> usize
-    requires { ⌜ Pickable (now table) (now dist) (now clauses) count from r place ⌝ }
-    ensures { λ p. ⌜ FirstNearest (PassesBelow (passesAt (now (clauses .entry)) count (now (table .entry))) r) (rowAt (now (dist .entry)) from) p ⌝ }
+    requires { ⌜ Walkable (now book) (now table) (now dist) r × (place < r) × (aim < aimsOf (bookSystem (now book)))
+        × Signed (now book) (now table) r (now signs) ⌝ }
+    ensures { λ p. ⌜ BestAt (bookSystem (now (book .entry))) (now (table .entry)) r place aim p ⌝ }
 {
+    let from = aim * r;
     let at = from + place;
     let own = dist[at];
     let wanted = one_less(own);
-    let hit = first_at(table, dist, clauses, count, from, r, wanted);
+    let hit = first_at(book, table, dist, r, signs, place, from, wanted);
     if hit < r {
         return hit;
     }
-    nearest(table, dist, clauses, count, from, r)
-}
-
-// The best next place of `place` for that aim, sought among all places.
-fn seek(book: &[State], table: &[State], dist: &[u16], r: usize, place: usize, aim: usize) -> usize
-    requires { ⌜ Walkable (now book) (now table) (now dist) r × (place < r) × (aim < aimsOf (bookSystem (now book))) ⌝ }
-    ensures { λ p. ⌜ BestAt (bookSystem (now (book .entry))) (now (table .entry)) r place aim p ⌝ }
-{
-    let s = table[place];
-    let mut clauses = [0u32; rules::GATHER_SIZE];
-    let count = rules::gather_next(book, s, &mut clauses);
-    let from = aim * r;
-    pick(table, dist, &clauses, count, from, r, place)
+    nearest(book, table, dist, r, signs, place, from)
 }
 
 // The first of the nearest places in the stored row of `place`.
@@ -275,7 +275,7 @@ fn nearest_in_row(dist: &[u16], from: usize, forth: &[u16], place: usize) -> usi
     best
 }
 
-// From one moment to the next: where the moves are stored, only the row of `place` is looked at.
+// From one moment to the next: where the moves are stored, only the row of `place` is looked at, else (`forth` is empty) places are tested.
 pub fn step(
     book: &[State],
     table: &[State],
@@ -284,15 +284,16 @@ pub fn step(
     place: usize,
     aim: usize,
     forth: &[u16],
+    signs: &[u64],
 ) -> Moment
     requires { ⌜ Walkable (now book) (now table) (now dist) r × (place < r) × (aim < aimsOf (bookSystem (now book)))
-        × Onward (now book) (now table) r (now forth) ⌝ }
+        × Onward (now book) (now table) r (now forth) (now signs) ⌝ }
     ensures { λ m. ⌜ Stepped (bookSystem (now (book .entry))) (now (table .entry)) r place aim (m .place) (m .aim) ⌝ }
 {
     let s = table[place];
     let next = passed(book, aim, s);
     if forth.len() == 0 {
-        let best = seek(book, table, dist, r, place, next);
+        let best = seek(book, table, dist, r, place, next, signs);
         return Moment {
             place: best,
             aim: next,

@@ -19,7 +19,7 @@ use Rattle.rules.specs.Book.{limitOk, limitsOk, firstsOk, stepOk, stepsOk, book
 use Rattle.rules.specs.Book.{lettersOf, limitsOf, firstsOf, stepsOf, promisesOf, rightAt, mostRules}
 use Rattle.compile.specs.Promise.{BookOf, ruleOf}
 use Rattle.compile.specs.Literals.{Ordered}
-use Rattle.compile.specs.Compile.{MasksAt, LimitRow, StepRow, Written}
+use Rattle.compile.specs.Compile.{MasksAt, LimitRow, StepRow, BookWritten}
 use Rattle.compile.proofs.Masks.{tells}
 use Rattle.compile.proofs.SectionLaws.{limit-sound, first-sound, step-sound, promise-sound}
 
@@ -107,7 +107,7 @@ lone-says s (b ∷ (b′ ∷ bs)) e = absurd (omega arith)
 
 -- ---- the whole book
 
-module _ (s book : List ℕ) (good : firstFault s ≡ none) (f5 : byte s 5 ≤ mostRules) (f6 : byte s 6 ≤ mostRules) (w : Written s book) where
+module _ (s book : List ℕ) (good : firstFault s ≡ none) (f5 : byte s 5 ≤ mostRules) (f6 : byte s 6 ≤ mostRules) (w : BookWritten s book) where
   limits-say : (t : ℕ) → limitsOk book t ≡ every (limitHolds t) (decode s .limits)
   unfolding limitsOk
   limits-say t =

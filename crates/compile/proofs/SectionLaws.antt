@@ -16,7 +16,7 @@ use Rattle.rules.specs.Book.{bookSize, mostRules, limitAt, firstAt, stepAt, row
 use Rattle.rules.specs.Book.{limitsFrom, firstsFrom, stepsFrom, promisesFrom}
 use Rattle.rules.specs.Rows.{KeptBelow}
 use Rattle.compile.specs.Compile.{LimitSound, ListRecordSound, StepSound, Sound, Row, RowWritten, startOf, recordsOf}
-use Rattle.compile.specs.Compile.{RowOf, Section, Counts, Written}
+use Rattle.compile.specs.Compile.{RowOf, Section, Counts, BookWritten}
 use Rattle.rules.proofs.Rows.{kept-all, kept-then, kept-less}
 use Rattle.compile.proofs.RowLaws.{masks-kept}
 use Rattle.compile.proofs.Sorted.{in-order}
@@ -162,7 +162,7 @@ pub all-written :
     (s b1 b2 b3 b4 b5 : List ℕ) (r2 r3 r4 r5 : ℕ) → byte s 4 ≤ mostLimits → byte s 5 ≤ mostRules → byte s 6 ≤ mostRules
     → Counts s b1 → length b1 ≡ bookSize → Section aLimit s b1 b2 (byte s 4) r2 → Section aFirst s b2 b3 (byte s 5) r3
     → Section aStep s b3 b4 (byte s 6) r4 → Section aPromise s b4 b5 (byte s 7) r5
-    → Written s b5
+    → BookWritten s b5
 all-written s b1 b2 b3 b4 b5 r2 r3 r4 r5 f4 f5 f6 c n limits firsts steps promises =
     let k4 : KeptBelow promisesFrom b4 b5 = promises .keeps in
     let k3 : KeptBelow stepsFrom b3 b5 = kept-then (omega arith) (steps .keeps) k4 in

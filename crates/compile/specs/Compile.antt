@@ -120,7 +120,7 @@ pub record Section (kind : Kind) (s before after : List ℕ) (i at : ℕ) : Type
 abbrev pub Counts : List ℕ → List ℕ → Type 0
 Counts s l = CountsAre l (byte s 3) (byte s 4) (byte s 5) (byte s 6) (byte s 7)
 
-pub record Written (s book : List ℕ) : Type 0 where
+pub record BookWritten (s book : List ℕ) : Type 0 where
   pub long : length book ≡ bookSize
   pub counts : Counts s book
   pub limits : (j : ℕ) → j < byte s 4 → RowOf aLimit s book j

@@ -8,12 +8,13 @@ use Rattle.meaning.specs.System.{System}
 use Rattle.meaning.specs.Strike.{SavedBy}
 use Rattle.distances.specs.Far.{Live}
 use Rattle.distances.proofs.Totals.{total-set}
-use Rattle.deadends.specs.Phases.{free, Falls, was, stays, falls, Phased, Points, fresh, target, Pointers}
+use Rattle.watch.specs.Witness.{freeIn}
+use Rattle.deadends.specs.Phases.{Falls, was, stays, falls, Phased, Points, fresh, target, Pointers}
 
 -- Setting an unstruck place's word takes one from the unstruck.
-pub free-set : (words : List ℕ) (i v r : ℕ) → i < r → i < length words → getD words i 0 ≡ 0 → 0 < v → suc (free (set words i v) r) ≡ free words r
+pub free-set : (words : List ℕ) (i v r : ℕ) → i < r → i < length words → getD words i 0 ≡ 0 → 0 < v → suc (freeIn (set words i v) r) ≡ freeIn words r
 free-set words i v r h k z s =
-    let a : free (set words i v) r + (1 - getD words i 0) ≡ free words r + (1 - v) = total-set (λ x. 1 - x) words i v r h k in
+    let a : freeIn (set words i v) r + (1 - getD words i 0) ≡ freeIn words r + (1 - v) = total-set (λ x. 1 - x) words i v r h k in
     let b : 1 - getD words i 0 ≡ 1 = ap (λ (x : ℕ). 1 - x) z in
     let c : 1 - v ≡ 0 = omega arith in
     omega arith
@@ -35,7 +36,7 @@ points-fewer book table old new r i q fewer (fresh e) = fresh e
 points-fewer book table old new r i q fewer (target j e h t low) = target j e h t (λ m l z. low m l (fewer m (omega arith) z))
 
 -- So do all pointers.
-pub pointers-fewer : (book table old new scratch : List ℕ) (r : ℕ) → ((m : ℕ) → m < r → getD new m 0 ≡ 0 → getD old m 0 ≡ 0)
-    → Pointers book table old scratch r → Pointers book table new scratch r
-pointers-fewer book table old new scratch r fewer p i h z =
-    points-fewer book table old new r i (getD scratch i 0) fewer (p i h (fewer i h z))
+pub pointers-fewer : (book table old new row : List ℕ) (r : ℕ) → ((m : ℕ) → m < r → getD new m 0 ≡ 0 → getD old m 0 ≡ 0)
+    → Pointers book table old row r → Pointers book table new row r
+pointers-fewer book table old new row r fewer p i h z =
+    points-fewer book table old new r i (getD row i 0) fewer (p i h (fewer i h z))

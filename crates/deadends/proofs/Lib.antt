@@ -1,4 +1,5 @@
 pub mod Fewer
 pub mod Answers
-pub mod Rows
+pub mod Least
+pub mod Noting
 pub mod Passes

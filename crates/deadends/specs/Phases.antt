@@ -5,24 +5,19 @@ use mathlib.Core.Logic.{_⊎_}
 use mathlib.Core.List.{List}
 use Prim.Native.Nat.{ℕ, suc, _+_, _-_, _≤_, _<_}
 use lib.ListN.{length, getD}
+use Rattle.ground.specs.Listed.{Between, Rises}
 use Rattle.meaning.specs.System.{System}
 use Rattle.meaning.specs.Strike.{SavedBy}
-use Rattle.rules.specs.Book.{Shaped, bookLawful, bookSystem}
 use Rattle.meaning.specs.Promises.{mostStates}
-use Rattle.web.specs.Web.{To}
+use Rattle.rules.specs.Book.{bookSystem}
+use Rattle.rules.specs.Table.{To}
+use Rattle.signs.specs.Signs.{Signed}
 use Rattle.distances.specs.Far.{Live}
-use Rattle.distances.specs.Layers.{total}
+use Rattle.watch.specs.Witness.{freeIn, Log}
 
 -- A word that counts as unstruck in the phase that gives the word v: 0, or v itself, since states fall together.
 abbrev pub Counts : ℕ → ℕ → Type 0
 Counts v x = (x ≡ 0) ⊎ (x ≡ v)
-
--- 1 where a place is unstruck, 0 elsewhere; how many of the first r are unstruck
-abbrev pub freeAt : List ℕ → ℕ → ℕ
-freeAt words i = 1 - getD words i 0
-
-abbrev pub free : List ℕ → ℕ → ℕ
-free words r = total (freeAt words) r
 
 -- A place's pointer: 0, or one more than the place of a next state, below which no next state is unstruck.
 pub data Points (book table words : List ℕ) (r i q : ℕ) : Type 0 where
@@ -31,8 +26,8 @@ pub data Points (book table words : List ℕ) (r i q : ℕ) : Type 0 where
       → Points book table words r i q
 
 -- the pointers of all unstruck places
-abbrev pub Pointers : (book table words scratch : List ℕ) (r : ℕ) → Type 0
-Pointers book table words scratch r = (i : ℕ) → i < r → getD words i 0 ≡ 0 → Points book table words r i (getD scratch i 0)
+abbrev pub Pointers : (book table words row : List ℕ) (r : ℕ) → Type 0
+Pointers book table words row r = (i : ℕ) → i < r → getD words i 0 ≡ 0 → Points book table words r i (getD row i 0)
 
 -- the place that the pointer q names counts
 abbrev pub Pointing : (words : List ℕ) (q v : ℕ) → Type 0
@@ -62,14 +57,7 @@ pub data Falls (Saved : Type 0) (v old new : ℕ) : Type 0 where
 pub record Phased (S : System) (table : List ℕ) (r reason v : ℕ) (old new : List ℕ) (n : ℕ) : Type 0 where
   pub long : length new ≡ length old
   pub each : (i : ℕ) → i < r → Falls (SavedBy S (Live table old r) reason (getD table i 0)) v (getD old i 0) (getD new i 0)
-  pub counted : n + free new r ≡ free old r
-
--- the table's first r states are lawful states of the sheet
-pub record Told (book table : List ℕ) (r : ℕ) : Type 0 where
-  pub shaped : Shaped book
-  pub in-table : r ≤ length table
-  pub few : r ≤ mostStates
-  pub lawful : (i : ℕ) → i < r → bookLawful book (getD table i 0) ≡ true
+  pub counted : n + freeIn new r ≡ freeIn old r
 
 -- a phase may be run: no place has its word yet
 pub record Unphased (words : List ℕ) (r v : ℕ) : Type 0 where
@@ -77,15 +65,29 @@ pub record Unphased (words : List ℕ) (r v : ℕ) : Type 0 where
   pub below : (i : ℕ) → i < r → getD words i 0 < v
   pub some : 0 < v
 
--- a phase that gives the word v may be run
-pub record Striking (book table words scratch : List ℕ) (r v : ℕ) : Type 0 where
-  pub told : Told book table r
-  pub unphased : Unphased words r v
-  pub in-scratch : r ≤ length scratch
-  pub pointers : Pointers book table words scratch r
+-- a next state of place i that counts may be sought
+pub record Seekable (book table words : List ℕ) (r : ℕ) (signs : List ℕ) (i : ℕ) : Type 0 where
+  pub signed : Signed book table r signs
+  pub rises : Rises table r
+  pub in-words : r ≤ length words
+  pub place : i < r
 
--- it was run, and n places fell
-pub record PhaseDone (book table : List ℕ) (r reason v : ℕ) (old new before after : List ℕ) (n : ℕ) : Type 0 where
-  pub phased : Phased (bookSystem book) table r reason v old new n
-  pub pointers : Pointers book table new after r
-  pub scratch-long : length after ≡ length before
+-- reason 0's phase, which gives the word v, may be run: the log's first m places are those struck so far
+pub record Striking (book table words row signs log : List ℕ) (m v : ℕ) : Type 0 where
+  pub signed : Signed book table (length row) signs
+  pub rises : Rises table (length row)
+  pub unphased : Unphased words (length row) v
+  pub pointers : Pointers book table words row (length row)
+  pub log-is : Log words (length row) log m
+  pub log-few : length log ≤ mostStates
+
+-- it was run: what fell stands in the log from m on and before m′
+pub record DeadDone (book table : List ℕ) (v : ℕ) (words words′ row row′ log log′ : List ℕ) (m m′ : ℕ) : Type 0 where
+  pub phased : Phased (bookSystem book) table (length row) 0 v words words′ (m′ - m)
+  pub pointers : Pointers book table words′ row′ (length row)
+  pub row-long : length row′ ≡ length row
+  pub log-long : length log′ ≡ length log
+  pub kept : (t : ℕ) → t < m → getD log′ t 0 ≡ getD log t 0
+  pub grows : m ≤ m′
+  pub log-is : Log words′ (length row) log′ m′
+  pub noted : (i : ℕ) → i < length row → getD words i 0 ≡ 0 → (getD words′ i 0 ≡ 0 → ⊥) → Between log′ m m′ i

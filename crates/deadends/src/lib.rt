@@ -1,15 +1,17 @@
-// Dead ends: reason 0 of a round strikes together the states with no move to an unstruck state. Each unstruck place keeps a pointer to a next
-// state that is unstruck; only where that one has been struck since is the next one sought, along the stored moves or by tests of pairs.
+// Dead ends: reason 0 of a round strikes together the states with no move to an unstruck state. Each unstruck place keeps a pointer to its first
+// next state that is unstruck; only where that one has been struck since is the next one sought. A state without a next state is found by listing.
 
 use ground::State;
 ghost use mathlib.Core.Path.{_≡_};
-ghost use mathlib.Core.Bool.{true};
 ghost use Prim.Native.Nat.{_-_, _<_, _≤_};
 ghost use lib.ListN.{length, getD};
 ghost use Rattle.ground.specs.Says.{Says};
-ghost use Rattle.rules.specs.Book.{gatherSize, clausesOk, bookLawful};
-ghost use Rattle.deadends.specs.Phases.{Striking, PhaseDone, Told, Counts, Sought, Pointing, Pending};
-ghost use Rattle.deadends.specs.Onward.{Readable, SoughtInRow, Onward};
+ghost use Rattle.rules.specs.Table.{To};
+ghost use Rattle.lookup.specs.Lookup.{StandsAt};
+ghost use Rattle.deadends.specs.Phases.{Striking, DeadDone, Seekable, Counts, Sought, Pointing, Pending};
+
+// So many places are tested before the next states are listed: mostly a next state stands among them, and a listing costs more than a test.
+const FRONT: usize = 2048;
 
 // Whether a word counts as unstruck in the phase that gives `word`: what fell in this very phase still does.
 fn counts(x: u32, word: u32) -> bool
@@ -21,35 +23,44 @@ fn counts(x: u32, word: u32) -> bool
     x == word
 }
 
-// Whether a place counts and its state t makes the gathered clauses true.
-fn goes(clauses: &[State], count: usize, t: State, x: u32, word: u32) -> bool
-    requires { ⌜ (length (now clauses) ≡ gatherSize) × (count ≤ 255) ⌝ }
-    ensures { λ b. ⌜ Says (Counts word x × (clausesOk (now (clauses .entry)) count t ≡ true)) b ⌝ }
+// Whether place j counts and place i moves to it.
+fn goes(
+    book: &[State],
+    table: &[State],
+    words: &[u32],
+    r: usize,
+    signs: &[u64],
+    i: usize,
+    j: usize,
+    word: u32,
+) -> bool
+    requires { ⌜ Seekable (now book) (now table) (now words) r (now signs) i × (j < r) ⌝ }
+    ensures { λ b. ⌜ Says (Counts word (getD (now (words .entry)) j 0) × To (now (book .entry)) (now (table .entry)) i j) b ⌝ }
 {
-    if counts(x, word) {
-        return rules::fits(clauses, count, t);
+    if counts(words[j], word) {
+        return signs::meets(book, table, r, signs, i, j);
     }
     false
 }
 
-// The place after the first one from `lo` on that counts and that s moves to; 0 if there is none.
+// The place after the first one from `lo` on and below `hi` that counts and that place i moves to; 0 if there is none.
 fn seek(
     book: &[State],
-    s: State,
     table: &[State],
     words: &[u32],
     r: usize,
+    signs: &[u64],
+    i: usize,
     word: u32,
     lo: usize,
-    clauses: &mut [State],
+    hi: usize,
 ) -> usize
-    requires { ⌜ Told (now book) (now table) r × (r ≤ length (now words)) × (bookLawful (now book) s ≡ true) × (length (now clauses) ≡ gatherSize) ⌝ }
-    ensures { λ q. ⌜ Sought (now (book .entry)) (now (table .entry)) (now (words .entry)) word r s lo q × (length (now (clauses .exit)) ≡ gatherSize) ⌝ }
+    requires { ⌜ Seekable (now book) (now table) (now words) r (now signs) i × (hi ≤ r) ⌝ }
+    ensures { λ q. ⌜ Sought (now (book .entry)) (now (table .entry)) (now (words .entry)) word hi (getD (now (table .entry)) i 0) lo q ⌝ }
 {
-    let count = rules::gather_next(book, s, clauses);
     let mut j = lo;
-    while j < r {
-        if goes(clauses, count, table[j], words[j], word) {
+    while j < hi {
+        if goes(book, table, words, r, signs, i, j, word) {
             return j + 1;
         }
         j += 1;
@@ -57,57 +68,75 @@ fn seek(
     0
 }
 
-// Whether place j is `lo` or above and counts.
-fn stands(words: &[u32], j: usize, lo: usize, word: u32) -> bool
-    requires { ⌜ j < length (now words) ⌝ }
-    ensures { λ b. ⌜ Says ((lo ≤ j) × Counts word (getD (now (words .entry)) j 0)) b ⌝ }
+// Whether x stands at place p and counts there.
+fn still_stands(table: &[State], words: &[u32], r: usize, p: usize, x: State, word: u32) -> bool
+    requires { ⌜ (r ≤ length (now table)) × (r ≤ length (now words)) ⌝ }
+    ensures { λ b. ⌜ Says (StandsAt (now (table .entry)) r p x × Counts word (getD (now (words .entry)) p 0)) b ⌝ }
 {
-    if j < lo {
-        return false;
+    if lookup::stands(table, r, p, x) {
+        let seen = words[p];
+        return counts(seen, word);
     }
-    counts(words[j], word)
+    false
 }
 
-// The place after the first one in place i's row that is `lo` or above and counts; 0 if there is none.
-fn seek_row(words: &[u32], i: usize, word: u32, lo: usize, forth: &[u16]) -> usize
-    requires { ⌜ Readable i (now words) (now forth) ⌝ }
-    ensures { λ q. ⌜ SoughtInRow i (now (words .entry)) word lo (now (forth .entry)) q ⌝ }
+// The place after the first one that counts and that place i moves to, if it is known that none before `lo` is such; 0 if there is none. The
+// least next state is listed: no place before it is a next state, since the table rises.
+fn seek_listed(
+    book: &[State],
+    table: &[State],
+    words: &[u32],
+    r: usize,
+    signs: &[u64],
+    i: usize,
+    word: u32,
+    lo: usize,
+) -> usize
+    requires { ⌜ Seekable (now book) (now table) (now words) r (now signs) i ⌝ }
+    ensures { λ q. ⌜ Sought (now (book .entry)) (now (table .entry)) (now (words .entry)) word r (getD (now (table .entry)) i 0) lo q ⌝ }
 {
-    let end = web::row_end(forth, i);
-    let mut e = web::row_start(forth, i);
-    while e < end {
-        let j = web::cell(forth, e);
-        if stands(words, j, lo, word) {
-            return j + 1;
-        }
-        e += 1;
+    let s = table[i];
+    let mut one = [0u32; 1];
+    let n = listing::next_states(book, s, &mut one);
+    if n == 0 {
+        return 0;
     }
-    0
+    let least = one[0];
+    let p = lookup::place(table, r, least, i);
+    if still_stands(table, words, r, p, least, word) {
+        return p + 1;
+    }
+    if p < lo {
+        return seek(book, table, words, r, signs, i, word, lo, r);
+    }
+    seek(book, table, words, r, signs, i, word, p, r)
 }
 
-// The place after the first one from `lo` on that counts and that place i moves to, looked for in its row where the moves are stored; 0 if
-// there is none.
+// The place after the first one from `lo` on that counts and that place i moves to; 0 if there is none.
 fn seek_from(
     book: &[State],
     table: &[State],
     words: &[u32],
     r: usize,
+    signs: &[u64],
     i: usize,
     word: u32,
     lo: usize,
-    forth: &[u16],
-    clauses: &mut [State],
 ) -> usize
-    requires { ⌜ Told (now book) (now table) r × (r ≤ length (now words)) × (i < r) × (length (now clauses) ≡ gatherSize)
-        × Onward (now book) (now table) r (now forth) ⌝ }
-    ensures { λ q. ⌜ Sought (now (book .entry)) (now (table .entry)) (now (words .entry)) word r (getD (now (table .entry)) i 0) lo q
-        × (length (now (clauses .exit)) ≡ gatherSize) ⌝ }
+    requires { ⌜ Seekable (now book) (now table) (now words) r (now signs) i ⌝ }
+    ensures { λ q. ⌜ Sought (now (book .entry)) (now (table .entry)) (now (words .entry)) word r (getD (now (table .entry)) i 0) lo q ⌝ }
 {
-    if forth.len() == 0 {
-        let s = table[i];
-        return seek(book, s, table, words, r, word, lo, clauses);
+    if lo > 0 {
+        return seek(book, table, words, r, signs, i, word, lo, r);
     }
-    seek_row(words, i, word, lo, forth)
+    if r <= FRONT {
+        return seek(book, table, words, r, signs, i, word, lo, r);
+    }
+    let q = seek(book, table, words, r, signs, i, word, lo, FRONT);
+    if q > 0 {
+        return q;
+    }
+    seek_listed(book, table, words, r, signs, i, word, FRONT)
 }
 
 // Whether the place that a pointer names still counts.
@@ -136,38 +165,40 @@ fn pending(words: &[u32], i: usize, q: usize, word: u32) -> bool
     true
 }
 
-// Reason 0: strikes together the states with no move to an unstruck state; how many fall.
+// Reason 0: strikes together the states with no move to an unstruck state, and writes their places into the log; how long the log then is.
 pub fn dead_ends(
     book: &[State],
     table: &[State],
     words: &mut [u32],
-    scratch: &mut [State],
-    r: usize,
+    row: &mut [u16],
+    signs: &[u64],
+    log: &mut [u16],
+    m: usize,
     word: u32,
-    forth: &[u16],
 ) -> usize
-    requires { ⌜ Striking (now book) (now table) (now words) (now scratch) r word × Onward (now book) (now table) r (now forth) ⌝ }
-    ensures { λ n. ⌜ PhaseDone (now (book .entry)) (now (table .entry)) r 0 word (now (words .entry)) (now (words .exit)) (now (scratch .entry))
-        (now (scratch .exit)) n ⌝ }
+    requires { ⌜ Striking (now book) (now table) (now words) (now row) (now signs) (now log) m word ⌝ }
+    ensures { λ end. ⌜ DeadDone (now (book .entry)) (now (table .entry)) word (now (words .entry)) (now (words .exit)) (now (row .entry))
+        (now (row .exit)) (now (log .entry)) (now (log .exit)) m end ⌝ }
 {
-    let mut clauses = [0u32; rules::GATHER_SIZE];
-    let mut n: usize = 0;
+    let r = row.len();
+    let mut end = m;
     let mut i: usize = 0;
     while i < r {
-        let lo = scratch[i] as usize;
+        let lo = row[i] as usize;
         if pending(words, i, lo, word) {
-            let q = seek_from(book, table, words, r, i, word, lo, forth, &mut clauses);
+            let q = seek_from(book, table, words, r, signs, i, word, lo);
             if q == 0 {
                 words[i] = word;
-                n += 1;
+                log[end] = i as u16;
+                end += 1;
                 i += 1;
             } else {
-                scratch[i] = q as u32;
+                row[i] = q as u16;
                 i += 1;
             }
         } else {
             i += 1;
         }
     }
-    n
+    end
 }

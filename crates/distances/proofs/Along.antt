@@ -10,11 +10,22 @@ use lib.ListN.{length, getD}
 use Rattle.meaning.specs.System.{System}
 use Rattle.ground.specs.Listed.{Between}
 use Rattle.meaning.specs.Promises.{mostStates}
-use Rattle.web.specs.Web.{Rows}
+use Rattle.rules.specs.Book.{bookSystem}
+use Rattle.web.specs.Web.{Back}
+use Rattle.web.specs.Layout.{movesSize, mostCells, startAt, endAt, cellAt, Backed, Ascending}
 use Rattle.distances.specs.Far.{gone}
 use Rattle.distances.specs.Layers.{fars, LinedUp, Reaches, as-was, reached, Sure, Layered, Near}
-use Rattle.distances.specs.Follow.{Ready, Followed}
+use Rattle.distances.specs.Follow.{RowReady, Followed}
 use Rattle.distances.proofs.Closed.{reaches-keeps, sure-spread, spread-here, shut-near}
+
+-- the rows back of a system's moves over the first r places
+pub record MovesBack (S : System) (table : List ℕ) (r : ℕ) (back : List ℕ) : Type 0 where
+  pub long : length back ≡ movesSize
+  pub in-cells : (j : ℕ) → j < r → endAt back j ≤ mostCells
+  pub places : (j e : ℕ) → j < r → startAt back j ≤ e → e < endAt back j → cellAt back e < r
+  pub links : Ascending r back
+  pub sound : (i j : ℕ) → j < r → Backed back i j → S .Move (getD table i 0) (getD table j 0)
+  pub whole : (i j : ℕ) → i < r → j < r → S .Move (getD table i 0) (getD table j 0) → Backed back i j
 
 module _ (S : System) (G : ℕ → Type 0) (table words : List ℕ) (r : ℕ) where
   -- the queue's first `tail` places are reached, nearer ones first, and the rows of its first `head` were followed
@@ -42,7 +53,7 @@ module _ (S : System) (G : ℕ → Type 0) (table words : List ℕ) (r : ℕ) wh
     steps = λ t i h k z m. absurd (omega arith);
   }
 
-  module _ (starts ends cells : List ℕ) (rows : Rows (λ (j i : ℕ). S .Move (getD table i 0) (getD table j 0)) r starts ends cells) (few : r ≤ mostStates)
+  module _ (back : List ℕ) (rows : MovesBack S table r back) (few : r ≤ mostStates)
       (near queue : List ℕ) (head tail : ℕ) (a : Along near queue head tail) where
     -- At the queue's end the values are the distances.
     pub along-done : tail ≤ head → Near S G table words r near
@@ -69,28 +80,32 @@ module _ (S : System) (G : ℕ → Type 0) (table words : List ℕ) (r : ℕ) wh
 
       -- Its row may be followed, whatever number it is to give.
       pub along-ready : (d : ℕ) → d < gone → r ≤ length queue
-          → Ready cells (getD starts next 0) (getD ends next 0) d (length near) near queue tail
+          → RowReady back next d (length near) near queue tail
       along-ready d small long =
-          subst (λ (n : ℕ). Ready cells (getD starts next 0) (getD ends next 0) d n near queue tail) (sym (a .sure .long)) (record {
-            in-cells = rows .in-cells next (along-next .0);
-            places = λ e h k. rows .sound next e (along-next .0) h k .0;
-            small = small;
-            long = a .sure .long;
-            few = few;
-            in-queue = long;
-            room = a .room;
+          subst (λ (n : ℕ). RowReady back next d n near queue tail) (sym (a .sure .long)) (record {
+            row = record { long = rows .long; place = omega (arith, along-next .0, few); within = rows .in-cells next (along-next .0) };
+            places = λ e h k. rows .places next e (along-next .0) h k;
+            ready = record {
+              stored = rows .long;
+              links = rows .links;
+              small = small;
+              long = a .sure .long;
+              few = few;
+              in-queue = long;
+              room = a .room;
+            };
           })
 
       module _ (new queue′ : List ℕ) (got : ℕ)
-          (followed : Followed cells (getD starts next 0) (getD ends next 0) (number + 1) (length near) near new tail queue queue′ got) where
-        -- a place in the next place's row
+          (followed : Followed (λ i. Backed back i next) (number + 1) (length near) near new tail queue queue′ got) where
+        -- a place that moves to the next place, as its row says
         abbrev Row : ℕ → Type 0
-        Row = Between cells (getD starts next 0) (getD ends next 0)
+        Row i = Backed back i next
 
-        all : Followed cells (getD starts next 0) (getD ends next 0) (suc number) r near new tail queue queue′ got
+        all : Followed (λ i. Backed back i next) (suc number) r near new tail queue queue′ got
         all =
-            subst (λ (n : ℕ). Followed cells (getD starts next 0) (getD ends next 0) n r near new tail queue queue′ got) (add-one number)
-            (subst (λ (n : ℕ). Followed cells (getD starts next 0) (getD ends next 0) (number + 1) n near new tail queue queue′ got)
+            subst (λ (n : ℕ). Followed (λ i. Backed back i next) n r near new tail queue queue′ got) (add-one number)
+            (subst (λ (n : ℕ). Followed (λ i. Backed back i next) (number + 1) n near new tail queue queue′ got)
             (a .sure .long) followed)
 
         small : suc number < gone
@@ -172,7 +187,7 @@ module _ (S : System) (G : ℕ → Type 0) (table words : List ℕ) (r : ℕ) wh
 
             by : Dec (t ≡ head) → getD new i 0 ≤ suc (getD new (getD queue′ t 0) 0)
             by (yes q) =
-                let p = rows .whole next i (along-next .0) k (subst (λ (x : ℕ). S .Move (getD table i 0) (getD table (getD queue x 0) 0)) q moves) in
+                let p = rows .whole i next k (along-next .0) (subst (λ (x : ℕ). S .Move (getD table i 0) (getD table (getD queue x 0) 0)) q moves) in
                 let b = spread-here S G table words r near (a .sure) Row number new got small (all .spread) i k z p (a .ahead more i k) in
                 let e = stays t inside in
                 let f : getD near (getD queue t 0) 0 ≡ number = ap (λ (x : ℕ). getD near (getD queue x 0) 0) q in
@@ -201,8 +216,18 @@ module _ (S : System) (G : ℕ → Type 0) (table words : List ℕ) (r : ℕ) wh
         }
           where
             to : (i : ℕ) → Row i → S .Move (getD table i 0) (getD table next 0)
-            to i (e, b, c, q) =
-                subst (λ (x : ℕ). S .Move (getD table x 0) (getD table next 0)) q (rows .sound next e (along-next .0) b c .1)
+            to i p = rows .sound i next (along-next .0) p
+
+-- Stored moves back are the rows back of the sheet's moves.
+pub moves-back : (book table : List ℕ) (r : ℕ) (back : List ℕ) → Back book table r back → MovesBack (bookSystem book) table r back
+moves-back book table r back b = record {
+  long = b .long;
+  in-cells = b .in-cells;
+  places = b .places;
+  links = b .links;
+  sound = b .sound;
+  whole = b .whole;
+}
 
 -- ---- the loop over the queue
 
@@ -214,17 +239,17 @@ pub record Next (near queue : List ℕ) (r head : ℕ) : Type 0 where
   pub in-queue : head < length queue
   pub in-near : getD queue head 0 < length near
 
-module _ (S : System) (G : ℕ → Type 0) (table words : List ℕ) (r : ℕ) (starts ends cells : List ℕ) where
+module _ (S : System) (G : ℕ → Type 0) (table words : List ℕ) (r : ℕ) (back : List ℕ) where
   -- the rows are the moves back, the queue is as long as it was, and the rows of its first `head` places were followed
   pub record Tracing (before queue near : List ℕ) (tail head : ℕ) : Type 0 where
-    pub rows : Rows (λ (j i : ℕ). S .Move (getD table i 0) (getD table j 0)) r starts ends cells
+    pub rows : MovesBack S table r back
     pub few : r ≤ mostStates
     pub in-queue : r ≤ length queue
     pub same : length queue ≡ length before
     pub along : Along S G table words r near queue head tail
 
   -- Before the first turn.
-  pub tracing-none : (queue near : List ℕ) (tail : ℕ) → Rows (λ (j i : ℕ). S .Move (getD table i 0) (getD table j 0)) r starts ends cells
+  pub tracing-none : (queue near : List ℕ) (tail : ℕ) → MovesBack S table r back
       → r ≤ mostStates → r ≤ length queue → Layered S G table words r 0 0 0 near → LinedUp 0 near r tail queue → Tracing queue queue near tail 0
   tracing-none queue near tail rows few long first l =
       record { rows = rows; few = few; in-queue = long; same = refl; along = along-none S G table words r near queue tail first l }
@@ -232,13 +257,13 @@ module _ (S : System) (G : ℕ → Type 0) (table words : List ℕ) (r : ℕ) (s
   module _ (before queue near : List ℕ) (tail head : ℕ) (t : Tracing before queue near tail head) where
     -- After the last place the values are the distances.
     pub tracing-done : tail ≤ head → Near S G table words r near
-    tracing-done over = along-done S G table words r starts ends cells (t .rows) (t .few) near queue head tail (t .along) over
+    tracing-done over = along-done S G table words r back (t .rows) (t .few) near queue head tail (t .along) over
 
     module _ (more : head < tail) where
       -- The next place's row can be looked up,
       pub tracing-next : Next near queue r head
       tracing-next =
-          let u = along-next S G table words r starts ends cells (t .rows) (t .few) near queue head tail (t .along) more in
+          let u = along-next S G table words r back (t .rows) (t .few) near queue head tail (t .along) more in
           let a = u .0 in
           let d = t .along .sure .long in
           let e = t .along .room in
@@ -252,12 +277,12 @@ module _ (S : System) (G : ℕ → Type 0) (table words : List ℕ) (r : ℕ) (s
 
       -- and followed,
       pub tracing-ready : (d : ℕ) → d < gone
-          → Ready cells (getD starts (getD queue head 0) 0) (getD ends (getD queue head 0) 0) d (length near) near queue tail
+          → RowReady back (getD queue head 0) d (length near) near queue tail
       tracing-ready d small =
-          along-ready S G table words r starts ends cells (t .rows) (t .few) near queue head tail (t .along) more d small (t .in-queue)
+          along-ready S G table words r back (t .rows) (t .few) near queue head tail (t .along) more d small (t .in-queue)
 
       -- and then it is followed.
-      pub tracing-more : (new queue′ : List ℕ) (got : ℕ) → Followed cells (getD starts (getD queue head 0) 0) (getD ends (getD queue head 0) 0)
+      pub tracing-more : (new queue′ : List ℕ) (got : ℕ) → Followed (λ i. Backed back i (getD queue head 0))
           (getD near (getD queue head 0) 0 + 1) (length near) near new tail queue queue′ got
           → Tracing before queue′ new (tail + got) (head + 1)
       tracing-more new queue′ got f = record {
@@ -265,5 +290,5 @@ module _ (S : System) (G : ℕ → Type 0) (table words : List ℕ) (r : ℕ) (s
         few = t .few;
         in-queue = let a = t .in-queue in let b = f .joined .long in omega arith;
         same = f .joined .long ∙ t .same;
-        along = along-more S G table words r starts ends cells (t .rows) (t .few) near queue head tail (t .along) more new queue′ got f;
+        along = along-more S G table words r back (t .rows) (t .few) near queue head tail (t .along) more new queue′ got f;
       }

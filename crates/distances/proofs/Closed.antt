@@ -149,6 +149,33 @@ module _ (S : System) (G : ℕ → Type 0) (table words : List ℕ) (r : ℕ) wh
         back m (inl h) = inl h
         back m (inr (e, h)) = inr (e, (let n : m ≡ j → ⊥ = λ q. other (subst (λ (x : ℕ). getD old x 0 ≡ d) q e) in omega arith))
 
+    -- Passing by a place of layer d for which place k serves: whoever moves to it is near enough by the move to k.
+    pub layered-served : (k : ℕ) → k < r → getD old j 0 ≡ d → Done d j k (getD old k 0)
+        → ((i : ℕ) → i < r → S .Move (getD table i 0) (getD table j 0) → S .Move (getD table i 0) (getD table k 0))
+        → Layered S G table words r d (j + 1) got old
+    layered-served k place here known wider = record {
+      sure = L .sure;
+      low = L .low;
+      steps = λ i m h g a b v done. step i m h g a b v (ℕ-discrete m j) done;
+    }
+      where
+        most : (x : ℕ) → Done d j k x → x ≤ d
+        most x (inl l) = omega arith
+        most x (inr (e, l)) = omega arith
+
+        at-most : getD old k 0 ≤ d
+        at-most = most (getD old k 0) known
+
+        step : (i m : ℕ) → i < r → m < r → getD words i 0 ≡ 0 → getD words m 0 ≡ 0 → S .Move (getD table i 0) (getD table m 0)
+            → Dec (m ≡ j) → Done d (j + 1) m (getD old m 0) → getD old i 0 ≤ suc (getD old m 0)
+        step i m h g a b v q (inl l) = L .steps i m h g a b v (inl l)
+        step i m h g a b v (no q) (inr (e, l)) = L .steps i m h g a b v (inr (e, omega arith))
+        step i m h g a b v (yes q) (inr (e, l)) =
+            let u = wider i h (subst (λ (x : ℕ). S .Move (getD table i 0) (getD table x 0)) q v) in
+            let near-k = at-most in
+            let w = L .steps i k h place a (near-live old (L .sure) k place (omega arith)) u known in
+            omega arith
+
     -- Where no place is left to be reached, the rest of the layer is as good as spread.
     pub layered-full : fars old r ≡ 0 → Layered S G table words r d r got old
     layered-full nothing = record {

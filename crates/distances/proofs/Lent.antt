@@ -6,20 +6,23 @@ use native.Mathlib.Omega.{arith}
 use lib.ListN.{length, getD, take, drop, length-drop, length-append, List·getD-append}
 use lib.Seq.{length-take-le, getD-append-add, getD-take}
 use Rattle.meaning.specs.System.{System}
+use Rattle.signs.specs.Signs.{Signed}
 use Rattle.distances.specs.Far.{Place, Live, Measured}
 use Rattle.distances.specs.Layers.{Near}
 use Rattle.distances.specs.Follow.{Followable}
 
 -- ---- the queue
 
--- Where no moves are stored a queue with room for every place is enough;
-pub none-followable : (book table : List ℕ) (r : ℕ) (back queue : List ℕ) → length back ≡ 0 → r ≤ length queue → Followable book table r back queue
-none-followable book table r back queue none room = record { stored = λ some. absurd (some none); in-queue = room }
+-- Where no moves are stored signs are enough, and a queue with room for every place;
+pub none-followable : (book table : List ℕ) (r : ℕ) (back queue signs : List ℕ) → length back ≡ 0 → Signed book table r signs → r ≤ length queue
+    → Followable book table r back queue signs
+none-followable book table r back queue signs none signed room = record { stored = λ some. absurd (some none); tested = λ _. signed; in-queue = room }
 
 -- and a queue of the same length serves as well.
-pub followable-queue : (book table : List ℕ) (r : ℕ) (back queue queue′ : List ℕ) → Followable book table r back queue
-    → length queue′ ≡ length queue → Followable book table r back queue′
-followable-queue book table r back queue queue′ f long = record { stored = f .stored; in-queue = let a = f .in-queue in omega arith }
+pub followable-queue : (book table : List ℕ) (r : ℕ) (back queue queue′ signs : List ℕ) → Followable book table r back queue signs
+    → length queue′ ≡ length queue → Followable book table r back queue′ signs
+followable-queue book table r back queue queue′ signs f long =
+    record { stored = f .stored; tested = f .tested; in-queue = let a = f .in-queue in omega arith }
 
 -- ---- the part of the distances
 

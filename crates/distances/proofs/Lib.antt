@@ -3,7 +3,9 @@ pub mod Spreads
 pub mod Closed
 pub mod Turns
 pub mod Exact
+pub mod Chains
 pub mod Lines
 pub mod Sifts
+pub mod Order
 pub mod Along
 pub mod Lent

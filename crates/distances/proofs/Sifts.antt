@@ -9,7 +9,7 @@ use lib.Seq.{getD-set-same, getD-set-other}
 use Rattle.ground.specs.Listed.{Between}
 use Rattle.meaning.specs.Promises.{mostStates}
 use Rattle.distances.specs.Far.{far, gone}
-use Rattle.distances.specs.Layers.{LinedUp, Listed, Reaches, as-was, reached, Spread, Sifted}
+use Rattle.distances.specs.Layers.{Listed, Reaches, as-was, reached, Spread, Sifted}
 use Rattle.distances.proofs.Spreads.{spread-none, spread-same, spread-was, spread-one}
 
 -- a reason that holds at a place before the list's place i
@@ -28,15 +28,15 @@ pub record Sifting (P : ℕ → Type 0) (d r left : ℕ) (old list : List ℕ) (
   pub ahead : (u : ℕ) → i ≤ u → getD rest u 0 ≡ getD list u 0
 
 -- what a turn asks of the place at i of the list, and of place `kept`, which may be written
-pub record Here (table near list : List ℕ) (i kept : ℕ) : Type 0 where
+pub record Here (r : ℕ) (near list : List ℕ) (i kept : ℕ) : Type 0 where
   pub in-list : i < length list
+  pub place : getD list i 0 < r
   pub in-near : getD list i 0 < length near
-  pub in-table : getD list i 0 < length table
   pub few : getD list i 0 < mostStates
   pub behind : kept < length list
   pub few-kept : kept < mostStates
 
-module _ (P : ℕ → Type 0) (table : List ℕ) (d r left : ℕ) (old list : List ℕ) (ready : Listed table r left list old) (small : d < gone) where
+module _ (P : ℕ → Type 0) (d r left : ℕ) (old list : List ℕ) (ready : Listed r left list old) (small : d < gone) where
   -- the same with what does not change
   abbrev Sift : (i kept : ℕ) (near rest : List ℕ) → Type 0
   Sift i kept near rest = Sifting P d r left old list i kept near rest
@@ -186,7 +186,7 @@ module _ (P : ℕ → Type 0) (table : List ℕ) (d r left : ℕ) (old list : Li
     is-here : getD rest i 0 ≡ here
     is-here = s .ahead i (omega arith)
 
-    pub sift-here : Here table near rest i kept
+    pub sift-here : Here r near rest i kept
     sift-here =
         let a = is-here in
         let b = place in
@@ -197,8 +197,8 @@ module _ (P : ℕ → Type 0) (table : List ℕ) (d r left : ℕ) (old list : Li
         let j = ready .in-list in
         record {
           in-list = omega arith;
+          place = omega arith;
           in-near = let c = inside in omega arith;
-          in-table = let c = ready .in-table in omega arith;
           few = omega arith;
           behind = omega arith;
           few-kept = omega arith;
@@ -213,12 +213,11 @@ module _ (P : ℕ → Type 0) (table : List ℕ) (d r left : ℕ) (old list : Li
         (sifting-keep (λ p. without (subst P (sym is-here) p)))
 
   -- After the last turn every listed place was looked at.
-  pub sifting-done : (i kept : ℕ) (near rest : List ℕ) → Sift i kept near rest → i ≡ left → Sifted P table d r left kept old near list rest
+  pub sifting-done : (i kept : ℕ) (near rest : List ℕ) → Sift i kept near rest → i ≡ left → Sifted P d r left kept old near list rest
   sifting-done i kept near rest s end = record {
     spread = all;
     same = s .same;
     listed = record {
-      in-table = ready .in-table;
       in-list = let a = s .same in let b = ready .in-list in omega arith;
       long = s .spread .long ∙ ready .long;
       few = ready .few;

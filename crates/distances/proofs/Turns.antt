@@ -5,23 +5,24 @@ use Prim.Native.Nat.{ℕ, _+_, _-_, _≤_, _<_}
 use native.Mathlib.Numerals.{add-one}
 use native.Mathlib.Omega.{arith}
 use lib.ListN.{length, getD}
-use Rattle.rules.specs.Book.{BeforePack, bookSystem}
-use Rattle.rules.proofs.Facts.{move-steps, steps-move}
+use Rattle.rules.specs.Book.{bookSystem}
+use Rattle.rules.specs.Table.{To}
+use Rattle.signs.specs.Signs.{Signed}
 use Rattle.distances.specs.Far.{far}
 use Rattle.distances.specs.Layers.{
   Measurable,
-  clearOf,
   LinedUp,
   Listed,
   Spread,
   Sifted,
   Layered,
+  Served,
   Spreadable,
   LayerSifted,
   Opening,
   Near,
 }
-use Rattle.distances.proofs.Closed.{layered-past, layered-spread, layered-full, layered-next, quiet-near, full-near}
+use Rattle.distances.proofs.Closed.{layered-past, layered-served, layered-spread, layered-full, layered-next, quiet-near, full-near}
 
 -- what the values say of promise k and these words
 abbrev LayeredBy : (book : List ℕ) (k : ℕ) (table words : List ℕ) (r d j got : ℕ) (near : List ℕ) → Type 0
@@ -30,25 +31,29 @@ LayeredBy book k table words r d j got near = Layered (bookSystem book) (bookSys
 -- ---- a layer's places
 
 -- the listed places stay listed where r is written as the length
-pub listed-long : (table : List ℕ) (r left : ℕ) (list near : List ℕ) → Listed table r left list near → Listed table (length near) left list near
-listed-long table r left list near l = subst (λ (n : ℕ). Listed table n left list near) (sym (l .long)) l
+pub listed-long : (r left : ℕ) (list near : List ℕ) → Listed r left list near → Listed (length near) left list near
+listed-long r left list near l = subst (λ (n : ℕ). Listed n left list near) (sym (l .long)) l
+
+-- and so do the signs
+pub signed-long : (book table : List ℕ) (r : ℕ) (signs near : List ℕ) → length near ≡ r → Signed book table r signs
+    → Signed book table (length near) signs
+signed-long book table r signs near long s = subst (λ (n : ℕ). Signed book table n signs) (sym long) s
 
 -- layer d is spread from its places below j, and `kept` of `left` places are listed still
 pub record Spreading (book table : List ℕ) (r d left : ℕ) (old list : List ℕ) (j kept : ℕ) (near rest : List ℕ) : Type 0 where
   pub most : kept ≤ left
-  pub listed : Listed table r kept rest near
+  pub listed : Listed r kept rest near
   pub same : length rest ≡ length list
-  pub so-far : (k : ℕ) (words : List ℕ) → Measurable book k table words r
-      → LayeredBy book k table words r d 0 0 old → LayeredBy book k table words r d j (left - kept) near
+  pub so-far : (k : ℕ) (words : List ℕ) → LayeredBy book k table words r d 0 0 old → LayeredBy book k table words r d j (left - kept) near
 
-module _ (book table : List ℕ) (r d left : ℕ) (old list : List ℕ) (ready : Spreadable book table r d left list old) where
+module _ (book table : List ℕ) (r d left : ℕ) (old list signs : List ℕ) (ready : Spreadable book table r d left list old signs) where
   -- Before the first place the layer is as it was.
   pub spreading-none : Spreading book table r d left old list 0 left old list
   spreading-none = record {
     most = omega arith;
     listed = ready .listed;
     same = refl;
-    so-far = λ k words a l. subst (λ (n : ℕ). LayeredBy book k table words r d 0 n old) (omega arith) l;
+    so-far = λ k words l. subst (λ (n : ℕ). LayeredBy book k table words r d 0 n old) (omega arith) l;
   }
 
   module _ (j kept : ℕ) (near rest : List ℕ) (s : Spreading book table r d left old list j kept near rest) where
@@ -58,30 +63,41 @@ module _ (book table : List ℕ) (r d left : ℕ) (old list : List ℕ) (ready :
       most = s .most;
       listed = s .listed;
       same = s .same;
-      so-far = λ k words a l. layered-past (bookSystem book) (bookSystem book .Kept k) table words r d j (left - kept) near
-          (s .so-far k words a l) (let b = ready .small in omega arith) other;
+      so-far = λ k words l. layered-past (bookSystem book) (bookSystem book .Kept k) table words r d j (left - kept) near
+          (s .so-far k words l) (let b = ready .small in omega arith) other;
+    }
+
+    -- So is a place of the layer for which another serves.
+    pub spreading-served : getD near j 0 ≡ d → Served book table r d j near → Spreading book table r d left old list (j + 1) kept near rest
+    spreading-served here served = record {
+      most = s .most;
+      listed = s .listed;
+      same = s .same;
+      so-far = λ k words l. layered-served (bookSystem book) (bookSystem book .Kept k) table words r d j (left - kept) near
+          (s .so-far k words l) (let b = ready .small in omega arith) (served .by) (served .serves .place) here (served .serves .done)
+          (served .serves .wider);
     }
 
     -- A place of the layer is spread.
-    pub spreading-more : (pack : List ℕ) (count : ℕ) (new rest′ : List ℕ) (kept′ : ℕ) → j < r → getD near j 0 ≡ d
-        → BeforePack book (getD table j 0) pack count
-        → Sifted (clearOf table pack count) table (d + 1) (length near) kept kept′ near new rest rest′
+    pub spreading-more : (new rest′ : List ℕ) (kept′ : ℕ) → j < r → getD near j 0 ≡ d
+        → Sifted (λ i. To book table i j) (d + 1) (length near) kept kept′ near new rest rest′
         → Spreading book table r d left old list (j + 1) kept′ new rest′
-    spreading-more pack count new rest′ kept′ inside here p given = record {
+    spreading-more new rest′ kept′ inside here given = record {
       most = let a = s .most in let b = fewer in omega arith;
       listed = sifted .listed;
       same = sifted .same ∙ s .same;
-      so-far = λ k words a l. subst (λ (n : ℕ). LayeredBy book k table words r d (j + 1) n new)
+      so-far = λ k words l. subst (λ (n : ℕ). LayeredBy book k table words r d (j + 1) n new)
           (let b = s .most in let c = fewer in omega arith)
-          (layered-spread (bookSystem book) (bookSystem book .Kept k) table words r d j (left - kept) near (s .so-far k words a l)
-          (let b = ready .small in omega arith) (clearOf table pack count) new (kept - kept′) inside here
-          (λ i h m. p .says (getD table i 0) ∙ move-steps book (getD table i 0) (getD table j 0) m)
-          (λ i h c. steps-move book (getD table i 0) (getD table j 0) (a .lawful i h) (a .lawful j inside) (sym (p .says (getD table i 0)) ∙ c))
-          (subst (λ (x : ℕ). Spread (clearOf table pack count) x r near new (kept - kept′)) (add-one d) (sifted .spread)));
+          (layered-spread (bookSystem book) (bookSystem book .Kept k) table words r d j (left - kept) near (s .so-far k words l)
+          (let b = ready .small in omega arith) MovesHere new (kept - kept′) inside here (λ i h m. m) (λ i h m. m)
+          (subst (λ (x : ℕ). Spread MovesHere x r near new (kept - kept′)) (add-one d) (sifted .spread)));
     }
       where
-        sifted : Sifted (clearOf table pack count) table (d + 1) r kept kept′ near new rest rest′
-        sifted = subst (λ (n : ℕ). Sifted (clearOf table pack count) table (d + 1) n kept kept′ near new rest rest′) (s .listed .long) given
+        MovesHere : ℕ → Type 0
+        MovesHere i = To book table i j
+
+        sifted : Sifted MovesHere (d + 1) r kept kept′ near new rest rest′
+        sifted = subst (λ (n : ℕ). Sifted MovesHere (d + 1) n kept kept′ near new rest rest′) (s .listed .long) given
 
         fewer : kept′ ≤ kept
         fewer =
@@ -91,8 +107,7 @@ module _ (book table : List ℕ) (r d left : ℕ) (old list : List ℕ) (ready :
             omega arith
 
     -- what a layer leaves, if the values say what they should
-    spreading-sifted : ((k : ℕ) (words : List ℕ) → Measurable book k table words r
-        → LayeredBy book k table words r d 0 0 old → LayeredBy book k table words r d r (left - kept) near)
+    spreading-sifted : ((k : ℕ) (words : List ℕ) → LayeredBy book k table words r d 0 0 old → LayeredBy book k table words r d r (left - kept) near)
         → LayerSifted book table r d left kept old near list rest
     spreading-sifted says = record {
       done = record {
@@ -109,13 +124,13 @@ module _ (book table : List ℕ) (r d left : ℕ) (old list : List ℕ) (ready :
     -- Once nothing is left to be reached the layer is done,
     pub spreading-full : kept ≡ 0 → LayerSifted book table r d left kept old near list rest
     spreading-full e =
-        spreading-sifted (λ k words a l. layered-full (bookSystem book) (bookSystem book .Kept k) table words r d j (left - kept) near
-        (s .so-far k words a l) (let b = ready .small in omega arith) (let b = s .listed .waiting .counted refl in omega arith))
+        spreading-sifted (λ k words l. layered-full (bookSystem book) (bookSystem book .Kept k) table words r d j (left - kept) near
+        (s .so-far k words l) (let b = ready .small in omega arith) (let b = s .listed .waiting .counted refl in omega arith))
 
     -- and so it is after its last place.
     pub spreading-done : j ≡ r → LayerSifted book table r d left kept old near list rest
     spreading-done e =
-        spreading-sifted (λ k words a l. subst (λ (n : ℕ). LayeredBy book k table words r d n (left - kept) near) e (s .so-far k words a l))
+        spreading-sifted (λ k words l. subst (λ (n : ℕ). LayeredBy book k table words r d n (left - kept) near) e (s .so-far k words l))
 
 module _ (book : List ℕ) (k : ℕ) (table words : List ℕ) (r : ℕ) where
   -- ---- the layers
@@ -123,7 +138,7 @@ module _ (book : List ℕ) (k : ℕ) (table words : List ℕ) (r : ℕ) where
   -- the layers before d are spread, and `left` places are not reached yet
   pub record Measuring (left d : ℕ) (near list : List ℕ) : Type 0 where
     pub so-far : LayeredBy book k table words r d 0 0 near
-    pub listed : Listed table r left list near
+    pub listed : Listed r left list near
     pub room : d + left ≤ r
 
   module _ (a : Measurable book k table words r) where
@@ -132,16 +147,16 @@ module _ (book : List ℕ) (k : ℕ) (table words : List ℕ) (r : ℕ) where
         → Measuring left 0 near list
     measuring-none left near list in-list o l = record {
       so-far = o;
-      listed = record { in-table = a .in-table; in-list = in-list; long = o .sure .long; few = a .few; waiting = l };
+      listed = record { in-list = in-list; long = o .sure .long; few = a .states .few; waiting = l };
       room = let b = l .few in omega arith;
     }
 
     module _ (left d : ℕ) (old list : List ℕ) (m : Measuring left d old list) where
       -- the next layer may be spread
-      pub measuring-spreadable : 0 < left → Spreadable book table r d left list old
-      measuring-spreadable some = record {
-        shaped = a .shaped;
-        small = let b = m .room in let c = a .few in omega arith;
+      pub measuring-spreadable : (signs : List ℕ) → Signed book table r signs → 0 < left → Spreadable book table r d left list old signs
+      measuring-spreadable signs signed some = record {
+        signed = signed;
+        small = let b = m .room in let c = a .states .few in omega arith;
         listed = m .listed;
       }
 
@@ -150,7 +165,7 @@ module _ (book : List ℕ) (k : ℕ) (table words : List ℕ) (r : ℕ) where
         pub measuring-next : (kept ≡ left → ⊥) → Measuring kept (d + 1) near rest
         measuring-next some = record {
           so-far =
-              layered-next (bookSystem book) (bookSystem book .Kept k) table words r d (left - kept) near (l .done .spread-all k words a (m .so-far));
+              layered-next (bookSystem book) (bookSystem book .Kept k) table words r d (left - kept) near (l .done .spread-all k words (m .so-far));
           listed = l .listed;
           room = let b = m .room in let c = l .most in omega arith;
         }
@@ -159,7 +174,7 @@ module _ (book : List ℕ) (k : ℕ) (table words : List ℕ) (r : ℕ) where
         pub measuring-quiet : kept ≡ left → Near (bookSystem book) (bookSystem book .Kept k) table words r near
         measuring-quiet e =
             quiet-near (bookSystem book) (bookSystem book .Kept k) table words r d near
-            (subst (λ (n : ℕ). LayeredBy book k table words r d r n near) (omega arith) (l .done .spread-all k words a (m .so-far)))
+            (subst (λ (n : ℕ). LayeredBy book k table words r d r n near) (omega arith) (l .done .spread-all k words (m .so-far)))
 
       -- and so does one after which no place is left.
       pub measuring-full : left ≡ 0 → Near (bookSystem book) (bookSystem book .Kept k) table words r old

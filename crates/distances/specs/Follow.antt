@@ -5,25 +5,34 @@ use mathlib.Core.List.{List}
 use Prim.Native.Nat.{ℕ, _+_, _≤_, _<_}
 use lib.ListN.{length, getD}
 use Rattle.ground.specs.Listed.{Between}
+use Rattle.web.specs.Layout.{movesSize, startAt, endAt, cellAt, HasRow, Ascending}
 use Rattle.web.specs.Web.{Back}
+use Rattle.signs.specs.Signs.{Signed}
 use Rattle.meaning.specs.Promises.{mostStates}
 use Rattle.distances.specs.Far.{far, gone}
 use Rattle.distances.specs.Layers.{fars, Spread}
 
--- if moves are stored, they are the moves back; the queue has room for every place
-pub record Followable (book table : List ℕ) (r : ℕ) (back queue : List ℕ) : Type 0 where
+-- if moves are stored, they are the moves back, else there are signs; the queue has room for every place
+pub record Followable (book table : List ℕ) (r : ℕ) (back queue signs : List ℕ) : Type 0 where
   pub stored : (length back ≡ 0 → ⊥) → Back book table r back
+  pub tested : length back ≡ 0 → Signed book table r signs
   pub in-queue : r ≤ length queue
 
--- a row may be followed: its cells are places, and the queue has room for those not reached yet
-pub record Ready (cells : List ℕ) (start end d r : ℕ) (near queue : List ℕ) (tail : ℕ) : Type 0 where
-  pub in-cells : end ≤ length cells
-  pub places : (e : ℕ) → start ≤ e → e < end → getD cells e 0 < r
+-- places may be followed along chains: the queue has room for those not reached yet
+pub record Ready (moves : List ℕ) (d r : ℕ) (near queue : List ℕ) (tail : ℕ) : Type 0 where
+  pub stored : length moves ≡ movesSize
+  pub links : Ascending r moves
   pub small : d < gone
   pub long : length near ≡ r
   pub few : r ≤ mostStates
   pub in-queue : r ≤ length queue
   pub room : tail + fars near r ≤ r
+
+-- a row may be followed: its cells are places
+pub record RowReady (moves : List ℕ) (j d r : ℕ) (near queue : List ℕ) (tail : ℕ) : Type 0 where
+  pub row : HasRow moves j
+  pub places : (e : ℕ) → startAt moves j ≤ e → e < endAt moves j → cellAt moves e < r
+  pub ready : Ready moves d r near queue tail
 
 -- the places that got d stand in the queue behind its first `tail`, which are as they were, and no other place does
 pub record Joined (d r : ℕ) (old new : List ℕ) (tail : ℕ) (queue queue′ : List ℕ) (got : ℕ) : Type 0 where
@@ -33,7 +42,7 @@ pub record Joined (d r : ℕ) (old new : List ℕ) (tail : ℕ) (queue queue′ 
       → (getD queue′ t 0 < r) × (getD old (getD queue′ t 0) 0 ≡ far) × (getD new (getD queue′ t 0) 0 ≡ d)
   pub whole : (i : ℕ) → i < r → getD old i 0 ≡ far → getD new i 0 ≡ d → Between queue′ tail (tail + got) i
 
--- a row is followed: exactly its places that were not reached yet have d now, and have joined the queue
-pub record Followed (cells : List ℕ) (start end d r : ℕ) (old new : List ℕ) (tail : ℕ) (queue queue′ : List ℕ) (got : ℕ) : Type 0 where
-  pub spread : Spread (Between cells start end) d r old new got
+-- the places of P are followed: exactly those that were not reached yet have d now, and have joined the queue
+pub record Followed (P : ℕ → Type 0) (d r : ℕ) (old new : List ℕ) (tail : ℕ) (queue queue′ : List ℕ) (got : ℕ) : Type 0 where
+  pub spread : Spread P d r old new got
   pub joined : Joined d r old new tail queue queue′ got

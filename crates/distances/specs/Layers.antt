@@ -9,26 +9,21 @@ use lib.ListN.{length, getD}
 use Rattle.ground.specs.Listed.{Between}
 use Rattle.meaning.specs.System.{System}
 use Rattle.meaning.specs.Strike.{Way}
-use Rattle.rules.specs.Book.{Shaped, promisesOf, bookLawful, bookKept, packClear, bookSystem}
+use Rattle.rules.specs.Book.{promisesOf, bookKept, bookSystem}
+use Rattle.rules.specs.Table.{LawfulTable, To}
+use Rattle.signs.specs.Signs.{Signed}
 use Rattle.meaning.specs.Promises.{mostStates}
 use Rattle.distances.specs.Far.{Live, far, gone, Place}
 
 -- what `distances` asks of the sheet and the table
 pub record Measurable (book : List ℕ) (k : ℕ) (table words : List ℕ) (r : ℕ) : Type 0 where
-  pub shaped : Shaped book
+  pub states : LawfulTable book table r
   pub promise : k < promisesOf book
-  pub in-table : r ≤ length table
   pub in-words : r ≤ length words
-  pub few : r ≤ mostStates
-  pub lawful : (i : ℕ) → i < r → bookLawful book (getD table i 0) ≡ true
 
 -- promise k is kept in s
 abbrev pub keptIn : (book : List ℕ) (k s : ℕ) → Type 0
 keptIn book k s = bookKept book k s ≡ true
-
--- a move leads from place i to the pack's state
-abbrev pub clearOf : (table pack : List ℕ) (count i : ℕ) → Type 0
-clearOf table pack count i = packClear pack count (getD table i 0) ≡ true
 
 -- what a place begins with
 pub data Begun (Goal : Type 0) (word : ℕ) : ℕ → Type 0 where
@@ -58,9 +53,8 @@ pub record LinedUp (v : ℕ) (near : List ℕ) (n tail : ℕ) (list : List ℕ) 
   pub each : (t : ℕ) → t < tail → (getD list t 0 < n) × (getD near (getD list t 0) 0 ≡ v)
   pub whole : (i : ℕ) → i < n → getD near i 0 ≡ v → Between list 0 tail i
 
--- the places not reached yet, and no other, are the first `left` of the list, and each has a state
-pub record Listed (table : List ℕ) (r left : ℕ) (list near : List ℕ) : Type 0 where
-  pub in-table : r ≤ length table
+-- the places not reached yet, and no other, are the first `left` of the list
+pub record Listed (r left : ℕ) (list near : List ℕ) : Type 0 where
   pub in-list : r ≤ length list
   pub long : length near ≡ r
   pub few : r ≤ mostStates
@@ -79,14 +73,25 @@ pub record Spread (P : ℕ → Type 0) (d n : ℕ) (old new : List ℕ) (got : �
   pub counted : got + fars new n ≡ fars old n
 
 -- one spread over the listed places: of `left` that were not reached yet `kept` are listed still
-pub record Sifted (P : ℕ → Type 0) (table : List ℕ) (d r left kept : ℕ) (old new list list′ : List ℕ) : Type 0 where
+pub record Sifted (P : ℕ → Type 0) (d r left kept : ℕ) (old new list list′ : List ℕ) : Type 0 where
   pub spread : Spread P d r old new (left - kept)
-  pub listed : Listed table r kept list′ new
+  pub listed : Listed r kept list′ new
   pub same : length list′ ≡ length list
 
 -- the moves to place m are known: it stands in a layer before d, or in layer d below place j
 abbrev pub Done : (d j m x : ℕ) → Type 0
 Done d j m x = (x < d) ⊎ ((x ≡ d) × (m < j))
+
+-- place k serves for place j of layer d: the moves to it are known, and whoever moves to j moves to it
+pub record Serves (book table : List ℕ) (r d j k : ℕ) (near : List ℕ) : Type 0 where
+  pub place : k < r
+  pub done : Done d j k (getD near k 0)
+  pub wider : (i : ℕ) → i < r → To book table i j → To book table i k
+
+-- some place does
+pub record Served (book table : List ℕ) (r d j : ℕ) (near : List ℕ) : Type 0 where
+  pub by : ℕ
+  pub serves : Serves book table r d j by near
 
 -- what the values say at any time, whichever way they are found: a struck place is gone, an unstruck one has no number yet or that of a way,
 -- and one at the goal has 0
@@ -113,24 +118,27 @@ pub record Near (S : System) (G : ℕ → Type 0) (table words : List ℕ) (r : 
   pub long : length near ≡ r
   pub places : (i : ℕ) → i < r → Place S (Live table words r) G (getD table i 0) (getD words i 0) (getD near i 0)
 
--- layer d may be spread: the `left` places not reached yet are listed, and there is room for the numbers
-pub record Spreadable (book table : List ℕ) (r d left : ℕ) (list near : List ℕ) : Type 0 where
-  pub shaped : Shaped book
+-- how many places are remembered as spread from
+abbrev pub slots : ℕ
+slots = 2048
+
+-- layer d may be spread: pairs can be tested, the `left` places not reached yet are listed, and there is room for the numbers
+pub record Spreadable (book table : List ℕ) (r d left : ℕ) (list near signs : List ℕ) : Type 0 where
+  pub signed : Signed book table r signs
   pub small : d < mostStates
-  pub listed : Listed table r left list near
+  pub listed : Listed r left list near
 
 -- layer d is spread, and `got` places are reached by it: whatever the promise and the words are that the values before it speak of, the
 -- values now speak of them too
 pub record LayerDone (book table : List ℕ) (r d got : ℕ) (old near : List ℕ) : Type 0 where
   pub long : length near ≡ r
   pub counted : got + fars near r ≡ fars old r
-  pub spread-all : (k : ℕ) (words : List ℕ) → Measurable book k table words r
-      → Layered (bookSystem book) (bookSystem book .Kept k) table words r d 0 0 old
+  pub spread-all : (k : ℕ) (words : List ℕ) → Layered (bookSystem book) (bookSystem book .Kept k) table words r d 0 0 old
       → Layered (bookSystem book) (bookSystem book .Kept k) table words r d r got near
 
 -- the same of the listed places: `kept` of `left` are listed still
 pub record LayerSifted (book table : List ℕ) (r d left kept : ℕ) (old near list list′ : List ℕ) : Type 0 where
   pub done : LayerDone book table r d (left - kept) old near
-  pub listed : Listed table r kept list′ near
+  pub listed : Listed r kept list′ near
   pub most : kept ≤ left
   pub same : length list′ ≡ length list

@@ -67,19 +67,18 @@ kept-judged {table = table} {words} {run = run} {words₁ = words₁} {words′ 
 }
 
 -- 13: it cannot be kept.
-pub cannot-judged : {S : System} {table words scratch words₁ scratch₁ table′ words′ scratch′ : List ℕ} {r : ℕ} (run : List ℕ)
+pub cannot-judged : {S : System} {table words scratch words₁ table′ words′ scratch′ : List ℕ} {r : ℕ} (run : List ℕ)
     → r ≤ capacity (lentOf table words scratch run) → Lists (Reachable S) (take r table) → Marked S table words₁ r 0
-    → length words₁ ≡ length words → length scratch₁ ≡ length scratch
-    → StrikesWritten table words₁ scratch₁ r table′ words′ scratch′
+    → length words₁ ≡ length words → StrikesWritten table words₁ scratch r table′ words′ scratch′
     → JudgedBy S (lentOf table words scratch run) (outcomeOf (record { answer = 13; count = r; a = 0; b = 0; place = 0 }) (lentOf table′ words′ scratch′ run))
 unfolding outcome
-cannot-judged {S} {table} {words} {scratch} {words₁} {scratch₁} {r = r} run room lists marked words-long scratch-long W = record {
+cannot-judged {S} {table} {words} {scratch} {words₁} {r = r} run room lists marked words-long W = record {
   finding = cannot (take r (W .states)) (take r (W .marks));
   found = (listed-room (lentOf table words scratch run) r lists room, strike-list-no-run strikes, strikes);
   returned = λ i.
       let count = length-take-le r (W .states) (omega (arith, places .in-table, W .in-order .long-table)) in
       let marks = W .words-is ∙ ap (over (take r (W .marks))) (zeros-same words₁ words words-long) in
-      let leaves = lentOf (W .table-is i) (marks i) ((W .scratch-is ∙ zeros-same scratch₁ scratch scratch-long) i) run in
+      let leaves = lentOf (W .table-is i) (marks i) (W .scratch-is i) run in
       record { answer = 13; count = sym count i; a = 0; b = 0; place = 0; leaves = leaves };
 }
   where

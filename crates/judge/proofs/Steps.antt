@@ -72,20 +72,19 @@ reached-small h = reached-places h .small
 
 -- What striking asks.
 pub reached-strikable : {book : List ℕ} {lent : Lent} {r : ℕ} → Reached book lent r
-    → Strikable book (lent .table) (lent .words) (lent .scratch) r
+    → Strikable book (lent .table) (lent .words) r
 reached-strikable h = let p = reached-places h in record {
   shaped = h .shaped;
   lists = h .lists;
   in-table = p .in-table;
   in-words = p .in-words;
-  in-scratch = omega (arith, p .in-scratch);
   few = p .small;
 }
 
--- What ordering asks; words and scratch may have changed, as long as they kept their length.
-pub reached-orderable : {book table words scratch run words₁ scratch₁ : List ℕ} {r : ℕ} → Reached book (lentOf table words scratch run) r
-    → length words₁ ≡ length words → length scratch₁ ≡ length scratch → Orderable table words₁ scratch₁ r
-reached-orderable {table = table} {r = r} h words-long scratch-long = let p = reached-places h in record {
+-- What ordering asks; words may have changed, as long as they kept their length.
+pub reached-orderable : {book table words scratch run words₁ : List ℕ} {r : ℕ} → Reached book (lentOf table words scratch run) r
+    → length words₁ ≡ length words → Orderable table words₁ scratch r
+reached-orderable {table = table} {r = r} h words-long = let p = reached-places h in record {
   in-table = p .in-table;
   in-words = omega (arith, p .in-words);
   in-scratch = omega (arith, p .in-scratch);
@@ -103,17 +102,15 @@ reached-keepable {table = table} {r = r} h words-long = let p = reached-places h
 }
 
 -- What keeping leaves is as long.
-pub kept-alike : {table words scratch run table₁ words₁ scratch₁ : List ℕ} {r k : ℕ} → length words₁ ≡ length words
-    → length scratch₁ ≡ length scratch → InFront table words₁ r table₁ k
-    → Alike (lentOf table₁ words₁ scratch₁ run) (lentOf table words scratch run)
-kept-alike words-long scratch-long front =
-    record { table-long = front .long; words-long = words-long; scratch-long = scratch-long; run-same = refl }
+pub kept-alike : {table words scratch run table₁ words₁ : List ℕ} {r k : ℕ} → length words₁ ≡ length words → InFront table words₁ r table₁ k
+    → Alike (lentOf table₁ words₁ scratch run) (lentOf table words scratch run)
+kept-alike words-long front = record { table-long = front .long; words-long = words-long; scratch-long = refl; run-same = refl }
 
 -- Some left, the kept states are the livable ones.
-pub reached-kept : {book table words scratch run table₁ words₁ scratch₁ : List ℕ} {r left k : ℕ} → Reached book (lentOf table words scratch run) r
-    → Marked (bookSystem book) table words₁ r left → length words₁ ≡ length words → length scratch₁ ≡ length scratch → (left ≡ 0 → ⊥)
-    → InFront table words₁ r table₁ k → Kept book (lentOf table₁ words₁ scratch₁ run) k
-reached-kept {book} {table} {words} {scratch} {run} {table₁} {words₁} {scratch₁} {r} {left} {k} h marked words-long scratch-long some front =
+pub reached-kept : {book table words scratch run table₁ words₁ : List ℕ} {r left k : ℕ} → Reached book (lentOf table words scratch run) r
+    → Marked (bookSystem book) table words₁ r left → length words₁ ≡ length words → (left ≡ 0 → ⊥) → InFront table words₁ r table₁ k
+    → Kept book (lentOf table₁ words₁ scratch run) k
+reached-kept {book} {table} {words} {scratch} {run} {table₁} {words₁} {r} {left} {k} h marked words-long some front =
     record {
       shaped = h .shaped;
       lists = livables-listed table words₁ table₁ r left k (p .in-table) (h .lists) marked front;
@@ -125,9 +122,9 @@ reached-kept {book} {table} {words} {scratch} {run} {table₁} {words₁} {scrat
     p : Places (lentOf table words scratch run) r
     p = reached-places h
 
-    back : Alike (lentOf table words scratch run) (lentOf table₁ words₁ scratch₁ run)
+    back : Alike (lentOf table words scratch run) (lentOf table₁ words₁ scratch run)
     back =
-        record { table-long = sym (front .long); words-long = sym words-long; scratch-long = sym scratch-long; run-same = refl }
+        record { table-long = sym (front .long); words-long = sym words-long; scratch-long = refl; run-same = refl }
 
 -- ---- with the livable states listed
 

@@ -112,7 +112,7 @@ fn judge_reached(
         (lentOf (now (table .entry)) (now (words .entry)) (now (scratch .entry)) (now (run .entry)))
         (outcomeOf j (lentOf (now (table .exit)) (now (words .exit)) (now (scratch .exit)) (now (run .exit)))) ⌝ }
 {
-    let left = strike::strike(book, table, words, scratch, r);
+    let left = strike::strike(book, table, words, r);
     if left == 0 {
         write_strikes(table, words, scratch, r);
         let reached = r as u32;

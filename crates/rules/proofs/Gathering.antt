@@ -1,17 +1,15 @@
 -- Rules gathered one by one. `Sofar` is what the loops of crates/rules/src/gather.rt keep: the n rows gathered say of every state what the
 -- first i rules say. A row is taken or its rule is passed over, where the rule asks nothing. Assumes nothing.
 use mathlib.Core.Path.{_≡_, refl, sym, _∙_, ap, ap₂, subst, subst₂}
-use mathlib.Core.Bool.{Bool, true, false, not, _&&_, _||_, and-true, or-true, or-false}
+use mathlib.Core.Bool.{Bool, true, false, not, _&&_, _||_, and-true}
 use mathlib.Core.List.{List}
 use Prim.Native.Nat.{ℕ, suc, _+_, _*_, _^_, _≤_, _<_}
 use native.Mathlib.Decide.{ℕ-discrete}
 use native.Mathlib.Numerals.{add-one}
 use native.Mathlib.Omega.{arith}
 use lib.ListN.{getD}
-use borrow.Author.Tests.{not-true, not-false}
 use Rattle.rules.specs.Book.{Masks, Shaped, allBelow, someOf, someAt, allAt, firstAt, stepAt, rightAt, gatheredAt, stepOk, stepsOk, firstsOk}
-use Rattle.rules.specs.Book.{lettersOf, firstsOf, stepsOf, clausesOk, packClear, FirstClauses, NextClauses, BeforePack}
-use Rattle.rules.specs.Book.{bookSize, mostRules, farTest, farAt, stepToward, asksToward, GatheredToward}
+use Rattle.rules.specs.Book.{lettersOf, firstsOf, stepsOf, clausesOk, FirstClauses, NextClauses}
 use Rattle.rules.specs.Rows.{Copied}
 use Rattle.rules.proofs.Asking.{all-same}
 
@@ -74,14 +72,9 @@ module _ (test : ℕ → ℕ → ℕ → Bool) (asks : ℕ → ℕ → Bool) (le
 abbrev pub FirstSofar : List ℕ → List ℕ → ℕ → Type 0
 FirstSofar book l i = Sofar someOf (λ t i. someAt book (firstAt i) t) (lettersOf book) l i i
 
--- what the first i step rules ask of the states on one side of s
-abbrev pub StepSofar : Bool → List ℕ → ℕ → List ℕ → ℕ → ℕ → Type 0
-StepSofar ahead book s l n i = Sofar (farTest ahead) (λ t i. stepToward ahead book s t i) (lettersOf book) l n i
-
--- either side's masks stand within a book
-pub far-within : (ahead : Bool) (i : ℕ) → i < mostRules → farAt ahead i + 1 < bookSize
-far-within true i h = omega arith
-far-within false i h = omega arith
+-- the clauses that the first i step rules ask for after s
+abbrev pub StepSofar : List ℕ → ℕ → List ℕ → ℕ → ℕ → Type 0
+StepSofar book s l n i = Sofar someOf (stepOk book s) (lettersOf book) l n i
 
 module _ (book : List ℕ) (shaped : Shaped book) where
   pub first-copied :
@@ -96,53 +89,31 @@ module _ (book : List ℕ) (shaped : Shaped book) where
       let so′ : FirstSofar book l (firstsOf book) = subst (FirstSofar book l) (let e : i ≡ firstsOf book = omega arith in e) so in
       record { gathered = record { few = shaped .few-firsts; masks = so′ .masks }; says = λ t. so′ .says t }
 
-  far-masks : (ahead : Bool) (i : ℕ) → i < stepsOf book → Masks book (lettersOf book) (farAt ahead i)
-  far-masks true i h = shaped .rights i h
-  far-masks false i h = shaped .lefts i h
-
-  -- A rule that asks something is said by its far side; one that asks nothing allows every step.
-  far-says :
-      (ahead : Bool) (s i t : ℕ) → asksToward ahead book s i ≡ true
-      → stepToward ahead book s t i ≡ farTest ahead t (getD book (farAt ahead i) 0) (getD book (farAt ahead i + 1) 0)
+  -- A rule that asks something is said by its right side; one that asks nothing allows every step.
+  right-says : (s i t : ℕ) → allAt book (stepAt i) s ≡ true → stepOk book s t i ≡ someOf t (getD book (rightAt i) 0) (getD book (rightAt i + 1) 0)
   unfolding stepOk
-  far-says true s i t e = ap (λ (x : Bool). not x || someAt book (rightAt i) t) e
-  far-says false s i t e =
-      ap (λ (x : Bool). not (allAt book (stepAt i) t) || x) (not-true (someAt book (rightAt i) s) e) ∙ or-false (not (allAt book (stepAt i) t))
+  right-says s i t e = ap (λ (x : Bool). not x || someAt book (rightAt i) t) e
 
-  nothing-asked : (ahead : Bool) (s i t : ℕ) → asksToward ahead book s i ≡ false → stepToward ahead book s t i ≡ true
+  nothing-asked : (s i t : ℕ) → allAt book (stepAt i) s ≡ false → stepOk book s t i ≡ true
   unfolding stepOk
-  nothing-asked true s i t e = ap (λ (x : Bool). not x || someAt book (rightAt i) t) e
-  nothing-asked false s i t e =
-      ap (λ (x : Bool). not (allAt book (stepAt i) t) || x) (not-false (someAt book (rightAt i) s) e) ∙ or-true (not (allAt book (stepAt i) t))
+  nothing-asked s i t e = ap (λ (x : Bool). not x || someAt book (rightAt i) t) e
 
   pub step-copied :
-      (ahead : Bool) (s : ℕ) (l l′ : List ℕ) (n i : ℕ) → i < stepsOf book → StepSofar ahead book s l n i → asksToward ahead book s i ≡ true
-      → Copied book (farAt ahead i) l (gatheredAt n) l′ → StepSofar ahead book s l′ (n + 1) (i + 1)
-  step-copied ahead s l l′ n i h so e c =
-      copied-row (farTest ahead) (λ t i. stepToward ahead book s t i) (lettersOf book) book (farAt ahead i) l l′ n i so c (far-masks ahead i h)
-      (λ t. far-says ahead s i t e)
+      (s : ℕ) (l l′ : List ℕ) (n i : ℕ) → i < stepsOf book → StepSofar book s l n i → allAt book (stepAt i) s ≡ true
+      → Copied book (rightAt i) l (gatheredAt n) l′ → StepSofar book s l′ (n + 1) (i + 1)
+  step-copied s l l′ n i h so e c =
+      copied-row someOf (stepOk book s) (lettersOf book) book (rightAt i) l l′ n i so c (shaped .rights i h) (λ t. right-says s i t e)
 
   pub step-passed :
-      (ahead : Bool) (s : ℕ) (l : List ℕ) (n i : ℕ) → StepSofar ahead book s l n i → asksToward ahead book s i ≡ false
-      → StepSofar ahead book s l n (i + 1)
-  step-passed ahead s l n i so e =
-      passed-over (farTest ahead) (λ t i. stepToward ahead book s t i) (lettersOf book) l n i so (λ t. nothing-asked ahead s i t e)
+      (s : ℕ) (l : List ℕ) (n i : ℕ) → StepSofar book s l n i → allAt book (stepAt i) s ≡ false → StepSofar book s l n (i + 1)
+  step-passed s l n i so e = passed-over someOf (stepOk book s) (lettersOf book) l n i so (λ t. nothing-asked s i t e)
 
   pub steps-gathered :
-      (ahead : Bool) (s : ℕ) (l : List ℕ) (n i : ℕ) → i ≤ stepsOf book → stepsOf book ≤ i → StepSofar ahead book s l n i
-      → GatheredToward ahead book s l n
-  steps-gathered ahead s l n i h k so =
+      (s : ℕ) (l : List ℕ) (n i : ℕ) → i ≤ stepsOf book → stepsOf book ≤ i → StepSofar book s l n i → NextClauses book s l n
+  unfolding clausesOk stepsOk
+  steps-gathered s l n i h k so =
       let e : i ≡ stepsOf book = omega arith in
       record {
         gathered = record { few = (let f = so .few in let g = shaped .few-steps in omega arith); masks = so .masks };
-        says = λ t. so .says t ∙ ap (λ (x : ℕ). allBelow x (λ i. stepToward ahead book s t i)) e;
+        says = λ t. so .says t ∙ ap (λ (x : ℕ). allBelow x (stepOk book s t)) e;
       }
-
--- On either side these are the clauses and the pack.
-pub next-clauses : (book : List ℕ) (s : ℕ) (l : List ℕ) (n : ℕ) → GatheredToward true book s l n → NextClauses book s l n
-unfolding clausesOk stepsOk
-next-clauses book s l n g = record { gathered = g .gathered; says = g .says }
-
-pub before-pack : (book : List ℕ) (t : ℕ) (l : List ℕ) (n : ℕ) → GatheredToward false book t l n → BeforePack book t l n
-unfolding packClear stepsOk
-before-pack book t l n g = record { gathered = g .gathered; says = g .says }

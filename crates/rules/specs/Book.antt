@@ -213,6 +213,11 @@ pub record Shaped (book : List ℕ) : Type 0 where
 
 -- ---- rules gathered for one state
 
+-- whether step rule i asks anything, s being what it is: of the states after s (`ahead`), or else of those before it
+abbrev pub asksToward : Bool → List ℕ → (s i : ℕ) → Bool
+asksToward true book s i = allAt book (stepAt i) s
+asksToward false book s i = not (someAt book (rightAt i) s)
+
 -- gathered lists stand one behind another, and there is room for one of each rule
 abbrev pub gatheredAt : ℕ → ℕ
 gatheredAt i = listWidth * i
@@ -223,10 +228,6 @@ gatherSize = listWidth * mostRules
 -- Clauses: or-lists gathered from a book, two masks each, `count` of them; all are true in t.
 unfoldable pub clausesOk : List ℕ → ℕ → ℕ → Bool
 clausesOk clauses count t = allBelow count (λ i. someAt clauses (gatheredAt i) t)
-
--- A pack: and-lists gathered from a book, two masks each; none of them is true in s.
-unfoldable pub packClear : List ℕ → ℕ → ℕ → Bool
-packClear pack count s = allBelow count (λ i. not (allAt pack (gatheredAt i) s))
 
 -- gathered masks within the letters
 pub record Gathered (n : ℕ) (l : List ℕ) (count : ℕ) : Type 0 where
@@ -241,33 +242,3 @@ pub record FirstClauses (book clauses : List ℕ) (count : ℕ) : Type 0 where
 pub record NextClauses (book : List ℕ) (s : ℕ) (clauses : List ℕ) (count : ℕ) : Type 0 where
   pub gathered : Gathered (lettersOf book) clauses count
   pub says : (t : ℕ) → clausesOk clauses count t ≡ stepsOk book s t
-
--- the left sides that must not hold in a state before t: those of the step rules whose right side is false in t
-pub record BeforePack (book : List ℕ) (t : ℕ) (pack : List ℕ) (count : ℕ) : Type 0 where
-  pub gathered : Gathered (lettersOf book) pack count
-  pub says : (s : ℕ) → packClear pack count s ≡ stepsOk book s t
-
--- The same for either side of a step: `ahead` for the states after s, else for those before it. What step rule i asks of t; whether it asks
--- anything, s being what it is; and which of its sides then says what.
-abbrev pub stepToward : Bool → List ℕ → (s t i : ℕ) → Bool
-stepToward true book s t i = stepOk book s t i
-stepToward false book s t i = stepOk book t s i
-
-abbrev pub asksToward : Bool → List ℕ → (s i : ℕ) → Bool
-asksToward true book s i = allAt book (stepAt i) s
-asksToward false book s i = not (someAt book (rightAt i) s)
-
-abbrev pub farAt : Bool → ℕ → ℕ
-farAt true i = rightAt i
-farAt false i = stepAt i
-
--- what a gathered list of either kind says of a state: a clause is to be true, a list of a pack is not
-abbrev pub farTest : Bool → (t held unheld : ℕ) → Bool
-farTest true t held unheld = someOf t held unheld
-farTest false t held unheld = not (allOf t held unheld)
-
--- the lists gathered for s say of every t what the step rules say
-pub record GatheredToward (ahead : Bool) (book : List ℕ) (s : ℕ) (l : List ℕ) (count : ℕ) : Type 0 where
-  pub gathered : Gathered (lettersOf book) l count
-  pub says : (t : ℕ) → allBelow count (λ i. farTest ahead t (getD l (gatheredAt i) 0) (getD l (gatheredAt i + 1) 0))
-      ≡ allBelow (stepsOf book) (λ i. stepToward ahead book s t i)

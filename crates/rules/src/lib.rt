@@ -21,8 +21,6 @@ pub use book::limits;
 pub use book::promises;
 pub use book::steps;
 pub use freedom::freer;
-pub use gather::clear;
 pub use gather::fits;
-pub use gather::gather_before;
 pub use gather::gather_first;
 pub use gather::gather_next;

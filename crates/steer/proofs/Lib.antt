@@ -2,3 +2,4 @@ pub mod Samples
 pub mod Trails
 pub mod Writings
 pub mod Papers
+pub mod Ways

@@ -13,6 +13,7 @@ use Rattle.meaning.specs.Promises.{over, mostStates}
 use Rattle.ground.specs.Wiping.{Wiped}
 use Rattle.rules.specs.Book.{Shaped, bookSystem}
 use Rattle.best.specs.Rows.{aimsOf, Rowable, RowsMeasured, Walkable}
+use Rattle.best.proofs.Books.{livable-table}
 use Rattle.best.proofs.Places.{livables-of}
 use Rattle.steer.specs.Steered.{Steered}
 use Rattle.steer.specs.Walk.{Steerable, LoopCut, RunWritten}
@@ -100,7 +101,7 @@ steered-written {b = b} run new a w h = record {
 pub steerable-of : {book table words : List ℕ} {r : ℕ} → Shaped book → 1 ≤ r → r ≤ mostStates → r ≤ length table → r ≤ length words
     → Lists (Livable (bookSystem book)) (take r table) → Steerable book table words r
 steerable-of {table = table} {r = r} shaped some few in-table in-words lists = record {
-  states = record { shaped = shaped; some = some; few = few; in-table = in-table; livables = livables-of table r in-table lists };
+  states = livable-table shaped some few in-table (livables-of table r in-table lists);
   in-words = in-words;
 }
 

@@ -205,44 +205,44 @@ few-aims {book} s = omega (arith, promises-are book, s .few-promises)
 
 -- There are few enough pairs.
 few-pairs : {book table : List ℕ} {r : ℕ} → LivableTable book table r → r * aimsOf (bookSystem book) ≤ 262144
-few-pairs {book} {r = r} t = mul-le-mul {n₁ = r} {m₁ = aimsOf (bookSystem book)} {n₂ = 16384} {m₂ = 16} (t .few) (few-aims (t .shaped))
+few-pairs {book} {r = r} t = mul-le-mul {n₁ = r} {m₁ = aimsOf (bookSystem book)} {n₂ = 16384} {m₂ = 16} (t .states .few) (few-aims (t .states .shaped))
 
--- So there are few enough distances.
-pub few-rows : {book table : List ℕ} {r : ℕ} → LivableTable book table r → (q : ℕ) → q ≡ aimsOf (bookSystem book) → q * r ≤ 262144
-few-rows {r = r} t q e = mul-le-mul {n₁ = q} {m₁ = r} {n₂ = 16} {m₂ = 16384} (omega (arith, few-aims (t .shaped))) (t .few)
+-- So there are few enough distances for room of so many states.
+pub few-rows : {book table : List ℕ} {r : ℕ} → LivableTable book table r → (most : ℕ) → r ≤ most → aimsOf (bookSystem book) * r ≤ 16 * most
+few-rows {book} {r = r} t most h = mul-le-mul {n₁ = aimsOf (bookSystem book)} {m₁ = r} {n₂ = 16} {m₂ = most} (few-aims (t .states .shaped)) h
 
 -- ---- the walk as it goes
 
 -- the walk is at moment i: what it stands on, and its trail
-pub record Walking (book table dist forth old words : List ℕ) (r i place aim : ℕ) : Type 0 where
+pub record Walking (book table dist forth signs old words : List ℕ) (r i place aim : ℕ) : Type 0 where
   pub walkable : Walkable book table dist r
-  pub onward : Onward book table r forth
+  pub onward : Onward book table r forth signs
   pub in-words : r ≤ length words
   pub long : length words ≡ length old
   pub trail : Trail (bookSystem book) table words r i place aim
 
 -- The walk begins.
-pub walking-begins : {book table dist forth words : List ℕ} {r : ℕ} → Walkable book table dist r → Onward book table r forth → r ≤ length words
-    → Zeros words r → (p : ℕ) → FirstPlace book table r p → Walking book table dist forth words words r 0 p 0
+pub walking-begins : {book table dist forth signs words : List ℕ} {r : ℕ} → Walkable book table dist r → Onward book table r forth signs → r ≤ length words
+    → Zeros words r → (p : ℕ) → FirstPlace book table r p → Walking book table dist forth signs words words r 0 p 0
 walking-begins w o fits clean p at =
     record { walkable = w; onward = o; in-words = fits; long = refl; trail = trail-starts (w .states) p at clean }
 
-module _ {book table dist forth old words : List ℕ} {r i place aim : ℕ} (w : Walking book table dist forth old words r i place aim) where
+module _ {book table dist forth signs old words : List ℕ} {r i place aim : ℕ} (w : Walking book table dist forth signs old words r i place aim) where
   -- The place has a word, and the aim a bit of it; so has the next aim.
   pub walking-at : place < length words
   walking-at = omega (arith, w .trail .at .inside, w .in-words)
 
   pub walking-small : place < 16384
-  walking-small = omega (arith, w .trail .at .inside, w .walkable .states .few)
+  walking-small = omega (arith, w .trail .at .inside, w .walkable .states .states .few)
 
   pub walking-aim : aim < 16
-  walking-aim = omega (arith, moment-aim (w .trail .at), few-aims (w .walkable .states .shaped))
+  walking-aim = omega (arith, moment-aim (w .trail .at), few-aims (w .walkable .states .states .shaped))
 
   pub walking-next : {place′ aim′ : ℕ} → Stepped (bookSystem book) table r place aim place′ aim′ → aim′ < 16
-  walking-next s = omega (arith, s .aimed, few-aims (w .walkable .states .shaped))
+  walking-next s = omega (arith, s .aimed, few-aims (w .walkable .states .states .shaped))
 
   -- What a step asks.
-  pub walking-asks : Walkable book table dist r × (place < r) × (aim < aimsOf (bookSystem book)) × Onward book table r forth
+  pub walking-asks : Walkable book table dist r × (place < r) × (aim < aimsOf (bookSystem book)) × Onward book table r forth signs
   walking-asks = (w .walkable, w .trail .at .inside, moment-aim (w .trail .at), w .onward)
 
   -- A marked pair ends the walk.
@@ -260,7 +260,7 @@ module _ {book table dist forth old words : List ℕ} {r i place aim : ℕ} (w :
 
     -- and the walk goes on.
     pub walking-goes : (word place′ aim′ : ℕ) → word ≡ bitOr (getD words place 0) (2 ^ aim) → Stepped (bookSystem book) table r place aim place′ aim′
-        → Walking book table dist forth old (set words place word) r (i + 1) place′ aim′
+        → Walking book table dist forth signs old (set words place word) r (i + 1) place′ aim′
     walking-goes word place′ aim′ e s = record {
       walkable = w .walkable;
       onward = w .onward;

@@ -10,6 +10,8 @@ use Rattle.meaning.specs.Sample.{Sample}
 use Rattle.rules.specs.Book.{bookSystem}
 use Rattle.best.specs.Rows.{LivableTable, Walkable}
 use Rattle.steer.specs.Steered.{Steered}
+use Rattle.steer.specs.declared.Way.{Way}
+use Rattle.steer.specs.declared.Way.the-variants.{Along, NotStored}
 
 -- ---- what `steer` asks and tells
 
@@ -23,13 +25,14 @@ pub record Walked (book words words′ run run′ : List ℕ) (a b : ℕ) : Type
   pub steered : Steered (bookSystem book) run run′ a b
   pub long : length words′ ≡ length words
 
--- so many distances fit a small array
-abbrev pub fewDistances : ℕ
-fewDistances = 8192
+-- what walking along stored moves tells: the run; or that they have no room, and then nothing is touched
+abbrev pub WalkedAlong : (book words words′ run run′ : List ℕ) → Way → Type 0
+WalkedAlong book words words′ run run′ (Along steps) = Walked book words words′ run run′ (steps .a) (steps .b)
+WalkedAlong book words words′ run run′ NotStored = (words′ ≡ words) × (run′ ≡ run)
 
--- and up to so many states are walked with it
-abbrev pub fewStates : ℕ
-fewStates = 512
+-- up to so many states need next to no room
+abbrev pub tinyStates : ℕ
+tinyStates = 32
 
 -- ---- the walk
 

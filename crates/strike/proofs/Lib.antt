@@ -1,7 +1,7 @@
-pub mod Storing
-pub mod Fallen
 pub mod Marks
 pub mod Running
+pub mod Rows
 pub mod Saved
 pub mod Moving
-pub mod Rows
+pub mod WaysOn
+pub mod Pointing

@@ -13,7 +13,11 @@ use Rattle.meaning.specs.Strike.{SavedBy, reasonOf, wordOf, Left, Struck}
 use Rattle.meaning.proofs.Rounds.{left-reachable, left-earlier, saved-map, phase-word-rises, left-livable}
 use Rattle.distances.specs.Far.{Live}
 use Rattle.distances.proofs.Totals.{total-less}
-use Rattle.deadends.specs.Phases.{freeAt, Falls, was, stays, falls, Phased, Unphased}
+use Rattle.deadends.specs.Phases.{Falls, was, stays, falls, Phased, Unphased}
+
+-- 1 for an unstruck place
+abbrev freeAt : List ℕ → ℕ → ℕ
+freeAt words i = 1 - getD words i 0
 
 -- the word w of a state before phase n
 abbrev pub Mark : System → (n s w : ℕ) → Type 0

@@ -8,10 +8,8 @@ use native.Mathlib.Decide.{decLt}
 use lib.ListN.{length, getD, take, drop, length-drop, length-append, List·getD-append}
 use lib.Seq.{ext-getD, length-take-le, length-front, take-at, drop-at, getD-take, getD-drop, getD-append-add}
 use Rattle.rules.specs.Book.{promisesOf}
-use Rattle.watch.specs.Witness.{BegunRow, Woven}
-use Rattle.watch.specs.Turns.{Watching, Watched}
-use Rattle.watch.specs.Ends.{Blank, Ahead, Endable, Ended}
-use Rattle.strike.specs.Along.{rowOf, Beginnable, BegunRows, Turnable, TurnDone}
+use Rattle.watch.specs.Witness.{BegunRow}
+use Rattle.strike.specs.Rows.{rowOf, Beginnable, BegunRows}
 
 -- ---- where rows stand
 
@@ -30,7 +28,7 @@ abbrev put : (r q : ℕ) (old part : List ℕ) → List ℕ
 put r q old part = take (q * r) old ++ (part ++ drop r (drop (q * r) old))
 
 -- what a part lent and put back looks like
-abbrev lentBack : (at r : ℕ) (old part : List ℕ) → List ℕ
+abbrev pub lentBack : (at r : ℕ) (old part : List ℕ) → List ℕ
 lentBack at r old part = take at old ++ (part ++ drop (at + r - at) (drop at old))
 
 -- The lent part is the row, and what comes back is the list with it.
@@ -101,75 +99,83 @@ module _ (r q : ℕ) (old part : List ℕ) (inside : suc q * r ≤ length old) (
           let e : q * r + (r + (q′ * r + i - (q * r + r))) ≡ q′ * r + i = omega (arith, earlier-row q q′ r (omega arith)) in
           subst (λ (j : ℕ). getD (put r q old part) j 0 ≡ getD old j 0) e (behind (q′ * r + i - (q * r + r)))
 
--- ---- the rows begin
+-- a row was lent and is back: it is `part` now, and the others are as they were
+pub record PutBack (r q : ℕ) (wit wit′ part : List ℕ) : Type 0 where
+  pub long : length wit′ ≡ length wit
+  pub others : (q′ : ℕ) → (q′ ≡ q → ⊥) → suc q′ * r ≤ length wit → rowOf r q′ wit′ ≡ rowOf r q′ wit
+  pub row : rowOf r q wit′ ≡ part
 
--- rows begun up to promise k, in a list as long as `old`
-pub record Beginning (book table : List ℕ) (r : ℕ) (old wit : List ℕ) (k : ℕ) : Type 0 where
-  pub long : length wit ≡ length old
-  pub room : suc (promisesOf book) * r ≤ length wit
-  pub none-yet : Blank (rowOf r 0 wit)
-  pub begun : (j : ℕ) → j < k → BegunRow book j table (rowOf r (suc j) wit) (rowOf r (suc j) wit)
+-- What comes back is so, of any row
+pub row-back : (r q : ℕ) (wit part : List ℕ) → suc q * r ≤ length wit → length part ≡ length (take (q * r + r - q * r) (drop (q * r) wit))
+    → PutBack r q wit (lentBack (q * r) r wit part) part
+row-back r q wit part inside same =
+    subst (λ (l : List ℕ). PutBack r q wit l part) (sym (back-put r q wit part))
+    (record { long = put-long r q wit part inside long; others = put-other r q wit part inside long; row = put-row r q wit part inside long })
+  where
+    long : length part ≡ r
+    long = same ∙ ap length (lent-row r q wit) ∙ row-long r q wit inside
+
+-- and of the first.
+pub front-back : (r : ℕ) (wit part : List ℕ) → r ≤ length wit → length part ≡ length (take r wit) → PutBack r 0 wit (part ++ drop r wit) part
+front-back r wit part front same =
+    subst (λ (l : List ℕ). PutBack r 0 wit l part) (sym (front-put r wit part))
+    (record { long = put-long r 0 wit part inside long; others = put-other r 0 wit part inside long; row = put-row r 0 wit part inside long })
+  where
+    inside : 1 * r ≤ length wit
+    inside = omega (arith, front)
+
+    long : length part ≡ r
+    long = same ∙ length-take-le r wit front
+
+-- ---- which rows there are
 
 -- The first row lies in the list.
 pub front-inside : (p r n : ℕ) → suc p * r ≤ n → r ≤ n
 front-inside p r n room = omega (arith, suc-mul p r)
 
--- So does the row of promise k.
-pub row-inside : (k p r n : ℕ) → k < p → suc p * r ≤ n → suc (suc k) * r ≤ n
-row-inside k p r n h room = let a = mul-le-mul-right {m = suc (suc k)} {n = suc p} r (omega arith) in omega arith
+-- So does the row of each reason.
+pub row-inside : (q p r n : ℕ) → q ≤ p → suc p * r ≤ n → suc q * r ≤ n
+row-inside q p r n h room = let a = mul-le-mul-right {m = suc q} {n = suc p} r (omega arith) in omega arith
+
+-- ---- the rows begin
+
+-- rows begun up to promise k, in a list as long as `old` and with its first row
+pub record Beginning (book table : List ℕ) (r : ℕ) (old wit : List ℕ) (k : ℕ) : Type 0 where
+  pub long : length wit ≡ length old
+  pub room : suc (promisesOf book) * r ≤ length wit
+  pub zeroth : rowOf r 0 wit ≡ rowOf r 0 old
+  pub begun : (j : ℕ) → j < k → BegunRow book j table (rowOf r (suc j) wit) (rowOf r (suc j) wit)
 
 module _ (book table : List ℕ) (r : ℕ) where
-  -- Row 0 is blank, and none has begun.
-  pub beginning-none : (old part : List ℕ) → Beginnable book table r old → Blank part × (length part ≡ length (take r old))
-      → Beginning book table r (part ++ drop r old) (part ++ drop r old) 0
-  beginning-none old part ready blank =
-      subst (λ (l : List ℕ). Beginning book table r l l 0) (sym (front-put r old part)) (record {
-        long = refl;
-        room = omega (arith, ready .room, put-long r 0 old part inside long);
-        none-yet = subst Blank (sym (put-row r 0 old part inside long)) (blank .0);
-        begun = λ j h. omega arith;
-      })
-    where
-      front : r ≤ length old
-      front = front-inside (promisesOf book) r (length old) (ready .room)
-
-      inside : 1 * r ≤ length old
-      inside = omega (arith, front)
-
-      long : length part ≡ r
-      long = blank .1 ∙ length-take-le r old front
+  -- None has begun.
+  pub beginning-none : (old : List ℕ) → Beginnable book table r old → Beginning book table r old old 0
+  beginning-none old ready = record { long = refl; room = ready .room; zeroth = refl; begun = λ j h. omega arith }
 
   -- One more has begun.
   beginning-suc : (old wit part : List ℕ) (k : ℕ) → Beginning book table r old wit k → k < promisesOf book
       → BegunRow book k table (take (suc k * r + r - suc k * r) (drop (suc k * r) wit)) part
       → Beginning book table r old (lentBack (suc k * r) r wit part) (suc k)
-  beginning-suc old wit part k b h row =
-      subst (λ (l : List ℕ). Beginning book table r old l (suc k)) (sym (back-put r (suc k) wit part)) (record {
-        long = put-long r (suc k) wit part inside long ∙ b .long;
-        room = omega (arith, b .room, put-long r (suc k) wit part inside long);
-        none-yet = subst Blank (sym (put-other r (suc k) wit part inside long 0 (λ e. omega arith) first-inside)) (b .none-yet);
-        begun = λ j less. by j less (decLt j k);
-      })
+  beginning-suc old wit part k b h row = record {
+    long = back .long ∙ b .long;
+    room = omega (arith, b .room, back .long);
+    zeroth = back .others 0 (λ e. omega arith) (inside 0 (omega arith)) ∙ b .zeroth;
+    begun = λ j less. by j less (decLt j k);
+  }
     where
-      inside : suc (suc k) * r ≤ length wit
-      inside = row-inside k (promisesOf book) r (length wit) h (b .room)
+      inside : (q : ℕ) → q ≤ promisesOf book → suc q * r ≤ length wit
+      inside q few = row-inside q (promisesOf book) r (length wit) few (b .room)
 
-      first-inside : 1 * r ≤ length wit
-      first-inside = omega (arith, front-inside (promisesOf book) r (length wit) (b .room))
+      back : PutBack r (suc k) wit (lentBack (suc k * r) r wit part) part
+      back = row-back r (suc k) wit part (inside (suc k) h) (row .long)
 
-      long : length part ≡ r
-      long = row .long ∙ ap length (lent-row r (suc k) wit) ∙ row-long r (suc k) wit inside
-
-      by : (j : ℕ) → j < suc k → Dec (j < k) → BegunRow book j table (rowOf r (suc j) (put r (suc k) wit part)) (rowOf r (suc j) (put r (suc k) wit part))
+      by : (j : ℕ) → j < suc k → Dec (j < k)
+          → BegunRow book j table (rowOf r (suc j) (lentBack (suc k * r) r wit part)) (rowOf r (suc j) (lentBack (suc k * r) r wit part))
       by j less (yes earlier) =
-          subst (λ (l : List ℕ). BegunRow book j table l l)
-          (sym (put-other r (suc k) wit part inside long (suc j) (λ e. omega arith) (row-inside j (promisesOf book) r (length wit) (omega arith) (b .room))))
-          (b .begun j earlier)
+          subst (λ (l : List ℕ). BegunRow book j table l l) (sym (back .others (suc j) (λ e. omega arith) (inside (suc j) (omega arith)))) (b .begun j earlier)
       by j less (no last) =
           let e : k ≡ j = omega arith in
-          subst (λ (i : ℕ). BegunRow book i table (rowOf r (suc i) (put r (suc k) wit part)) (rowOf r (suc i) (put r (suc k) wit part))) e
-          (subst (λ (l : List ℕ). BegunRow book k table l l) (sym (put-row r (suc k) wit part inside long))
-          (record { long = refl; itself = row .itself; nobody = row .nobody }))
+          subst (λ (i : ℕ). BegunRow book i table (rowOf r (suc i) (lentBack (suc k * r) r wit part)) (rowOf r (suc i) (lentBack (suc k * r) r wit part))) e
+          (subst (λ (l : List ℕ). BegunRow book k table l l) (sym (back .row)) (record { long = refl; itself = row .itself; nobody = row .nobody }))
 
   pub beginning-more : (old wit part : List ℕ) (k : ℕ) → Beginning book table r old wit k → k < promisesOf book
       → BegunRow book k table (take ((k + 1) * r + r - (k + 1) * r) (drop ((k + 1) * r) wit)) part
@@ -180,77 +186,5 @@ module _ (book table : List ℕ) (r : ℕ) where
       (beginning-suc old wit part k b h)
 
   -- All have begun.
-  pub beginning-all : (old part wit : List ℕ) (k : ℕ) → Blank part × (length part ≡ length (take r old))
-      → Beginning book table r (part ++ drop r old) wit k → promisesOf book ≤ k → BegunRows book table r old wit
-  beginning-all old part wit k blank b all = record {
-    long = b .long ∙ length-front old part r (blank .1);
-    none-yet = b .none-yet;
-    begun = λ j h. b .begun j (omega arith);
-  }
-
--- ---- a phase on its row
-
-module _ (words wit forth back log line : List ℕ) (r reason word m from : ℕ) (ready : Turnable words wit forth back log line r reason word m from) where
-  -- A phase of reason 0 may be run on the first row.
-  pub turn-endable : reason ≡ 0 → Endable words (take r wit) forth back log m from word
-  turn-endable zero-reason = record {
-    some = ready .some;
-    woven = subst (λ (n : ℕ). Woven n forth back) (sym (length-take-le r wit front)) (ready .woven);
-    log-few = ready .log-few;
-    ahead = subst (λ (l : List ℕ). Ahead words l back log from m) (sym (front-row r wit)) (ready .ahead zero-reason);
-  }
-    where
-      front : r ≤ length wit
-      front = front-inside reason r (length wit) (ready .room)
-
-  -- It was run, and the row is back.
-  pub turn-ended : (words′ part log′ : List ℕ) (end : ℕ) → reason ≡ 0 → Ended words words′ (take r wit) part forth back log log′ m end word
-      → TurnDone words words′ wit (part ++ drop r wit) forth back log log′ r reason word m end
-  turn-ended words′ part log′ end zero-reason done =
-      subst (λ (l : List ℕ). TurnDone words words′ wit l forth back log log′ r reason word m end) (sym (front-put r wit part)) (record {
-        long = put-long r 0 wit part inside long;
-        others = λ q other in′. put-other r 0 wit part inside long q (λ e. other (e ∙ sym zero-reason)) in′;
-        ended = λ z. subst (λ (l : List ℕ). Ended words words′ (rowOf r 0 wit) l forth back log log′ m end word) (sym (put-row r 0 wit part inside long))
-            (subst (λ (l : List ℕ). Ended words words′ l part forth back log log′ m end word) (front-row r wit) done);
-        watched = λ n. absurd (n zero-reason);
-      })
-    where
-      front : r ≤ length wit
-      front = front-inside reason r (length wit) (ready .room)
-
-      inside : 1 * r ≤ length wit
-      inside = omega (arith, front)
-
-      long : length part ≡ r
-      long = done .long ∙ length-take-le r wit front
-
-  -- A phase of a promise may be run on its row.
-  pub turn-watching : (reason ≡ 0 → ⊥) → Watching words (take (reason * r + r - reason * r) (drop (reason * r) wit)) forth back log line m from word
-  turn-watching not-zero =
-      subst (λ (l : List ℕ). Watching words l forth back log line m from word) (sym (lent-row r reason wit)) (record {
-        some = ready .some;
-        woven = subst (λ (n : ℕ). Woven n forth back) (sym long) (ready .woven);
-        line-is = record { in-line = omega (arith, long, ready .in-line); line-few = ready .line-few };
-        log-few = ready .log-few;
-        before = ready .before not-zero;
-      })
-    where
-      long : length (rowOf r reason wit) ≡ r
-      long = row-long r reason wit (ready .room)
-
-  -- It was run, and the row is back.
-  pub turn-watched : (words′ part log′ : List ℕ) (end : ℕ) → (reason ≡ 0 → ⊥)
-      → Watched words words′ (take (reason * r + r - reason * r) (drop (reason * r) wit)) part back log log′ m end word
-      → TurnDone words words′ wit (lentBack (reason * r) r wit part) forth back log log′ r reason word m end
-  turn-watched words′ part log′ end not-zero done =
-      subst (λ (l : List ℕ). TurnDone words words′ wit l forth back log log′ r reason word m end) (sym (back-put r reason wit part)) (record {
-        long = put-long r reason wit part (ready .room) long;
-        others = λ q other in′. put-other r reason wit part (ready .room) long q other in′;
-        ended = λ z. absurd (not-zero z);
-        watched = λ n. subst (λ (l : List ℕ). Watched words words′ (rowOf r reason wit) l back log log′ m end word)
-            (sym (put-row r reason wit part (ready .room) long))
-            (subst (λ (l : List ℕ). Watched words words′ l part back log log′ m end word) (lent-row r reason wit) done);
-      })
-    where
-      long : length part ≡ r
-      long = done .long ∙ ap length (lent-row r reason wit) ∙ row-long r reason wit (ready .room)
+  pub beginning-all : (old wit : List ℕ) (k : ℕ) → Beginning book table r old wit k → promisesOf book ≤ k → BegunRows book table r old wit
+  beginning-all old wit k b all = record { long = b .long; zeroth = b .zeroth; begun = λ j h. b .begun j (omega arith) }

@@ -12,15 +12,19 @@ use lib.Dec.{eqb}
 use lib.ListN.{length, getD, take}
 use lib.Seq.{length-take-le, getD-take}
 use borrow.Author.Tests.{eqb-true, eqb-false}
+use Rattle.ground.specs.Listed.{Rises}
+use Rattle.ground.specs.Wiping.{Zeros}
 use Rattle.meaning.specs.System.{System}
 use Rattle.meaning.specs.Strike.{reasonOf, wordOf, Left}
 use Rattle.meaning.proofs.Lists.{rising-apart}
 use Rattle.rules.specs.Book.{bookSystem, promisesOf}
+use Rattle.rules.specs.Table.{LawfulTable}
 use Rattle.rules.proofs.Facts.{promises-are, reached-lawful}
 use Rattle.web.specs.Web.{Storable}
+use Rattle.watch.specs.Witness.{freeIn}
+use Rattle.deadends.specs.Phases.{Phased, Unphased}
 use Rattle.strike.specs.Marked.{Word, unstruck, Marked}
-use Rattle.deadends.specs.Phases.{free, fresh, Pointers, Phased, Told, Unphased, Striking}
-use Rattle.strike.specs.Phases.{Strikable, Stricken}
+use Rattle.strike.specs.Phases.{Strikable}
 use Rattle.strike.proofs.Marks.{Mark, Standing, place-reachable, marks-unphased, standing-more, standing-livable}
 
 -- ---- phase numbers: phase round * (p + 1) + reason
@@ -41,7 +45,7 @@ phase-word S round reason h =
 -- ---- how many are left
 
 -- what is unstruck is counted
-unstruck-free : (words : List ℕ) (r : ℕ) → free words r ≡ unstruck words r
+unstruck-free : (words : List ℕ) (r : ℕ) → freeIn words r ≡ unstruck words r
 unstruck-free words zero = refl
 unstruck-free words (suc r) =
     let a = unstruck-free words r in
@@ -53,7 +57,7 @@ unstruck-free words (suc r) =
     by false e = let n = eqb-false (getD words r 0) 0 e in omega arith
 
 -- where every word is 0 all are unstruck
-pub free-all : (words : List ℕ) (r : ℕ) → ((i : ℕ) → i < r → getD words i 0 ≡ 0) → free words r ≡ r
+pub free-all : (words : List ℕ) (r : ℕ) → ((i : ℕ) → i < r → getD words i 0 ≡ 0) → freeIn words r ≡ r
 free-all words zero z = refl
 free-all words (suc r) z =
     let a = free-all words r (λ i h. z i (omega arith)) in
@@ -66,7 +70,7 @@ pub record Running (book table words₀ : List ℕ) (r : ℕ) (words : List ℕ)
   pub base-is : base ≡ 32 * suc round
   pub within : reason ≤ bookSystem book .promises
   pub stands : Standing (bookSystem book) table r words (phaseOf (bookSystem book) round reason) quiet
-  pub left-is : left ≡ free words r
+  pub left-is : left ≡ freeIn words r
   pub long : length words ≡ length words₀
   pub quiet-most : quiet ≤ suc (bookSystem book .promises)
   pub early : quiet ≤ bookSystem book .promises → round + left ≤ r
@@ -78,7 +82,7 @@ pub turn-less : (left n p quiet quiet′ : ℕ) → n ≤ left → quiet ≤ p �
 turn-less left n p quiet quiet′ a b c (inl (e, f)) = omega arith
 turn-less left n p quiet quiet′ a b c (inr (e, f)) = omega arith
 
-module _ (book table words₀ scratch₀ : List ℕ) (r : ℕ) (asked : Strikable book table words₀ scratch₀ r) where
+module _ (book table words₀ : List ℕ) (r : ℕ) (asked : Strikable book table words₀ r) where
   abbrev S : System
   S = bookSystem book
 
@@ -89,32 +93,33 @@ module _ (book table words₀ scratch₀ : List ℕ) (r : ℕ) (asked : Strikabl
   StandingAt words n quiet = Standing S table r words n quiet
 
   -- The table's states are lawful.
-  pub strikable-told : Told book table r
-  strikable-told = record {
+  pub strikable-lawful : LawfulTable book table r
+  strikable-lawful = record {
     shaped = asked .shaped;
     in-table = asked .in-table;
     few = asked .few;
     lawful = λ i h. reached-lawful book (getD table i 0) (place-reachable S table r (asked .in-table) (asked .lists) few i h);
   }
 
-  -- The moves between them can be stored.
+  -- They rise,
+  pub strikable-rises : Rises table r
+  strikable-rises i h =
+      let long : length (take r table) ≡ r = length-take-le r table (asked .in-table) in
+      let a : i < r = omega arith in
+      let low : getD (take r table) i 0 < getD (take r table) (suc i) 0 = asked .lists .rises i (omega arith) in
+      rw (getD-take r table i 0 a, getD-take r table (suc i) 0 h) at low
+
+  -- and the moves between them can be stored.
   pub strikable-storable : Storable book table r
   strikable-storable = record {
     shaped = asked .shaped;
     in-table = asked .in-table;
     few = asked .few;
-    lawful = strikable-told .lawful;
-    rises = λ i j h k. rising-apart _<_ (λ a b c p q. omega arith) (λ a p. omega arith) {f = λ m. getD table m 0} {n = r} next i j h k;
+    lawful = strikable-lawful .lawful;
+    rises = λ i j h k. rising-apart _<_ (λ a b c p q. omega arith) (λ a p. omega arith) {f = λ m. getD table m 0} {n = r} strikable-rises i j h k;
   }
-    where
-      next : (i : ℕ) → suc i < r → getD table i 0 < getD table (suc i) 0
-      next i h =
-          let long : length (take r table) ≡ r = length-take-le r table (asked .in-table) in
-          let a : i < r = omega arith in
-          let low : getD (take r table) i 0 < getD (take r table) (suc i) 0 = asked .lists .rises i (omega arith) in
-          rw (getD-take r table i 0 a, getD-take r table (suc i) 0 h) at low
 
-  -- Where every word is 0, the first phase comes next,
+  -- Where every word is 0, the first phase comes next.
   pub running-none : (words : List ℕ) → length words ≡ length words₀ → ((i : ℕ) → i < r → getD words i 0 ≡ 0) → Running book table words₀ r words r 32 0 0
   running-none words long z = record {
     round = 0;
@@ -136,10 +141,6 @@ module _ (book table words₀ scratch₀ : List ℕ) (r : ℕ) (asked : Strikabl
       start : 0 ≡ phaseOf S 0 0
       start = let a = zero-mul (suc (S .promises)) in omega arith
 
-  -- and where every pointer is 0, the pointers are right.
-  pub pointers-none : (words scratch : List ℕ) → ((i : ℕ) → i < r → getD scratch i 0 ≡ 0) → Pointers book table words scratch r
-  pointers-none words scratch z i h e = fresh (z i h)
-
   module _ (words : List ℕ) (left base reason quiet : ℕ) (R : Running book table words₀ r words left base reason quiet) where
     reason-is : reasonOf S (phaseOf S (R .round) reason) ≡ reason
     reason-is = phase-reason S (R .round) reason (R .within)
@@ -147,19 +148,10 @@ module _ (book table words₀ scratch₀ : List ℕ) (r : ℕ) (asked : Strikabl
     word-is : wordOf S (phaseOf S (R .round) reason) ≡ base + reason
     word-is = let a = phase-word S (R .round) reason (R .within) in let b = R .base-is in omega arith
 
-    running-unphased : Unphased words r (base + reason)
+    -- No place has the next phase's word yet.
+    pub running-unphased : Unphased words r (base + reason)
     running-unphased = marks-unphased S table r (asked .in-table) (asked .lists) few (phaseOf S (R .round) reason) words (R .stands .marks) (base + reason)
         word-is (let a = R .long in let b = asked .in-words in omega arith)
-
-    -- the next phase may be run
-    pub running-striking : (scratch : List ℕ) → length scratch ≡ length scratch₀ → Pointers book table words scratch r
-        → Striking book table words scratch r (base + reason)
-    running-striking scratch e pointers = record {
-      told = strikable-told;
-      unphased = running-unphased;
-      in-scratch = let a = asked .in-scratch in omega arith;
-      pointers = pointers;
-    }
 
     -- The next reason is one of the sheet's,
     pub running-within : reason ≤ promisesOf book
@@ -199,7 +191,7 @@ module _ (book table words₀ scratch₀ : List ℕ) (r : ℕ) (asked : Strikabl
           most (inl (a, e)) = let d = promises-are book in omega arith
           most (inr (a, e)) = omega arith
 
-          left-now : left - fallen ≡ free new r
+          left-now : left - fallen ≡ freeIn new r
           left-now = let a = R .left-is in let b = phased .counted in omega arith
 
           long-now : length new ≡ length words₀
@@ -265,23 +257,19 @@ module _ (book table words₀ scratch₀ : List ℕ) (r : ℕ) (asked : Strikabl
         )
         by w (inr (m, k, x, e)) = inr (m, x, e)
 
--- ---- the slices that were wiped first
+-- ---- the words that were wiped first
 
--- What was asked of the slices holds of the wiped ones,
-pub wiped-strikable : (book table words scratch : List ℕ) (r : ℕ) (words′ scratch′ : List ℕ) → Strikable book table words scratch r
-    → length words′ ≡ length words → length scratch′ ≡ length scratch → Strikable book table words′ scratch′ r
-wiped-strikable book table words scratch r words′ scratch′ a e f = record {
+-- What was asked of the words holds of the wiped ones,
+pub wiped-strikable : {book table words words′ : List ℕ} {r : ℕ} → Strikable book table words r → length words′ ≡ length words → Strikable book table words′ r
+wiped-strikable a e = record {
   shaped = a .shaped;
   lists = a .lists;
   in-table = a .in-table;
   in-words = let b = a .in-words in omega arith;
-  in-scratch = let b = a .in-scratch in omega arith;
   few = a .few;
 }
 
--- and what is promised of the wiped ones holds of the slices.
-pub stricken-from : (book table : List ℕ) (r : ℕ) (first old words first′ before after : List ℕ) (left : ℕ)
-    → Stricken book table r old words before after left → length old ≡ length first → length before ≡ length first′
-    → Stricken book table r first words first′ after left
-stricken-from book table r first old words first′ before after left s e f =
-    record { marked = s .marked; words-long = s .words-long ∙ e; scratch-long = s .scratch-long ∙ f }
+-- and what was asked of the words holds of the same words later.
+pub still-strikable : {book table words words′ : List ℕ} {r : ℕ} → Strikable book table words r × Zeros words r → words′ ≡ words
+    → Strikable book table words′ r × Zeros words′ r
+still-strikable {book} {table} {r = r} h e = subst (λ (l : List ℕ). Strikable book table l r × Zeros l r) (sym e) h

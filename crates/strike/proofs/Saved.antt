@@ -1,4 +1,4 @@
--- What a phase along stored moves has struck is what its reason does not save. Assumes nothing.
+-- What a phase has struck is what its reason does not save: along stored moves, and by whatever is the table's moves. Assumes nothing.
 use mathlib.Core.Path.{_≡_, refl, sym, ap, subst, _∙_}
 use mathlib.Core.Bool.{Bool, true, false}
 use mathlib.Core.List.{List}
@@ -11,15 +11,26 @@ use Rattle.meaning.specs.Promises.{mostStates}
 use Rattle.meaning.specs.System.{System}
 use Rattle.meaning.specs.Strike.{Way, SavedBy}
 use Rattle.rules.specs.Book.{bookSystem, bookKept}
-use Rattle.web.specs.Layout.{movesSize, startsOf, endsOf, cellsOf, startAt, endAt, cellAt}
-use Rattle.web.specs.Web.{To, Forth, Back}
+use Rattle.rules.specs.Table.{To}
+use Rattle.web.specs.Web.{Forth, Back}
 use Rattle.web.proofs.Both.{rows-has}
 use Rattle.distances.specs.Far.{Live, far, gone}
 use Rattle.distances.specs.Layers.{keptIn}
-use Rattle.deadends.specs.Phases.{free, Falls, was, stays, falls, Phased}
-use Rattle.watch.specs.Witness.{Leads, Woven, HungIn, Log}
+use Rattle.watch.specs.Witness.{Leads, Backed, Woven, HungIn, Log, freeIn}
 use Rattle.watch.specs.Turns.{FallsAt, was as was-so, keeps, falls as falls-so, FellTo, Watched}
 use Rattle.watch.specs.Ends.{Ended}
+use Rattle.deadends.specs.Phases.{Falls, was, stays, falls, Phased}
+
+-- ---- the table's moves
+
+-- the relation M between the first r places is the table's moves
+pub record Moves (book table : List ℕ) (r : ℕ) (M : ℕ → ℕ → Type 0) : Type 0 where
+  pub sound : (i j : ℕ) → i < r → j < r → M i j → To book table i j
+  pub whole : (i j : ℕ) → i < r → j < r → To book table i j → M i j
+
+-- What is tested is them.
+pub tested-moves : (book table : List ℕ) (r : ℕ) → Moves book table r (To book table)
+tested-moves book table r = record { sound = λ i j h k m. m; whole = λ i j h k m. m }
 
 -- ---- the stored moves are woven
 
@@ -34,9 +45,13 @@ module _ {book table : List ℕ} {r : ℕ} {forth back : List ℕ} (few : r ≤ 
   pub stored-woven : Woven r forth back
   stored-woven = record {
     onward = record { row = rows-has (To book table) r forth (F .long) few (F .rows); places = λ i e h l k. F .rows .sound i e h l k .0 };
-    backward = record { row = rows-has (λ (j i : ℕ). To book table i j) r back (B .long) few (B .rows); places = λ i e h l k. B .rows .sound i e h l k .0 };
-    turned = λ i j h k s. let w = B .rows .whole j i k h (leads-to i j h s) in (w .0, w .1, w .2, w .3);
-    turned-back = λ i j h k s. to-leads i j h k (subst (λ (x : ℕ). To book table x j) (s .3) (B .rows .sound j (s .0) k (s .1) (s .2) .1));
+    backward = record {
+      row = λ i h. record { long = B .long; place = omega (arith, few); within = B .in-cells i h };
+      places = B .places;
+      links = B .links;
+    };
+    turned = λ i j h k s. B .whole i j h k (leads-to i j h s);
+    turned-back = λ i j h k s. to-leads i j h k (B .sound i j k s);
   }
 
   -- ---- reason 0
@@ -48,7 +63,7 @@ module _ {book table : List ℕ} {r : ℕ} {forth back : List ℕ} (few : r ≤ 
     long = E .fell .long;
     each = λ i h. at i h (E .fell .each i (omega (arith, h, long, E .long)));
     counted = let a = G .count in
-        let b : m′ + free words′ r ≡ r = subst (λ (n : ℕ). m′ + free words′ n ≡ n) (E .long ∙ long) (E .fell .log-is .count) in
+        let b : m′ + freeIn words′ r ≡ r = subst (λ (n : ℕ). m′ + freeIn words′ n ≡ n) (E .long ∙ long) (E .fell .log-is .count) in
         omega (arith, a, b, E .fell .grows);
   }
     where
@@ -67,8 +82,18 @@ module _ {book table : List ℕ} {r : ℕ} {forth back : List ℕ} (few : r ≤ 
           no-way t move (j, k, same, u) =
               E .stuck i (omega (arith, h, long)) o x j (to-leads i j h k (subst (λ (y : ℕ). bookSystem book .Move (getD table i 0) y) (sym same) move)) u
 
-  -- ---- a promise
+  -- Rows back are the table's moves.
+  pub backed-moves : Moves book table r (Backed back)
+  backed-moves = record { sound = λ i j h k s. B .sound i j k s; whole = B .whole }
 
+-- ---- a promise
+
+-- who keeps promise k has the number of those that do, and no one else
+abbrev pub Keeps : (book table : List ℕ) (r k : ℕ) (row : List ℕ) → Type 0
+Keeps book table r k row =
+    (i : ℕ) → i < r → (getD row i 0 ≡ gone → keptIn book k (getD table i 0)) × (keptIn book k (getD table i 0) → getD row i 0 ≡ gone)
+
+module _ {book table : List ℕ} {r : ℕ} {M : ℕ → ℕ → Type 0} (I : Moves book table r M) where
   -- A test that is true holds, and one that holds is true.
   held-true : (b : Bool) → T b → b ≡ true
   held-true true t = refl
@@ -82,18 +107,14 @@ module _ {book table : List ℕ} {r : ℕ} {forth back : List ℕ} (few : r ≤ 
   unfolding bookSystem
   kept-is k s t = held-true (bookKept book k s) t
 
-  -- who keeps promise k has the number of those that do, and no one else
-  abbrev pub Keeps : (k : ℕ) (row : List ℕ) → Type 0
-  Keeps k row = (i : ℕ) → i < r → (getD row i 0 ≡ gone → keptIn book k (getD table i 0)) × (keptIn book k (getD table i 0) → getD row i 0 ≡ gone)
-
   -- What a phase of a promise has struck is on no path to it.
-  pub watched-phased : {words words′ row row′ log log′ : List ℕ} {m m′ word k : ℕ} → length row ≡ r → Log words r log m → Keeps k row
-      → Watched words words′ row row′ back log log′ m m′ word → Phased (bookSystem book) table r (suc k) word words words′ (m′ - m)
+  pub watched-phased : {words words′ row row′ log log′ : List ℕ} {m m′ word k : ℕ} → length row ≡ r → Log words r log m → Keeps book table r k row
+      → Watched words words′ row row′ M log log′ m m′ word → Phased (bookSystem book) table r (suc k) word words words′ (m′ - m)
   watched-phased {words = words} {words′ = words′} {row = row} {row′ = row′} {m = m} {m′ = m′} {word = word} {k = k} long G K W = record {
     long = W .fell .long;
     each = λ i h. at i h (W .fell .each i (omega (arith, h, long, W .long)));
     counted = let a = G .count in
-        let b : m′ + free words′ r ≡ r = subst (λ (n : ℕ). m′ + free words′ n ≡ n) (W .long ∙ long) (W .fell .log-is .count) in
+        let b : m′ + freeIn words′ r ≡ r = subst (λ (n : ℕ). m′ + freeIn words′ n ≡ n) (W .long ∙ long) (W .fell .log-is .count) in
         omega (arith, a, b, W .fell .grows);
   }
     where
@@ -109,9 +130,10 @@ module _ {book table : List ℕ} {r : ℕ} {forth back : List ℕ} (few : r ≤ 
           ((i, h, refl, c .1), kept-so k (getD table i 0) (K i h .0 (W .own i (c .0) .0 (c .2))))
       way (suc n) i c =
           let h = inside (c .0) in
-          let below : getD row′ i 0 < r = inside (c .2) in
-          let lead = stored-woven .turned-back i (getD row′ i 0) h below (W .pointed .leads i (c .0) (c .2)) in
-          ((i, h, refl, c .1), (getD table (getD row′ i 0) 0, leads-to i (getD row′ i 0) h lead, way n (getD row′ i 0) (c .3)))
+          let below : getD row′ i 0 < r = inside (c .2) in (
+            (i, h, refl, c .1),
+            (getD table (getD row′ i 0) 0, I .sound i (getD row′ i 0) h below (W .pointed .leads i (c .0) (c .2)), way n (getD row′ i 0) (c .3)),
+          )
 
       -- a place without a witness is on no path
       none : (n i : ℕ) → i < r → getD words i 0 ≡ 0 → getD row′ i 0 ≡ far → Way (bookSystem book) (Live table words r) (bookSystem book .Kept k) n (getD table i 0) → ⊥
@@ -128,8 +150,8 @@ module _ {book table : List ℕ} {r : ℕ} {forth back : List ℕ} (few : r ≤ 
               → ((j : ℕ) → j < r → getD words j 0 ≡ 0 → getD row′ j 0 ≡ far → Way (bookSystem book) (Live table words r) (bookSystem book .Kept k) n (getD table j 0) → ⊥) → ⊥
           on t move v (j, l, same, z) rest = by (ℕ-discrete (getD row′ j 0) far)
             where
-              lead : Leads back j i
-              lead = stored-woven .turned i j h l (to-leads i j h l (subst (λ (y : ℕ). bookSystem book .Move (getD table i 0) y) (sym same) move))
+              lead : M i j
+              lead = I .whole i j h l (subst (λ (y : ℕ). bookSystem book .Move (getD table i 0) y) (sym same) move)
 
               by : Dec (getD row′ j 0 ≡ far) → ⊥
               by (yes q) = rest j l z q (subst (λ (y : ℕ). Way (bookSystem book) (Live table words r) (bookSystem book .Kept k) n y) (sym same) v)

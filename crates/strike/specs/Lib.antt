@@ -1,4 +1,5 @@
 pub mod Marked
 pub mod Phases
-pub mod Stored
+pub mod Rows
 pub mod Along
+pub mod Tests

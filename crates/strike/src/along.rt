@@ -1,7 +1,10 @@
 // The rounds along stored moves. Row 0 has a way on for each place, row i a witness for promise i; the struck places stand in a log in the order in
 // which they fell, so that a phase looks again only at what fell since its last one (crate watch).
+use super::NEVER;
+use super::REASONS;
 use super::Turn;
 use super::base_after;
+use super::begin_rows;
 use super::reason_after;
 use super::rested;
 use ground::State;
@@ -9,33 +12,10 @@ ghost use mathlib.Core.Path.{_≡_};
 ghost use mathlib.Core.Logic.{_⊎_};
 ghost use lib.ListN.{length};
 ghost use Rattle.ground.specs.Wiping.{Zeros};
-ghost use Rattle.rules.specs.Book.{bookSystem};
-ghost use Rattle.strike.specs.Marked.{Marked};
-ghost use Rattle.strike.specs.Along.{Beginnable, BegunRows, Turnable, TurnDone, StrikableAlong};
+ghost use Rattle.strike.specs.Phases.{Stricken};
+ghost use Rattle.strike.specs.Along.{Turnable, TurnDone, StrikableAlong};
 
-// How many reasons there are at most; and where the log is news from for one that had no phase yet: above every place.
-pub const REASONS: usize = 17;
-
-const NEVER: u16 = 65535;
-
-// Fills the rows: none has a way on yet (row 0), and for each promise who keeps it (row 1 on).
-fn begin_rows(book: &[State], table: &[State], r: usize, wit: &mut [u16])
-    requires { ⌜ Beginnable (now book) (now table) r (now wit) ⌝ }
-    ensures { λ _. ⌜ BegunRows (now (book .entry)) (now (table .entry)) r (now (wit .entry)) (now (wit .exit)) ⌝ }
-{
-    watch::ends::blank(&mut wit[..r]);
-    let p = rules::promises(book);
-    let mut k: usize = 0;
-    while k < p {
-        let from = (k + 1) * r;
-        let end = from + r;
-        watch::begin(book, k, table, &mut wit[from..end]);
-        k += 1;
-    }
-}
-
-// One phase along stored moves: strikes together, for one reason, the places that it does not save; how long the log then is. The log's first
-// m are the places struck so far; from `from` on they were struck since this reason's last phase.
+// One phase along stored moves: strikes together, for one reason, the places that it does not save; how long the log then is.
 fn turn_along(
     words: &mut [u32],
     wit: &mut [u16],
@@ -45,15 +25,15 @@ fn turn_along(
     line: &mut [u16],
     r: usize,
     turn: Turn,
-    m: usize,
-    from: usize,
 ) -> usize
-    requires { ⌜ Turnable (now words) (now wit) (now forth) (now back) (now log) (now line) r (turn .reason) (turn .word) m from ⌝ }
+    requires { ⌜ Turnable (now words) (now wit) (now forth) (now back) (now log) (now line) r (turn .reason) (turn .word) (turn .m) (turn .from) ⌝ }
     ensures { λ end. ⌜ TurnDone (now (words .entry)) (now (words .exit)) (now (wit .entry)) (now (wit .exit)) (now (forth .entry)) (now (back .entry))
-        (now (log .entry)) (now (log .exit)) r (turn .reason) (turn .word) m end × (length (now (line .exit)) ≡ length (now (line .entry))) ⌝ }
+        (now (log .entry)) (now (log .exit)) r (turn .reason) (turn .word) (turn .m) end × (length (now (line .exit)) ≡ length (now (line .entry))) ⌝ }
 {
     let reason = turn.reason;
     let word = turn.word;
+    let m = turn.m;
+    let from = turn.from;
     if reason == 0 {
         return watch::ends::phase(words, &mut wit[..r], forth, back, log, m, from, word);
     }
@@ -92,9 +72,9 @@ pub fn rounds_along(
     line: &mut [u16],
 ) -> usize
     requires { ⌜ StrikableAlong (now book) (now table) (now words) r (now forth) (now back) (now wit) (now log) (now line) × Zeros (now words) r ⌝ }
-    ensures { λ left. ⌜ Marked (bookSystem (now (book .entry))) (now (table .entry)) (now (words .exit)) r left
-        × (length (now (words .exit)) ≡ length (now (words .entry))) ⌝ }
+    ensures { λ left. ⌜ Stricken (now (book .entry)) (now (table .entry)) r (now (words .entry)) (now (words .exit)) left ⌝ }
 {
+    watch::ends::blank(&mut wit[..r]);
     begin_rows(book, table, r, wit);
     let p = rules::promises(book);
     let mut news = [NEVER; REASONS];
@@ -105,9 +85,14 @@ pub fn rounds_along(
     let mut quiet: usize = 0;
     while quiet <= p {
         let word = base + (reason as u32);
-        let turn = Turn { reason, word };
         let from = news[reason] as usize;
-        let end = turn_along(words, wit, forth, back, log, line, r, turn, m, from);
+        let turn = Turn {
+            reason,
+            word,
+            m,
+            from,
+        };
+        let end = turn_along(words, wit, forth, back, log, line, r, turn);
         let n = end - m;
         let since = news_from(reason, m, end);
         news[reason] = since as u16;

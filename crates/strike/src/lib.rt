@@ -1,81 +1,68 @@
 // Striking: the words of the strike list's rounds and reasons, for every reachable state. Phase by phase, reason 0 and then each promise,
 // round after round, until as many phases as there are reasons have struck nothing. Where there are many states their moves are stored first,
-// forth and back, so that a phase follows them instead of testing pairs of states.
+// forth and back, so that a phase follows them; else a phase tests pairs of places.
 
 use ground::State;
 ghost use mathlib.Core.Path.{_≡_};
 ghost use mathlib.Core.Logic.{_⊎_};
 ghost use Prim.Native.Nat.{_+_, _<_, _≤_, suc};
-ghost use lib.ListN.{length};
 ghost use Rattle.ground.specs.Wiping.{Zeros};
-ghost use Rattle.rules.specs.Book.{promisesOf};
-ghost use Rattle.deadends.specs.Phases.{Striking, PhaseDone, Unphased};
-ghost use Rattle.strike.specs.Phases.{Strikable, Stricken, FarFree, Fell};
-ghost use Rattle.strike.specs.Stored.{Stored, fewStates};
-ghost use Rattle.rules.specs.Book.{bookSystem};
-ghost use Rattle.strike.specs.Marked.{Marked};
+ghost use Rattle.web.specs.Web.{fewStates};
+ghost use Rattle.strike.specs.Phases.{tinyStates, Strikable, Stricken, StrickenIfStored};
+ghost use Rattle.strike.specs.Rows.{Beginnable, BegunRows};
 ghost use Rattle.strike.specs.Along.{AlongStored};
 
 pub mod along;
+pub mod tests;
 
-// So many numbers the rows have at most: one for each reason and place.
-const ROWS: usize = along::REASONS * ground::MOST_STATES;
+// How many reasons there are at most; and where the log is news from for one that had no phase yet: above every place.
+pub const REASONS: usize = 17;
 
-// Below so many states storing their moves would cost more than it saves.
-pub const FEW_STATES: usize = 512;
+const NEVER: u16 = 65535;
 
-// Strikes together the places without a distance; how many fall.
-fn fall(words: &mut [u32], dist: &[u16], r: usize, word: u32) -> usize
-    requires { ⌜ Unphased (now words) r word × (r ≤ length (now dist)) × FarFree (now dist) (now words) r ⌝ }
-    ensures { λ n. ⌜ Fell (now (dist .entry)) word r r (now (words .entry)) (now (words .exit)) n ⌝ }
-{
-    let mut n: usize = 0;
-    let mut i: usize = 0;
-    while i < r {
-        if dist[i] == distances::FAR {
-            words[i] = word;
-            n += 1;
-            i += 1;
-        } else {
-            i += 1;
-        }
-    }
-    n
-}
+// Up to so many states little room is lent.
+const TINY_STATES: usize = 32;
 
-// A phase: its reason, and the word that it gives.
+// Room for a row of each reason.
+const TINY_ROWS: usize = REASONS * TINY_STATES;
+
+const FEW_ROWS: usize = REASONS * web::FEW_STATES;
+
+const MOST_ROWS: usize = REASONS * ground::MOST_STATES;
+
+// Room for the signs of tiny and few states: of 256 step rules for each state.
+const TINY_SIGNS: usize = signs::HEAD + TINY_STATES * 8;
+
+const FEW_SIGNS: usize = signs::HEAD + web::FEW_STATES * 8;
+
+// A phase: its reason, and the word that it gives. The log's first m are the places struck so far; from `from` on they were struck since this
+// reason's last phase.
 pub struct Turn {
     pub reason: usize,
     pub word: u32,
+    pub m: usize,
+    pub from: usize,
 }
 
-// One phase: strikes together, for one reason, the states that it does not save; how many fall.
-fn phase(
-    book: &[State],
-    table: &[State],
-    words: &mut [u32],
-    scratch: &mut [State],
-    r: usize,
-    turn: Turn,
-    forth: &[u16],
-    back: &[u16],
-    queue: &mut [u16],
-    dist: &mut [u16],
-) -> usize
-    requires { ⌜ Striking (now book) (now table) (now words) (now scratch) r (turn .word) × (r ≤ length (now dist))
-        × (turn .reason ≤ promisesOf (now book)) × Stored (now book) (now table) r (now forth) (now back) (now queue) ⌝ }
-    ensures { λ n. ⌜ PhaseDone (now (book .entry)) (now (table .entry)) r (turn .reason) (turn .word) (now (words .entry)) (now (words .exit))
-        (now (scratch .entry)) (now (scratch .exit)) n × (length (now (dist .exit)) ≡ length (now (dist .entry)))
-        × (length (now (queue .exit)) ≡ length (now (queue .entry))) ⌝ }
+// What striking along stored moves came to: how many states are left; or that there was no room for the moves.
+pub enum Struck {
+    Left(usize),
+    NotStored,
+}
+
+// Fills the rows of the promises: for each promise who keeps it.
+fn begin_rows(book: &[State], table: &[State], r: usize, wit: &mut [u16])
+    requires { ⌜ Beginnable (now book) (now table) r (now wit) ⌝ }
+    ensures { λ _. ⌜ BegunRows (now (book .entry)) (now (table .entry)) r (now (wit .entry)) (now (wit .exit)) ⌝ }
 {
-    let reason = turn.reason;
-    let word = turn.word;
-    if reason == 0 {
-        return deadends::dead_ends(book, table, words, scratch, r, word, forth);
+    let p = rules::promises(book);
+    let mut k: usize = 0;
+    while k < p {
+        let from = (k + 1) * r;
+        let end = from + r;
+        watch::begin(book, k, table, &mut wit[from..end]);
+        k += 1;
     }
-    let k = reason - 1;
-    distances::distances(book, k, table, words, r, back, queue, dist, 0);
-    fall(words, dist, r, word)
 }
 
 // How many phases in a row have struck nothing, after one that struck n.
@@ -111,108 +98,43 @@ fn base_after(base: u32, reason: usize, p: usize) -> u32
     base + 32
 }
 
-// The rounds, from words and pointers that are all 0; how many states are left. Stops when as many phases as there are reasons have struck
-// nothing in a row.
-fn rounds(
-    book: &[State],
-    table: &[State],
-    words: &mut [u32],
-    scratch: &mut [State],
-    r: usize,
-    forth: &[u16],
-    back: &[u16],
-    queue: &mut [u16],
-    dist: &mut [u16],
-) -> usize
-    requires { ⌜ Strikable (now book) (now table) (now words) (now scratch) r × Zeros (now words) r × Zeros (now scratch) r
-        × (r ≤ length (now dist)) × Stored (now book) (now table) r (now forth) (now back) (now queue) ⌝ }
-    ensures { λ left. ⌜ Stricken (now (book .entry)) (now (table .entry)) r (now (words .entry)) (now (words .exit)) (now (scratch .entry))
-        (now (scratch .exit)) left ⌝ }
+// Strikes very few states, from words that are all 0, by tests of pairs.
+fn strike_tiny(book: &[State], table: &[State], words: &mut [u32], r: usize) -> usize
+    requires { ⌜ Strikable (now book) (now table) (now words) r × Zeros (now words) r × (r ≤ tinyStates) ⌝ }
+    ensures { λ left. ⌜ Stricken (now (book .entry)) (now (table .entry)) r (now (words .entry)) (now (words .exit)) left ⌝ }
 {
-    let p = rules::promises(book);
-    let mut left = r;
-    let mut base: u32 = 32;
-    let mut reason: usize = 0;
-    let mut quiet: usize = 0;
-    while quiet <= p {
-        let word = base + (reason as u32);
-        let turn = Turn { reason, word };
-        let n = phase(
-            book,
-            table,
-            words,
-            scratch,
-            r,
-            turn,
-            forth,
-            back,
-            queue,
-            dist,
-        );
-        left -= n;
-        quiet = rested(quiet, n);
-        base = base_after(base, reason, p);
-        reason = reason_after(reason, p);
-    }
-    left
+    let mut pairs = [0u64; TINY_SIGNS];
+    signs::fill(book, table, r, &mut pairs);
+    let mut wit = [0u16; TINY_ROWS];
+    let mut log = [0u16; TINY_STATES];
+    let mut line = [0u16; TINY_STATES];
+    tests::rounds_by_tests(book, table, words, r, &pairs, &mut wit, &mut log, &mut line)
 }
 
-// Strikes few states, from words and pointers that are all 0, by tests of pairs.
-fn strike_few(
-    book: &[State],
-    table: &[State],
-    words: &mut [u32],
-    scratch: &mut [State],
-    r: usize,
-) -> usize
-    requires { ⌜ Strikable (now book) (now table) (now words) (now scratch) r × Zeros (now words) r × Zeros (now scratch) r × (r < fewStates) ⌝ }
-    ensures { λ left. ⌜ Stricken (now (book .entry)) (now (table .entry)) r (now (words .entry)) (now (words .exit)) (now (scratch .entry))
-        (now (scratch .exit)) left ⌝ }
+// Strikes few states, from words that are all 0, by tests of pairs.
+fn strike_few(book: &[State], table: &[State], words: &mut [u32], r: usize) -> usize
+    requires { ⌜ Strikable (now book) (now table) (now words) r × Zeros (now words) r × (r < fewStates) ⌝ }
+    ensures { λ left. ⌜ Stricken (now (book .entry)) (now (table .entry)) r (now (words .entry)) (now (words .exit)) left ⌝ }
 {
-    let none = [0u16; 1];
-    let empty = &none[..0];
-    let mut queue = [0u16; FEW_STATES];
-    let mut dist = [0u16; FEW_STATES];
-    rounds(
-        book,
-        table,
-        words,
-        scratch,
-        r,
-        empty,
-        empty,
-        &mut queue,
-        &mut dist,
-    )
+    let mut pairs = [0u64; FEW_SIGNS];
+    signs::fill(book, table, r, &mut pairs);
+    let mut wit = [0u16; FEW_ROWS];
+    let mut log = [0u16; web::FEW_STATES];
+    let mut line = [0u16; web::FEW_STATES];
+    tests::rounds_by_tests(book, table, words, r, &pairs, &mut wit, &mut log, &mut line)
 }
 
-// Strikes many states whose moves are not stored, from words and pointers that are all 0, by tests of pairs.
-fn strike_by_tests(
-    book: &[State],
-    table: &[State],
-    words: &mut [u32],
-    scratch: &mut [State],
-    r: usize,
-) -> usize
-    requires { ⌜ Strikable (now book) (now table) (now words) (now scratch) r × Zeros (now words) r × Zeros (now scratch) r ⌝ }
-    ensures { λ left. ⌜ Stricken (now (book .entry)) (now (table .entry)) r (now (words .entry)) (now (words .exit)) (now (scratch .entry))
-        (now (scratch .exit)) left ⌝ }
+// Strikes many states whose moves are not stored, from words that are all 0, by tests of pairs.
+fn strike_by_tests(book: &[State], table: &[State], words: &mut [u32], r: usize) -> usize
+    requires { ⌜ Strikable (now book) (now table) (now words) r × Zeros (now words) r ⌝ }
+    ensures { λ left. ⌜ Stricken (now (book .entry)) (now (table .entry)) r (now (words .entry)) (now (words .exit)) left ⌝ }
 {
-    let none = [0u16; 1];
-    let empty = &none[..0];
-    let mut queue = [0u16; ground::MOST_STATES];
-    let mut dist = [0u16; ground::MOST_STATES];
-    rounds(
-        book,
-        table,
-        words,
-        scratch,
-        r,
-        empty,
-        empty,
-        &mut queue,
-        &mut dist,
-    )
+    let mut pairs = [0u64; signs::MOST];
+    signs::fill(book, table, r, &mut pairs);
+    let mut wit = [0u16; MOST_ROWS];
+    let mut log = [0u16; ground::MOST_STATES];
+    let mut line = [0u16; ground::MOST_STATES];
+    tests::rounds_by_tests(book, table, words, r, &pairs, &mut wit, &mut log, &mut line)
 }
 
 // Strikes many states along their stored moves, from words that are all 0.
@@ -225,10 +147,9 @@ fn strike_along(
     back: &[u16],
 ) -> usize
     requires { ⌜ AlongStored (now book) (now table) (now words) r (now forth) (now back) × Zeros (now words) r ⌝ }
-    ensures { λ left. ⌜ Marked (bookSystem (now (book .entry))) (now (table .entry)) (now (words .exit)) r left
-        × (length (now (words .exit)) ≡ length (now (words .entry))) ⌝ }
+    ensures { λ left. ⌜ Stricken (now (book .entry)) (now (table .entry)) r (now (words .entry)) (now (words .exit)) left ⌝ }
 {
-    let mut wit = [0u16; ROWS];
+    let mut wit = [0u16; MOST_ROWS];
     let mut log = [0u16; ground::MOST_STATES];
     let mut line = [0u16; ground::MOST_STATES];
     along::rounds_along(
@@ -244,44 +165,50 @@ fn strike_along(
     )
 }
 
-// Strikes many states, from words and pointers that are all 0, along their stored moves if there is room for these.
-fn strike_many(
-    book: &[State],
-    table: &[State],
-    words: &mut [u32],
-    scratch: &mut [State],
-    r: usize,
-) -> usize
-    requires { ⌜ Strikable (now book) (now table) (now words) (now scratch) r × Zeros (now words) r × Zeros (now scratch) r ⌝ }
-    ensures { λ left. ⌜ Stricken (now (book .entry)) (now (table .entry)) r (now (words .entry)) (now (words .exit)) (now (scratch .entry))
-        (now (scratch .exit)) left ⌝ }
+// Strikes many states, from words that are all 0, along their stored moves if there is room for these. The room is given back before pairs are tested:
+// both ways at once would need too much of it.
+fn strike_stored(book: &[State], table: &[State], words: &mut [u32], r: usize) -> Struck
+    requires { ⌜ Strikable (now book) (now table) (now words) r × Zeros (now words) r ⌝ }
+    ensures { λ s. ⌜ StrickenIfStored (now (book .entry)) (now (table .entry)) r (now (words .entry)) (now (words .exit)) s ⌝ }
 {
     let mut forth = [0u16; web::SIZE];
     let mut back = [0u16; web::SIZE];
     let filled = web::store(book, table, r, &mut forth, &mut back);
     if filled == 0 {
-        return strike_by_tests(book, table, words, scratch, r);
+        return Struck::NotStored;
     }
-    strike_along(book, table, words, r, &forth, &back)
+    let left = strike_along(book, table, words, r, &forth, &back);
+    Struck::Left(left)
+}
+
+// Strikes many states, from words that are all 0.
+fn strike_many(book: &[State], table: &[State], words: &mut [u32], r: usize) -> usize
+    requires { ⌜ Strikable (now book) (now table) (now words) r × Zeros (now words) r ⌝ }
+    ensures { λ left. ⌜ Stricken (now (book .entry)) (now (table .entry)) r (now (words .entry)) (now (words .exit)) left ⌝ }
+{
+    let struck = strike_stored(book, table, words, r);
+    match struck {
+        Struck::Left(left) => {
+            return left;
+        }
+        Struck::NotStored => {
+            return strike_by_tests(book, table, words, r);
+        }
+    }
 }
 
 // Gives each of the table's first r states, which are all reachable states, its word: 0 if it is livable, or else 32 times the round plus
-// the reason for which it is struck; how many are left. The scratch is worked in.
-pub fn strike(
-    book: &[State],
-    table: &[State],
-    words: &mut [u32],
-    scratch: &mut [State],
-    r: usize,
-) -> usize
-    requires { ⌜ Strikable (now book) (now table) (now words) (now scratch) r ⌝ }
-    ensures { λ left. ⌜ Stricken (now (book .entry)) (now (table .entry)) r (now (words .entry)) (now (words .exit)) (now (scratch .entry))
-        (now (scratch .exit)) left ⌝ }
+// the reason for which it is struck; how many are left.
+pub fn strike(book: &[State], table: &[State], words: &mut [u32], r: usize) -> usize
+    requires { ⌜ Strikable (now book) (now table) (now words) r ⌝ }
+    ensures { λ left. ⌜ Stricken (now (book .entry)) (now (table .entry)) r (now (words .entry)) (now (words .exit)) left ⌝ }
 {
     ground::wipe_front(words, r);
-    ground::wipe_front(scratch, r);
-    if r < FEW_STATES {
-        return strike_few(book, table, words, scratch, r);
+    if r <= TINY_STATES {
+        return strike_tiny(book, table, words, r);
     }
-    strike_many(book, table, words, scratch, r)
+    if r < web::FEW_STATES {
+        return strike_few(book, table, words, r);
+    }
+    strike_many(book, table, words, r)
 }

@@ -11,16 +11,16 @@ use lib.Seq.{getD-set-same, getD-set-other}
 use Rattle.ground.specs.Listed.{Between}
 use Rattle.meaning.specs.Promises.{mostStates}
 use Rattle.distances.specs.Far.{far}
-use Rattle.watch.specs.Witness.{Leads, Readable, Woven, Hangable}
+use Rattle.watch.specs.Witness.{Leads, Backed, Readable, Woven, Hangable, Hangs}
 use Rattle.watch.specs.Turns.{weight, unstruckAt, countAt, InLine, HelperFor, found, not-found, Askable, Asked}
 use Rattle.watch.proofs.Weights.{count-most, count-turn}
 use Rattle.watch.proofs.Helped.{Sought}
-use Rattle.watch.proofs.Hooked.{Hooks, as-was, hooked, Hooked, Hangs, hangs-hooked}
+use Rattle.watch.proofs.Hooked.{Hooks, as-was, hooked, Hooked, hangs-hooked}
 
 -- where a place without a witness has a next place with one, that stands in the line, or the place itself in the log from g on
-abbrev pub Waits : (words row back log : List ℕ) (g tail : ℕ) (line : List ℕ) (n : ℕ) → Type 0
-Waits words row back log g tail line n =
-    (i j : ℕ) → i < length row → j < length row → getD words i 0 ≡ 0 → getD words j 0 ≡ 0 → Leads back j i
+abbrev pub Waits : (words row : List ℕ) (M : ℕ → ℕ → Type 0) (log : List ℕ) (g tail : ℕ) (line : List ℕ) (n : ℕ) → Type 0
+Waits words row M log g tail line n =
+    (i j : ℕ) → i < length row → j < length row → getD words i 0 ≡ 0 → getD words j 0 ≡ 0 → M i j
     → getD row i 0 ≡ far → (getD row j 0 ≡ far → ⊥) → Between line 0 n j ⊎ Between log g tail i
 
 -- the places of the log from m up to g were asked, and n of them found a helper
@@ -30,18 +30,18 @@ pub record AskedTo (words old forth log : List ℕ) (m tail : ℕ) (before row l
   pub line-long : length line ≡ length before
   pub counted : weight (unstruckAt far) words row (length old) + n ≤ length old
   pub in-line : InLine words row line n
-  pub hangs : (back : List ℕ) → Woven (length old) forth back → Hangable words old back log m tail → Hangs words old row back
-  pub waits : (back : List ℕ) → Woven (length old) forth back → Hangable words old back log m tail → Waits words row back log g tail line n
+  pub hangs : (back : List ℕ) → Woven (length old) forth back → Hangable words old (Backed back) log m tail → Hangs words old row (Backed back)
+  pub waits : (back : List ℕ) → Woven (length old) forth back → Hangable words old (Backed back) log m tail → Waits words row (Backed back) log g tail line n
 
 -- place i is unstruck and has no witness, and j helps it
-record Found (words row forth : List ℕ) (i j : ℕ) : Type 0 where
+record Found (words row : List ℕ) (M : ℕ → ℕ → Type 0) (i j : ℕ) : Type 0 where
   free : getD words i 0 ≡ 0
   lone : getD row i 0 ≡ far
-  leads : Leads forth i j
+  leads : M i j
   help-free : getD words j 0 ≡ 0
   help-hangs : getD row j 0 ≡ far → ⊥
 
-found-is : {words row forth : List ℕ} {i j : ℕ} → j < length row → HelperFor words row forth i j → Found words row forth i j
+found-is : {words row : List ℕ} {M : ℕ → ℕ → Type 0} {i j : ℕ} → j < length row → HelperFor words row M i j → Found words row M i j
 found-is less (found z f a l y o) = record { free = z; lone = f; leads = l; help-free = y; help-hangs = o }
 found-is less (not-found e none) = absurd (omega arith)
 
@@ -112,7 +112,7 @@ module _ (words old forth log : List ℕ) (m tail : ℕ) (before : List ℕ) (re
           let b = r .long in
           (subst (λ (x : ℕ). Readable forth x) (sym (r .long)) (ready .onward), ask-place .1, omega arith)
 
-      module _ (j : ℕ) (helps : HelperFor words row forth i j) where
+      module _ (j : ℕ) (helps : HelperFor words row (Leads forth) i j) where
         -- who stands in the log from g on stands behind, unless it is this place
         behind : (k : ℕ) → (i ≡ k → ⊥) → Between log g tail k → Between log (g + 1) tail k
         behind k other (t, a, b, e) = by (ℕ-discrete t g)
@@ -133,26 +133,27 @@ module _ (words old forth log : List ℕ) (m tail : ℕ) (before : List ℕ) (re
           waits = λ back w h k l a b z y p f o. on back w k l a b z y p f o (r .waits back w h k l a b z y p f o);
         }
           where
-            none : (k l : ℕ) → getD words k 0 ≡ 0 → getD row k 0 ≡ far → getD words l 0 ≡ 0 → (getD row l 0 ≡ far → ⊥) → Leads forth k l → i ≡ k → ⊥
-            none k l z f y o p q = by helps
+            none : (k l : ℕ) → getD words k 0 ≡ 0 → getD row k 0 ≡ far → getD words l 0 ≡ 0 → (getD row l 0 ≡ far → ⊥) → l < length row → Leads forth k l
+                → i ≡ k → ⊥
+            none k l z f y o b p q = by helps
               where
-                by : HelperFor words row forth i j → ⊥
+                by : HelperFor words row (Leads forth) i j → ⊥
                 by (found z′ f′ a l′ y′ o′) = omega arith
                 by (not-found e no-one) =
-                    no-one (ap (λ (x : ℕ). getD words x 0) q ∙ z) (ap (λ (x : ℕ). getD row x 0) q ∙ f) l
+                    no-one (ap (λ (x : ℕ). getD words x 0) q ∙ z) (ap (λ (x : ℕ). getD row x 0) q ∙ f) l b
                     (subst (λ (x : ℕ). Leads forth x l) (sym q) p) y o
 
             on : (back : List ℕ) → Woven (length old) forth back → (k l : ℕ) → k < length row → l < length row → getD words k 0 ≡ 0 → getD words l 0 ≡ 0
-                → Leads back l k → getD row k 0 ≡ far → (getD row l 0 ≡ far → ⊥) → Between line 0 n l ⊎ Between log g tail k
+                → Backed back k l → getD row k 0 ≡ far → (getD row l 0 ≡ far → ⊥) → Between line 0 n l ⊎ Between log g tail k
                 → Between line 0 n l ⊎ Between log (g + 1) tail k
             on back w k l a b z y p f o (inl s) = inl s
             on back w k l a b z y p f o (inr s) =
                 let e = r .long in
-                inr (behind k (none k l z f y o (w .turned-back k l (omega arith) (omega arith) p)) s)
+                inr (behind k (none k l z f y o b (w .turned-back k l (omega arith) (omega arith) p)) s)
 
         module _ (less : j < length row) where
           -- the helper's place in the old row, and what was found
-          fact : Found words row forth i j
+          fact : Found words row (Leads forth) i j
           fact = found-is less helps
 
           small : j < mostStates
@@ -183,16 +184,16 @@ module _ (words old forth log : List ℕ) (m tail : ℕ) (before : List ℕ) (re
           other-than : (k : ℕ) → (getD row k 0 ≡ far → ⊥) → k ≡ i → ⊥
           other-than k o q = o (ap (λ (x : ℕ). getD row x 0) q ∙ fact .lone)
 
-          hooks : (back : List ℕ) → Woven (length old) forth back → Hooked words row (set row i j) back
+          hooks : (back : List ℕ) → Woven (length old) forth back → Hooked words row (set row i j) (Backed back)
           hooks back w = record { long = length-set row i j; each = λ k h. by k (ℕ-discrete k i) }
             where
-              here-hooks : Hooks words row back i (getD (set row i j) i 0)
+              here-hooks : Hooks words row (Backed back) i (getD (set row i j) i 0)
               here-hooks =
                   let e = r .long in
                   hooked j (fact .lone) row-here less (fact .help-free) (fact .help-hangs) (w .turned i j (ask-place .0) (omega arith) (fact .leads))
 
-              by : (k : ℕ) → Dec (k ≡ i) → Hooks words row back k (getD (set row i j) k 0)
-              by k (yes q) = subst (λ (x : ℕ). Hooks words row back x (getD (set row i j) x 0)) (sym q) here-hooks
+              by : (k : ℕ) → Dec (k ≡ i) → Hooks words row (Backed back) k (getD (set row i j) k 0)
+              by k (yes q) = subst (λ (x : ℕ). Hooks words row (Backed back) x (getD (set row i j) x 0)) (sym q) here-hooks
               by k (no q) = as-was (getD-set-other row i k j 0 q)
 
           in-line′ : InLine words (set row i j) (set line n i) (n + 1)
@@ -224,7 +225,7 @@ module _ (words old forth log : List ℕ) (m tail : ℕ) (before : List ℕ) (re
           still : (l : ℕ) → Between line 0 n l → Between (set line n i) 0 (n + 1) l
           still l (t, a, b, e) = (t, a, omega arith, getD-set-other line n t i 0 (λ q. omega arith) ∙ e)
 
-          waits′ : (back : List ℕ) → Waits words row back log g tail line n → Waits words (set row i j) back log (g + 1) tail (set line n i) (n + 1)
+          waits′ : (back : List ℕ) → Waits words row (Backed back) log g tail line n → Waits words (set row i j) (Backed back) log (g + 1) tail (set line n i) (n + 1)
           waits′ back was k l a b z y p f o = by (ℕ-discrete l i)
             where
               -- who has no witness now is another place, and had none
@@ -253,6 +254,6 @@ module _ (words old forth log : List ℕ) (m tail : ℕ) (before : List ℕ) (re
             line-long = length-set line n i ∙ r .line-long;
             counted = let a = counts in let b = r .counted in omega arith;
             in-line = in-line′;
-            hangs = λ back w h. hangs-hooked words old row back (r .hangs back w h) (set row i j) (hooks back w);
+            hangs = λ back w h. hangs-hooked words old row (Backed back) (r .hangs back w h) (set row i j) (hooks back w);
             waits = λ back w h. waits′ back (r .waits back w h);
           }

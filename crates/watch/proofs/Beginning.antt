@@ -55,10 +55,10 @@ module _ {book : List ℕ} {k : ℕ} {table old row : List ℕ} {i : ℕ} (B : B
 pub no-both : {b : Bool} → b ≡ true → b ≡ false → ⊥
 no-both e f = let z : _≡_ {A = ℕ} 1 0 = ap (λ (b : Bool). cond b 1 0) (sym e ∙ f) in absurd (omega arith)
 
--- It is unstruck, and the numbers are compared.
-pub so-exactly : (words row : List ℕ) (i v : ℕ) → getD words i 0 ≡ 0 → IsSo words row i v (eqb (getD row i 0) v)
-so-exactly words row i v u = record { yes = λ e. (u, eqb-true (getD row i 0) v e); never = λ e _. eqb-false (getD row i 0) v e }
+-- It has the number, and its word is looked at.
+pub so-exactly : (words row : List ℕ) (i v : ℕ) → getD row i 0 ≡ v → IsSo words row i v (eqb (getD words i 0) 0)
+so-exactly words row i v h = record { yes = λ e. (eqb-true (getD words i 0) 0 e, h); never = λ e u _. eqb-false (getD words i 0) 0 e u }
 
--- It is struck.
-pub so-never : (words row : List ℕ) (i v : ℕ) → (getD words i 0 ≡ 0 → ⊥) → IsSo words row i v false
-so-never words row i v n = record { yes = λ e. absurd (no-both e refl); never = λ _ u _. n u }
+-- It has another.
+pub so-never : (words row : List ℕ) (i v : ℕ) → (getD row i 0 ≡ v → ⊥) → IsSo words row i v false
+so-never words row i v n = record { yes = λ e. absurd (no-both e refl); never = λ _ _ h. n h }

@@ -9,9 +9,9 @@ use lib.ListN.{length, getD, set, length-set}
 use lib.Seq.{getD-set-same, getD-set-other}
 use Rattle.ground.specs.Listed.{Between}
 use Rattle.meaning.specs.Promises.{mostStates}
-use Rattle.web.specs.Layout.{startAt, endAt, cellAt}
+use Rattle.web.specs.Layout.{startAt, endAt, cellAt, Ascending}
 use Rattle.distances.specs.Far.{far, gone}
-use Rattle.watch.specs.Witness.{Leads, Readable, Woven, freeIn, Log, Fresh}
+use Rattle.watch.specs.Witness.{Leads, Readable, Woven, freeIn, Log, Fresh, Walkable, Backed}
 use Rattle.watch.specs.Turns.{weight, unstruckAt, countAt, Redirects, turns, stays, Redirected, Redirectable, Loosened, Fallable, FallsAt, was, keeps, falls, FellTo}
 use Rattle.watch.specs.Ends.{Blank, Going, Ahead, opening, going, CutOff, WayOn, goes, ends, Lookable, Looked, Ended}
 use Rattle.watch.proofs.Sums.{weighs-one, weighs-none, two-counts, none-counts}
@@ -120,6 +120,7 @@ module _ {words old row back before log : List ℕ} {from m tail h : ℕ} (R : G
         in-words = omega (arith, L .long, R .log-is .in-words);
         has-row = R .backward .row (getD log h 0) place;
         places = λ e s l. let a = R .backward .places (getD log h 0) e place s l in omega (arith, a, L .long);
+        links = subst (λ (n : ℕ). Ascending n back) (sym (L .long)) (R .backward .links);
         apart = λ e. absurd (omega (arith, e, place, few));
         room = let a = two-counts far (getD log h 0) words row (λ e. absurd (omega (arith, e, place, few))) in
             let b : freeIn words (length row) ≡ freeIn words (length old) = ap (λ (n : ℕ). freeIn words n) (L .long) in
@@ -129,7 +130,7 @@ module _ {words old row back before log : List ℕ} {from m tail h : ℕ} (R : G
 
   -- A turn: whose way on it was has none.
   pub cutting-more : {row′ log′ : List ℕ} {tail′ : ℕ} → h < m
-      → Redirected (Leads back (getD log h 0)) words (getD log h 0) far row row′ tail log log′ tail′
+      → Redirected (λ (i : ℕ). Backed back i (getD log h 0)) words (getD log h 0) far row row′ tail log log′ tail′
       → Cutting words old row′ before log′ m tail′ (h + 1)
   cutting-more {row′ = row′} {log′ = log′} {tail′ = tail′} inside T = record {
     long = T .long ∙ L .long;
@@ -152,7 +153,7 @@ module _ {words old row back before log : List ℕ} {from m tail h : ℕ} (R : G
       place : getD log h 0 < length old
       place = cutting-place inside
 
-      loses-at : (i : ℕ) → Redirects (Leads back (getD log h 0) i) (getD words i 0) (getD log h 0) far (getD row i 0) (getD row′ i 0)
+      loses-at : (i : ℕ) → Redirects (Backed back i (getD log h 0)) (getD words i 0) (getD log h 0) far (getD row i 0) (getD row′ i 0)
           → Loses old row i → Loses old row′ i
       loses-at i (turns p u e f) s = inr f
       loses-at i (stays e n) (inl s) = inl (e ∙ s)
@@ -163,7 +164,7 @@ module _ {words old row back before log : List ℕ} {from m tail h : ℕ} (R : G
       place-at t k l (no q) = let p = T .added t (omega arith) l in let a = p .0 in omega (arith, a, L .long)
 
       alone-at : (i : ℕ) → i < length old → getD words i 0 ≡ 0 → getD row′ i 0 ≡ far
-          → Redirects (Leads back (getD log h 0) i) (getD words i 0) (getD log h 0) far (getD row i 0) (getD row′ i 0) → Between log′ m tail′ i
+          → Redirects (Backed back i (getD log h 0)) (getD words i 0) (getD log h 0) far (getD row i 0) (getD row′ i 0) → Between log′ m tail′ i
       alone-at i k u e (turns p v been f) =
           let s = T .whole i (omega (arith, k, L .long)) u been e in
           (s .0, omega (arith, s .1, L .grows), s .2, s .3)
@@ -172,7 +173,7 @@ module _ {words old row back before log : List ℕ} {from m tail h : ℕ} (R : G
           (s .0, s .1, omega (arith, s .2, T .grows), T .kept (s .0) (s .2) ∙ s .3)
 
       pending-at : (i : ℕ) → i < length old → getD words i 0 ≡ 0 → getD row′ i 0 < length old
-          → Redirects (Leads back (getD log h 0) i) (getD words i 0) (getD log h 0) far (getD row i 0) (getD row′ i 0)
+          → Redirects (Backed back i (getD log h 0)) (getD words i 0) (getD log h 0) far (getD row i 0) (getD row′ i 0)
           → (getD words (getD row′ i 0) 0 ≡ 0) ⊎ Between log′ (h + 1) m (getD row′ i 0)
       pending-at i k u l (turns p v been f) = absurd (omega (arith, f, l, R .few))
       pending-at i k u l (stays same n) =
@@ -181,18 +182,18 @@ module _ {words old row back before log : List ℕ} {from m tail h : ℕ} (R : G
           below : getD row i 0 < length old
           below = omega (arith, same, l)
 
-          hangs : Leads back (getD row i 0) i
+          hangs : Backed back i (getD row i 0)
           hangs = held (L .loses i k)
             where
-              held : Loses old row i → Leads back (getD row i 0) i
-              held (inl s) = subst (λ (x : ℕ). Leads back x i) (sym s) (R .leads i k (omega (arith, s, below)))
+              held : Loses old row i → Backed back i (getD row i 0)
+              held (inl s) = subst (λ (x : ℕ). Backed back i x) (sym s) (R .leads i k (omega (arith, s, below)))
               held (inr s) = absurd (omega (arith, s, below, R .few))
 
           noted : (s : Between log h m (getD row i 0)) → Dec (s .0 ≡ h) → Between log′ (h + 1) m (getD row i 0)
           noted s (no q) = (s .0, omega (arith, q, s .1), s .2, T .kept (s .0) (omega (arith, s .2, L .grows)) ∙ s .3)
           noted s (yes q) =
               let e : getD log h 0 ≡ getD row i 0 = ap (λ (x : ℕ). getD log x 0) (sym q) ∙ s .3 in
-              absurd (n (subst (λ (x : ℕ). Leads back x i) (sym e) hangs) u (sym e))
+              absurd (n (subst (λ (x : ℕ). Backed back i x) (sym e) hangs) u (sym e))
 
           at : (getD words (getD row i 0) 0 ≡ 0) ⊎ Between log h m (getD row i 0) → (getD words (getD row i 0) 0 ≡ 0) ⊎ Between log′ (h + 1) m (getD row i 0)
           at (inl p) = inl p
@@ -218,8 +219,8 @@ module _ {words old row back before log : List ℕ} {from m tail h : ℕ} (R : G
       each-at i k (inl s) (inl o) = inl (s ∙ o)
       each-at i k (inl s) (inr o) = inr (omega (arith, s, o))
 
-      leads-at : (i : ℕ) → i < length old → getD row i 0 < length old → Loses old row i → Leads back (getD row i 0) i
-      leads-at i k l (inl s) = subst (λ (x : ℕ). Leads back x i) (sym s) (R .leads i k (omega (arith, s, l)))
+      leads-at : (i : ℕ) → i < length old → getD row i 0 < length old → Loses old row i → Backed back i (getD row i 0)
+      leads-at i k l (inl s) = subst (λ (x : ℕ). Backed back i x) (sym s) (R .leads i k (omega (arith, s, l)))
       leads-at i k l (inr s) = absurd (omega (arith, s, l, R .few))
 
       sure-at : {j : ℕ} → (getD words j 0 ≡ 0) ⊎ Between log h m j → getD words j 0 ≡ 0
@@ -371,7 +372,7 @@ module _ {words row row′ back log log′ forth : List ℕ} {from m tail : ℕ}
       going = record {
         log-is = F .log-is;
         since = F .grows;
-        backward = subst (λ (r : ℕ). Readable back r) (sym long″) (W .backward);
+        backward = subst (λ (r : ℕ). Walkable back r) (sym long″) (W .backward);
         few = omega (arith, ahead-few A, long″);
         each = λ i h. each-at i (omega (arith, h, long″)) (L .each i (omega (arith, h, L .long)));
         leads = λ i h l. lead i (omega (arith, h, long″)) (omega (arith, l, long″));
@@ -383,12 +384,12 @@ module _ {words row row′ back log log′ forth : List ℕ} {from m tail : ℕ}
         few : length row ≤ mostStates
         few = ahead-few A
 
-        lead : (i : ℕ) → i < length row → getD row″ i 0 < length row → Leads back (getD row″ i 0) i
+        lead : (i : ℕ) → i < length row → getD row″ i 0 < length row → Backed back i (getD row″ i 0)
         lead i h l = by (L .each i (omega (arith, h, C .long)))
           where
             by : (getD row″ i 0 ≡ getD row′ i 0) ⊎ ((getD row″ i 0 < length row′) × Leads forth i (getD row″ i 0) × (getD words (getD row″ i 0) 0 ≡ 0))
-                → Leads back (getD row″ i 0) i
-            by (inl s) = subst (λ (x : ℕ). Leads back x i) (sym s) (C .leads i h (omega (arith, s, l)))
+                → Backed back i (getD row″ i 0)
+            by (inl s) = subst (λ (x : ℕ). Backed back i x) (sym s) (C .leads i h (omega (arith, s, l)))
             by (inr s) = W .turned i (getD row″ i 0) h l (s .1)
 
         onto : (i : ℕ) → i < length row → getD words i 0 ≡ 0 → getD row″ i 0 < length row → getD words (getD row″ i 0) 0 ≡ 0
@@ -410,7 +411,7 @@ module _ {words row row′ back log log′ forth : List ℕ} {from m tail : ℕ}
         each-at i h (inr s) = inr (omega (arith, s .0, L .long))
 
         saved : (i : ℕ) → i < length row → getD words i 0 ≡ 0 → (getD row″ i 0 ≡ far → ⊥)
-            → (getD row″ i 0 < length row) × (getD words (getD row″ i 0) 0 ≡ 0) × Leads back (getD row″ i 0) i
+            → (getD row″ i 0 < length row) × (getD words (getD row″ i 0) 0 ≡ 0) × Backed back i (getD row″ i 0)
         saved i h u n = let l = below (each-at i h (L .each i (omega (arith, h, C .long)))) in (l, onto i h u l, lead i h l)
           where
             below : (getD row″ i 0 ≡ far) ⊎ (getD row″ i 0 < length row″) → getD row″ i 0 < length row

@@ -40,11 +40,11 @@ module _ (words row forth : List ℕ) (i : ℕ) where
 
   module _ (pre : Sought words row forth i) (e : ℕ) (p : Passed words row forth i e) where
     -- Past the row's last cell there is no helper.
-    pub passed-all : endAt forth i ≤ e → HelperIn words row forth i (length row)
+    pub passed-all : endAt forth i ≤ e → HelperIn words row (Leads forth) i (length row)
     passed-all done = no-one refl by
       where
-        by : (h : ℕ) → Leads forth i h → getD words h 0 ≡ 0 → (getD row h 0 ≡ far → ⊥) → ⊥
-        by h (d, a, b, q) z other =
+        by : (h : ℕ) → h < length row → Leads forth i h → getD words h 0 ≡ 0 → (getD row h 0 ≡ far → ⊥) → ⊥
+        by h k (d, a, b, q) z other =
             p .nothing d a (omega arith) (ap (λ (x : ℕ). getD words x 0) q ∙ z)
             (λ f. other (sym (ap (λ (x : ℕ). getD row x 0) q) ∙ f))
 
@@ -54,7 +54,7 @@ module _ (words row forth : List ℕ) (i : ℕ) where
       passed-place = let a = pre .0 .places i e (pre .1) (p .begun) within in omega arith
 
       -- It is found.
-      pub passed-found : {b : Bool} → Helps words row j b → b ≡ true → HelperIn words row forth i j
+      pub passed-found : {b : Bool} → Helps words row j b → b ≡ true → HelperIn words row (Leads forth) i j
       passed-found h t = let u = h .yes t in someone passed-place (e, p .begun, within, sym here) (u .0) (u .1)
 
       -- Or it is passed.
@@ -68,11 +68,12 @@ module _ (words row forth : List ℕ) (i : ℕ) where
               let s : cellAt forth d ≡ j = ap (cellAt forth) q ∙ sym here in
               h .never t (sym (ap (λ (x : ℕ). getD words x 0) s) ∙ z) (λ f. other (ap (λ (x : ℕ). getD row x 0) s ∙ f))
 
+module _ (words row : List ℕ) (M : ℕ → ℕ → Type 0) (i : ℕ) where
   -- A place that is unstruck and has no witness has the helper that was found for it.
-  pub helper-sought : (j : ℕ) {b : Bool} → IsSo words row i far b → b ≡ true → HelperIn words row forth i j → HelperFor words row forth i j
+  pub helper-sought : (j : ℕ) {b : Bool} → IsSo words row i far b → b ≡ true → HelperIn words row M i j → HelperFor words row M i j
   helper-sought j so t (someone a l z other) = let u = so .yes t in found (u .0) (u .1) a l z other
   helper-sought j so t (no-one e none) = not-found e (λ z f. none)
 
   -- Another place needs none.
-  pub helper-other : {b : Bool} → IsSo words row i far b → b ≡ false → HelperFor words row forth i (length row)
-  helper-other so t = not-found refl (λ z f h l y other. so .never t z f)
+  pub helper-other : {b : Bool} → IsSo words row i far b → b ≡ false → HelperFor words row M i (length row)
+  helper-other so t = not-found refl (λ z f h k l y other. so .never t z f)

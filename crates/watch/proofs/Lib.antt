@@ -1,6 +1,7 @@
 pub mod Weights
 pub mod Sums
 pub mod Beginning
+pub mod Turning
 pub mod Redirecting
 pub mod Loosening
 pub mod Helped
@@ -11,3 +12,6 @@ pub mod Rehanging
 pub mod Falling
 pub mod Phasing
 pub mod Ending
+pub mod Ranking
+pub mod Sifting
+pub mod Testing

@@ -9,8 +9,9 @@ use lib.ListN.{length, getD}
 use Rattle.ground.specs.Listed.{Between}
 use Rattle.meaning.specs.Promises.{mostStates}
 use Rattle.distances.specs.Far.{far, gone}
-use Rattle.watch.specs.Witness.{Leads, Pointed, ChainIn, HungIn, Hung, AllHung, freeIn, Rested}
-use Rattle.watch.specs.Turns.{weight, unstruckAt, countAt, Redirects, turns, stays, Redirected, Redirectable, Loosened}
+use Rattle.web.specs.Layout.{Ascending}
+use Rattle.watch.specs.Witness.{Pointed, ChainIn, HungIn, Hung, AllHung, freeIn, Rested, Walkable}
+use Rattle.watch.specs.Turns.{weight, unstruckAt, countAt, Turnable, Redirects, turns, stays, Redirected, Redirectable, Loosened}
 use Rattle.watch.proofs.Sums.{weighs-one, weighs-none, two-counts, none-counts}
 
 -- a place is lost or as it was
@@ -31,7 +32,7 @@ pub record Loosening (words old row before log : List ℕ) (m tail h : ℕ) : Ty
   pub counted : tail ≡ m + countAt far words row
 
 -- Before the first turn nobody is lost.
-pub loosening-none : {words row back log : List ℕ} {from m : ℕ} → Rested words row back log from m → Loosening words row row log log m m from
+pub loosening-none : {words row log : List ℕ} {M : ℕ → ℕ → Type 0} {from m : ℕ} → Rested words row M log from m → Loosening words row row log log m m from
 loosening-none {words = words} {row = row} {log = log} {from = from} {m = m} R = record {
   long = refl;
   loses = λ i h. inl refl;
@@ -49,7 +50,7 @@ loosening-none {words = words} {row = row} {log = log} {from = from} {m = m} R =
     by i (inl u) l = inl (u, R .helped (getD row i 0) l u)
     by i (inr s) l = inr s
 
-module _ {words old row back before log : List ℕ} {from m tail h : ℕ} (R : Rested words old back before from m)
+module _ {words old row before log : List ℕ} {M : ℕ → ℕ → Type 0} {from m tail h : ℕ} (R : Rested words old M before from m)
     (L : Loosening words old row before log m tail h) where
   -- There are no more places in the log than there are.
   pub loosening-within : tail ≤ length old
@@ -67,16 +68,14 @@ module _ {words old row back before log : List ℕ} {from m tail h : ℕ} (R : R
       by (yes q) = let a = L .kept h q in let b = R .log-is .places h q in omega (arith, a, b)
       by (no q) = L .places h (omega arith) inside .0
 
-  -- Those that move to it may be redirected.
-  pub loosening-ask : from ≤ h → h < tail → length before ≤ mostStates → Redirectable words row back (getD log h 0) (getD log h 0) far log tail
-  loosening-ask since inside most =
+  -- Those that hang on it may be redirected.
+  pub loosening-turn : from ≤ h → h < tail → length before ≤ mostStates → Turnable words row (getD log h 0) far log tail
+  loosening-turn since inside most =
       let place = loosening-place since inside in
       let few = R .pointed .few in
       record {
         few = omega (arith, few, L .long);
         in-words = omega (arith, L .long, R .log-is .in-words);
-        has-row = R .backward .row (getD log h 0) place;
-        places = λ e s l. let a = R .backward .places (getD log h 0) e place s l in omega (arith, a, L .long);
         apart = λ e. absurd (omega (arith, e, place, few));
         room = let a = two-counts far (getD log h 0) words row (λ e. absurd (omega (arith, e, place, few))) in
             let b : freeIn words (length row) ≡ freeIn words (length old) = ap (λ (n : ℕ). freeIn words n) (L .long) in
@@ -84,11 +83,28 @@ module _ {words old row back before log : List ℕ} {from m tail h : ℕ} (R : R
         line-few = omega (arith, L .log-long, most);
       }
 
-  -- A turn: who hung on that place is lost.
-  pub loosening-more : {row′ log′ : List ℕ} {tail′ : ℕ} → from ≤ h → h < tail
-      → Redirected (Leads back (getD log h 0)) words (getD log h 0) far row row′ tail log log′ tail′
+  -- They are found along its row back.
+  pub loosening-ask : {back : List ℕ} → Walkable back (length old) → from ≤ h → h < tail → length before ≤ mostStates
+      → Redirectable words row back (getD log h 0) (getD log h 0) far log tail
+  loosening-ask {back = back} readable since inside most =
+      let place = loosening-place since inside in
+      let T = loosening-turn since inside most in
+      record {
+        few = T .few;
+        in-words = T .in-words;
+        has-row = readable .row (getD log h 0) place;
+        places = λ e s l. let a = readable .places (getD log h 0) e place s l in omega (arith, a, L .long);
+        links = subst (λ (n : ℕ). Ascending n back) (sym (L .long)) (readable .links);
+        apart = T .apart;
+        room = T .room;
+        line-few = T .line-few;
+      }
+
+  -- A turn: who hung on that place is lost. P holds of all that move to it.
+  pub loosening-more : {P : ℕ → Type 0} {row′ log′ : List ℕ} {tail′ : ℕ} → ((i : ℕ) → i < length old → M i (getD log h 0) → P i) → from ≤ h → h < tail
+      → Redirected P words (getD log h 0) far row row′ tail log log′ tail′
       → Loosening words old row′ before log′ m tail′ (h + 1)
-  loosening-more {row′ = row′} {log′ = log′} {tail′ = tail′} since inside T = record {
+  loosening-more {P = P} {row′ = row′} {log′ = log′} {tail′ = tail′} covers since inside T = record {
     long = T .long ∙ L .long;
     loses = λ i k. loses-at i k (T .each i (omega (arith, k, L .long))) (L .loses i k);
     log-long = T .line-long ∙ L .log-long;
@@ -112,7 +128,7 @@ module _ {words old row back before log : List ℕ} {from m tail h : ℕ} (R : R
       few : length old ≤ mostStates
       few = R .pointed .few
 
-      loses-at : (i : ℕ) → i < length old → Redirects (Leads back (getD log h 0) i) (getD words i 0) (getD log h 0) far (getD row i 0) (getD row′ i 0)
+      loses-at : (i : ℕ) → i < length old → Redirects (P i) (getD words i 0) (getD log h 0) far (getD row i 0) (getD row′ i 0)
           → Loses old row i → Loses old row′ i
       loses-at i k (turns p u e f) (inl s) = inr (f, omega (arith, sym s ∙ e, place))
       loses-at i k (turns p u e f) (inr s) = inr (f, s .1)
@@ -131,14 +147,14 @@ module _ {words old row back before log : List ℕ} {from m tail h : ℕ} (R : R
       later i s = (s .0, s .1, omega (arith, s .2, T .grows), T .kept (s .0) (s .2) ∙ s .3)
 
       alone-at : (i : ℕ) → i < length old → getD words i 0 ≡ 0 → getD row′ i 0 ≡ far
-          → Redirects (Leads back (getD log h 0) i) (getD words i 0) (getD log h 0) far (getD row i 0) (getD row′ i 0) → Between log′ m tail′ i
+          → Redirects (P i) (getD words i 0) (getD log h 0) far (getD row i 0) (getD row′ i 0) → Between log′ m tail′ i
       alone-at i k u e (turns p v was f) =
           let s = T .whole i (omega (arith, k, L .long)) u was e in
           (s .0, omega (arith, s .1, L .grows), s .2, s .3)
       alone-at i k u e (stays same n) = later i (L .alone i k u (sym same ∙ e))
 
       pending-at : (i : ℕ) → i < length old → getD words i 0 ≡ 0 → getD row′ i 0 < length old
-          → Redirects (Leads back (getD log h 0) i) (getD words i 0) (getD log h 0) far (getD row i 0) (getD row′ i 0)
+          → Redirects (P i) (getD words i 0) (getD log h 0) far (getD row i 0) (getD row′ i 0)
           → ((getD words (getD row′ i 0) 0 ≡ 0) × (getD row′ (getD row′ i 0) 0 ≡ far → ⊥)) ⊎ Between log′ (h + 1) tail′ (getD row′ i 0)
       pending-at i k u l (turns p v was f) = absurd (omega (arith, f, l, few))
       pending-at i k u l (stays same n) =
@@ -151,14 +167,14 @@ module _ {words old row back before log : List ℕ} {from m tail h : ℕ} (R : R
           below : getD row i 0 < length old
           below = omega (arith, same, l)
 
-          hangs : Leads back (getD row i 0) i
+          hangs : M i (getD row i 0)
           hangs = held (L .loses i k)
             where
-              held : Loses old row i → Leads back (getD row i 0) i
-              held (inl s) = subst (λ (x : ℕ). Leads back x i) (sym s) (R .pointed .leads i k (omega (arith, s, below)))
+              held : Loses old row i → M i (getD row i 0)
+              held (inl s) = subst (M i) (sym s) (R .pointed .leads i k (omega (arith, s, below)))
               held (inr s) = absurd (omega (arith, s .0, below, few))
 
-          turned : Redirects (Leads back (getD log h 0) (getD row i 0)) (getD words (getD row i 0) 0) (getD log h 0) far (getD row (getD row i 0) 0) (getD row′ (getD row i 0) 0)
+          turned : Redirects (P (getD row i 0)) (getD words (getD row i 0) 0) (getD log h 0) far (getD row (getD row i 0) 0) (getD row′ (getD row i 0) 0)
               → getD words (getD row i 0) 0 ≡ 0 → (getD row (getD row i 0) 0 ≡ far → ⊥)
               → ((getD words (getD row i 0) 0 ≡ 0) × (getD row′ (getD row i 0) 0 ≡ far → ⊥)) ⊎ Between log′ (h + 1) tail′ (getD row i 0)
           turned (turns p v was f) w helped =
@@ -170,7 +186,7 @@ module _ {words old row back before log : List ℕ} {from m tail h : ℕ} (R : R
           noted s (no q) = (s .0, omega (arith, q, s .1), omega (arith, s .2, T .grows), T .kept (s .0) (s .2) ∙ s .3)
           noted s (yes q) =
               let e : getD log h 0 ≡ getD row i 0 = ap (λ (x : ℕ). getD log x 0) (sym q) ∙ s .3 in
-              absurd (n (subst (λ (x : ℕ). Leads back x i) (sym e) hangs) u (sym e))
+              absurd (n (covers i k (subst (M i) (sym e) hangs)) u (sym e))
 
           at : ((getD words (getD row i 0) 0 ≡ 0) × (getD row (getD row i 0) 0 ≡ far → ⊥)) ⊎ Between log h tail (getD row i 0)
               → ((getD words (getD row i 0) 0 ≡ 0) × (getD row′ (getD row i 0) 0 ≡ far → ⊥)) ⊎ Between log′ (h + 1) tail′ (getD row i 0)

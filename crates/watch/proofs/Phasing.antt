@@ -8,25 +8,25 @@ use lib.ListN.{length, getD}
 use Rattle.ground.specs.Listed.{Between}
 use Rattle.meaning.specs.Promises.{mostStates}
 use Rattle.distances.specs.Far.{far, gone}
-use Rattle.watch.specs.Witness.{Leads, Pointed, ChainIn, Chain, HungIn, Hung, AllHung, SameOwn, freeIn, Log, Fresh, Rested, Hangable, Rehung, Readable, Woven}
+use Rattle.watch.specs.Witness.{Pointed, ChainIn, Chain, HungIn, Hung, AllHung, SameOwn, freeIn, Log, Fresh, Rested, Hangable, Rehung, Woven}
 use Rattle.watch.specs.Turns.{Before, first, again, Loosened, Fallable, FallsAt, was, keeps, falls, FellTo, Watched, Line}
 
 -- ---- what a row may be before a phase
 
-module _ {words row back log : List ℕ} {from m : ℕ} where
-  pub before-fresh : m < from → Before words row back log from m → Fresh words row log m
+module _ {words row log : List ℕ} {M : ℕ → ℕ → Type 0} {from m : ℕ} where
+  pub before-fresh : m < from → Before words row M log from m → Fresh words row log m
   before-fresh h (first k F) = F
   before-fresh h (again R) = absurd (omega (arith, R .since, h))
 
-  pub before-rested : from ≤ m → Before words row back log from m → Rested words row back log from m
+  pub before-rested : from ≤ m → Before words row M log from m → Rested words row M log from m
   before-rested h (first k F) = absurd (omega arith)
   before-rested h (again R) = R
 
-  pub before-log : Before words row back log from m → Log words (length row) log m
+  pub before-log : Before words row M log from m → Log words (length row) log m
   before-log (first k F) = F .log-is
   before-log (again R) = R .log-is
 
-  pub before-pointed : Before words row back log from m → Pointed row back
+  pub before-pointed : Before words row M log from m → Pointed row M
   before-pointed (first k F) = record {
     few = F .few;
     each = λ i h. either (F .each i h);
@@ -44,7 +44,7 @@ module _ {words row back log : List ℕ} {from m : ℕ} where
 
 -- ---- from part to part
 
-module _ {words row row′ back log log′ : List ℕ} {from m tail : ℕ} (B : Before words row back log from m)
+module _ {words row row′ log log′ : List ℕ} {M : ℕ → ℕ → Type 0} {from m tail : ℕ} (B : Before words row M log from m)
     (L : Loosened words row row′ log log′ m tail) where
   -- The log's first m are as they were.
   log-kept : Log words (length row′) log′ m
@@ -56,14 +56,14 @@ module _ {words row row′ back log log′ : List ℕ} {from m tail : ℕ} (B : 
   }
 
   -- The row is as long as it was.
-  pub lost-woven : {forth : List ℕ} → Woven (length row) forth back → Woven (length row′) forth back
-  lost-woven {forth = forth} W = subst (λ (r : ℕ). Woven r forth back) (sym (L .long)) W
+  pub lost-woven : {forth back : List ℕ} → Woven (length row) forth back → Woven (length row′) forth back
+  lost-woven {forth = forth} {back = back} W = subst (λ (r : ℕ). Woven r forth back) (sym (L .long)) W
 
   pub lost-line : {line : List ℕ} → Line row line → Line row′ line
   lost-line K = record { in-line = omega (arith, L .long, K .in-line); line-few = K .line-few }
 
   -- Who is lost may hang anew.
-  pub lost-hangable : Hangable words row′ back log′ m tail
+  pub lost-hangable : Hangable words row′ M log′ m tail
   lost-hangable = let P = before-pointed B in let G = before-log B in record {
     pointed = record {
       few = omega (arith, P .few, L .long);
@@ -89,12 +89,12 @@ module _ {words row row′ back log log′ : List ℕ} {from m tail : ℕ} (B : 
       each-at i h (inr s) = inl (s .0)
 
       leads-at : (i : ℕ) → i < length row → getD row′ i 0 < length row′ → (getD row′ i 0 ≡ getD row i 0) ⊎ ((getD row′ i 0 ≡ far) × (getD row i 0 < length row))
-          → Leads back (getD row′ i 0) i
-      leads-at i h l (inl s) = subst (λ (x : ℕ). Leads back x i) (sym s) (before-pointed B .leads i h (omega (arith, s, l, L .long)))
+          → M i (getD row′ i 0)
+      leads-at i h l (inl s) = subst (M i) (sym s) (before-pointed B .leads i h (omega (arith, s, l, L .long)))
       leads-at i h l (inr s) = absurd (omega (arith, s .0, l, L .long, before-pointed B .few))
 
   -- Who is lost and does not hang anew may fall.
-  pub lost-fallable : {row″ : List ℕ} {word : ℕ} → 0 < word → Rehung words row′ row″ back → Fallable words row″ log′ m tail word
+  pub lost-fallable : {row″ : List ℕ} {word : ℕ} → 0 < word → Rehung words row′ row″ M → Fallable words row″ log′ m tail word
   lost-fallable {row″ = row″} {word = word} some H = record {
     some = some;
     log-is = subst (λ (r : ℕ). Log words r log′ m) (sym (H .long)) log-kept;
@@ -105,9 +105,9 @@ module _ {words row row′ back log log′ : List ℕ} {from m tail : ℕ} (B : 
   }
 
   -- The phase as a whole: the row rests again.
-  pub phase-watched : {row″ words′ log″ : List ℕ} {m′ word : ℕ} → 0 < word → Readable back (length row) → Rehung words row′ row″ back → FellTo row″ word words words′ log′ log″ m m′
-      → Watched words words′ row row″ back log log″ m m′ word
-  phase-watched {row″ = row″} {words′ = words′} {log″ = log″} {m′ = m′} {word = word} some-word readable H F = record {
+  pub phase-watched : {row″ words′ log″ : List ℕ} {m′ word : ℕ} → 0 < word → Rehung words row′ row″ M → FellTo row″ word words words′ log′ log″ m m′
+      → Watched words words′ row row″ M log log″ m m′ word
+  phase-watched {row″ = row″} {words′ = words′} {log″ = log″} {m′ = m′} {word = word} some-word H F = record {
     long = H .long ∙ L .long;
     own = own;
     hung = H .hung;
@@ -126,7 +126,6 @@ module _ {words row row′ back log log′ : List ℕ} {from m tail : ℕ} (B : 
     rested = record {
       log-is = F .log-is;
       since = omega arith;
-      backward = subst (λ (r : ℕ). Readable back r) (sym (H .long ∙ L .long)) readable;
       pointed = H .pointed;
       chained = λ i h u n. let c = H .hung i h (free-before i h u (F .each i h)) n in (c .0, chain (c .0) i (c .1));
       helped = λ i h u e. unhelped i u e (F .each i h);

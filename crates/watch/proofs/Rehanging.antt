@@ -5,12 +5,12 @@ use Prim.Native.Nat.{ℕ, _≤_}
 use native.Mathlib.Omega.{arith}
 use lib.ListN.{length}
 use Rattle.meaning.specs.Promises.{mostStates}
-use Rattle.watch.specs.Witness.{Readable, Woven, Hangable}
+use Rattle.watch.specs.Witness.{Backed, Woven, Hangable, Walkable}
 use Rattle.watch.specs.Turns.{Line, Hanging, Askable, Asked}
 use Rattle.watch.proofs.Spreading.{Spreadable}
 
 module _ (words old forth back log : List ℕ) (m tail : ℕ) (before : List ℕ) (w : Woven (length old) forth back)
-    (h : Hangable words old back log m tail) (l : Line old before) where
+    (h : Hangable words old (Backed back) log m tail) (l : Line old before) where
   -- The places that stand alone may be asked.
   pub rehang-askable : length log ≤ mostStates → Askable words old forth log m tail before
   rehang-askable few = record {
@@ -32,9 +32,9 @@ module _ (words old forth back log : List ℕ) (m tail : ℕ) (before : List ℕ
       let g = h .in-words in
       let i = l .in-line in
       let j = l .line-few in
-      let s : Hanging words old row back line 0 n = a .hanging back w h in
+      let s : Hanging words old row (Backed back) line 0 n = a .hanging back w h in
       let k = s .room in (
-        subst (λ (x : ℕ). Readable back x) (sym (a .long)) (w .backward),
+        subst (λ (x : ℕ). Walkable back x) (sym (a .long)) (w .backward),
         omega arith,
         record { in-line = omega arith; line-few = omega arith },
         omega arith,

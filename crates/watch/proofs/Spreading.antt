@@ -8,15 +8,15 @@ use native.Mathlib.Omega.{arith}
 use lib.ListN.{length, getD}
 use Rattle.ground.specs.Listed.{Between}
 use Rattle.meaning.specs.Promises.{mostStates}
-use Rattle.web.specs.Layout.{startAt, endAt, cellsOf}
+use Rattle.web.specs.Layout.{Ascending}
 use Rattle.distances.specs.Far.{far}
-use Rattle.watch.specs.Witness.{Leads, Readable, Rehung}
+use Rattle.watch.specs.Witness.{Leads, Backed, Walkable, Hangs, Rehung}
 use Rattle.watch.specs.Turns.{weight, unstruckAt, countAt, Redirectable, Redirects, turns, stays, Redirected, InLine, Line, Hanging}
-use Rattle.watch.proofs.Redirecting.{redirected-counts}
-use Rattle.watch.proofs.Hooked.{Hooks, as-was, hooked, Hooked, Hangs, hangs-hooked}
+use Rattle.watch.proofs.Turning.{redirected-counts}
+use Rattle.watch.proofs.Hooked.{Hooks, as-was, hooked, Hooked, hangs-hooked}
 
 -- what hangs while places hang anew
-pub hanging-hangs : {words old row back line : List ℕ} {head tail : ℕ} → Hanging words old row back line head tail → Hangs words old row back
+pub hanging-hangs : {words old row line : List ℕ} {M : ℕ → ℕ → Type 0} {head tail : ℕ} → Hanging words old row M line head tail → Hangs words old row M
 hanging-hangs h = record { long = h .long; pointed = h .pointed; hung = h .hung; own = h .own; only = h .only }
 
 -- the rows of the line's first `head` places were redirected, and it has `tail` places
@@ -26,12 +26,12 @@ pub record SpreadTo (words row₀ back line₀ : List ℕ) (n : ℕ) (row line :
   pub within : head ≤ tail
   pub in-line : InLine words row line tail
   pub room : tail + countAt far words row ≤ length line
-  pub hanging : (old : List ℕ) → Hanging words old row₀ back line₀ 0 n → Hanging words old row back line head tail
+  pub hanging : (old : List ℕ) → Hanging words old row₀ (Backed back) line₀ 0 n → Hanging words old row (Backed back) line head tail
 
 -- what is asked of `spread`
 abbrev pub Spreadable : (words row back line : List ℕ) (n : ℕ) → Type 0
 Spreadable words row back line n =
-    Readable back (length row) × (length row ≤ length words) × Line row line × (n ≤ length line) × InLine words row line n
+    Walkable back (length row) × (length row ≤ length words) × Line row line × (n ≤ length line) × InLine words row line n
     × (n + countAt far words row ≤ length line)
 
 module _ (words row₀ back line₀ : List ℕ) (n : ℕ) (pre : Spreadable words row₀ back line₀ n) where
@@ -41,7 +41,7 @@ module _ (words row₀ back line₀ : List ℕ) (n : ℕ) (pre : Spreadable word
 
   module _ (row line : List ℕ) (tail head : ℕ) (r : SpreadTo words row₀ back line₀ n row line tail head) where
     -- At the line's end nobody waits.
-    pub spread-done : tail ≤ head → (old : List ℕ) → Hanging words old row₀ back line₀ 0 n → Rehung words old row back
+    pub spread-done : tail ≤ head → (old : List ℕ) → Hanging words old row₀ (Backed back) line₀ 0 n → Rehung words old row (Backed back)
     spread-done over old h = record {
       long = now .long;
       pointed = now .pointed;
@@ -51,7 +51,7 @@ module _ (words row₀ back line₀ : List ℕ) (n : ℕ) (pre : Spreadable word
       closed = λ i j a b z y l f o. nobody (now .pending i j a b z y l f o);
     }
       where
-        now : Hanging words old row back line head tail
+        now : Hanging words old row (Backed back) line head tail
         now = r .hanging old h
 
         nobody : {j : ℕ} → Between line head tail j → ⊥
@@ -91,26 +91,27 @@ module _ (words row₀ back line₀ : List ℕ) (n : ℕ) (pre : Spreadable word
             in-words = omega arith;
             has-row = pre .0 .row next (omega arith);
             places = λ d h k. let q = pre .0 .places next d (omega arith) h k in omega arith;
+            links = subst (λ (n : ℕ). Ascending n back) (sym (r .long)) (pre .0 .links);
             apart = apart;
             room = r .room;
             line-few = omega arith;
           }
 
       module _ (row′ line′ : List ℕ) (m : ℕ)
-          (done : Redirected (Between (cellsOf back) (startAt back (getD line head 0)) (endAt back (getD line head 0))) words far (getD line head 0) row row′ tail line line′ m) where
+          (done : Redirected (λ (i : ℕ). Backed back i (getD line head 0)) words far (getD line head 0) row row′ tail line line′ m) where
         -- who has a witness keeps it
         kept : (i : ℕ) → i < length row → (getD row i 0 ≡ far → ⊥) → getD row′ i 0 ≡ getD row i 0
         kept i h other = by (done .each i h)
           where
-            by : Redirects (Leads back next i) (getD words i 0) far next (getD row i 0) (getD row′ i 0) → getD row′ i 0 ≡ getD row i 0
+            by : Redirects (Backed back i next) (getD words i 0) far next (getD row i 0) (getD row′ i 0) → getD row′ i 0 ≡ getD row i 0
             by (turns p z o g) = absurd (other o)
             by (stays e f) = e
 
         -- the redirected places hang on the next place
-        hooks : Hooked words row row′ back
+        hooks : Hooked words row row′ (Backed back)
         hooks = record { long = done .long; each = λ i h. by i (done .each i h) }
           where
-            by : (i : ℕ) → Redirects (Leads back next i) (getD words i 0) far next (getD row i 0) (getD row′ i 0) → Hooks words row back i (getD row′ i 0)
+            by : (i : ℕ) → Redirects (Backed back i next) (getD words i 0) far next (getD row i 0) (getD row′ i 0) → Hooks words row (Backed back) i (getD row′ i 0)
             by i (turns p z o g) = let u = r .in-line head more in hooked next o g (u .0) (u .1) (u .2) p
             by i (stays e f) = as-was e
 
@@ -142,37 +143,37 @@ module _ (words row₀ back line₀ : List ℕ) (n : ℕ) (pre : Spreadable word
             let d = done .line-long in
             omega arith
 
-        module _ (old : List ℕ) (was : Hanging words old row back line head tail) where
-          pending′ : (i j : ℕ) → i < length row → j < length row → getD words i 0 ≡ 0 → getD words j 0 ≡ 0 → Leads back j i
+        module _ (old : List ℕ) (was : Hanging words old row (Backed back) line head tail) where
+          pending′ : (i j : ℕ) → i < length row → j < length row → getD words i 0 ≡ 0 → getD words j 0 ≡ 0 → Backed back i j
               → getD row′ i 0 ≡ far → (getD row′ j 0 ≡ far → ⊥) → Between line′ (head + 1) m j
           pending′ i j a b z y l f other = at (done .each j b)
             where
               -- i waited before, and its row does not lead back from the next place
-              lone : Redirects (Leads back next i) (getD words i 0) far next (getD row i 0) (getD row′ i 0)
-                  → (getD row i 0 ≡ far) × (Leads back next i → ⊥)
+              lone : Redirects (Backed back i next) (getD words i 0) far next (getD row i 0) (getD row′ i 0)
+                  → (getD row i 0 ≡ far) × (Backed back i next → ⊥)
               lone (turns p v o g) = absurd (apart (sym f ∙ g))
               lone (stays e s) = (sym e ∙ f, λ p. s p z (sym e ∙ f))
 
-              shift : (Leads back next i → ⊥) → Between line head tail j → Between line′ (head + 1) m j
+              shift : (Backed back i next → ⊥) → Between line head tail j → Between line′ (head + 1) m j
               shift not-next (t, c, d, e) = by (ℕ-discrete t head)
                 where
                   by : Dec (t ≡ head) → Between line′ (head + 1) m j
                   by (yes q) =
-                      absurd (not-next (subst (λ (x : ℕ). Leads back x i) (sym e ∙ ap (λ (x : ℕ). getD line x 0) q) l))
+                      absurd (not-next (subst (λ (x : ℕ). Backed back i x) (sym e ∙ ap (λ (x : ℕ). getD line x 0) q) l))
                   by (no q) = let g = done .grows in (t, omega arith, omega arith, done .kept t d ∙ e)
 
               later : Between line′ tail m j → Between line′ (head + 1) m j
               later (t, c, d, e) = (t, omega arith, d, e)
 
-              at : Redirects (Leads back next j) (getD words j 0) far next (getD row j 0) (getD row′ j 0) → Between line′ (head + 1) m j
+              at : Redirects (Backed back j next) (getD words j 0) far next (getD row j 0) (getD row′ j 0) → Between line′ (head + 1) m j
               at (turns p v o g) = later (done .whole j b y o g)
               at (stays e s) =
                   let u = lone (done .each i a) in
                   shift (u .1) (was .pending i j a b z y l (u .0) (λ o. other (e ∙ o)))
 
-          hanging′ : Hanging words old row′ back line′ (head + 1) m
+          hanging′ : Hanging words old row′ (Backed back) line′ (head + 1) m
           hanging′ =
-              let h = hangs-hooked words old row back (hanging-hangs was) row′ hooks in
+              let h = hangs-hooked words old row (Backed back) (hanging-hangs was) row′ hooks in
               record {
                 long = h .long;
                 pointed = h .pointed;

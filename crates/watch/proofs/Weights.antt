@@ -5,6 +5,7 @@ use mathlib.Core.Bool.{Bool, true, false, cond}
 use mathlib.Core.List.{List}
 use Prim.Native.Nat.{ℕ, zero, suc, _+_, _-_, _*_, _≤_, _<_}
 use native.Mathlib.Decide.{ℕ-discrete}
+use native.Mathlib.Nat.{add-mul}
 use native.Mathlib.Omega.{arith}
 use borrow.Author.Tests.{eq-eqb, ne-eqb}
 use lib.Dec.{eqb}
@@ -88,6 +89,14 @@ scale-none s k a b e = subst (λ (x : ℕ). s + x * a ≡ s + x * b) (sym e) (om
 
 pub scale-more : (s s′ s₀ k l a b : ℕ) → l ≡ suc k → s′ + a ≡ s + b → s + k * a ≡ s₀ + k * b → s′ + l * a ≡ s₀ + l * b
 scale-more s s′ s₀ k l a b e turn so-far = subst (λ (x : ℕ). s′ + x * a ≡ s₀ + x * b) (sym e) (omega arith)
+
+-- Two sums with such multiples, one after the other.
+pub scale-then : (s″ s′ s k l n a b : ℕ) → n ≡ k + l → s″ + l * a ≡ s′ + l * b → s′ + k * a ≡ s + k * b → s″ + n * a ≡ s + n * b
+scale-then s″ s′ s k l n a b e later first =
+    subst (λ (x : ℕ). s″ + x * a ≡ s + x * b) (sym e) (sums (add-mul k l a) (add-mul k l b))
+  where
+    sums : (k + l) * a ≡ k * a + l * a → (k + l) * b ≡ k * b + l * b → s″ + (k + l) * a ≡ s + (k + l) * b
+    sums p q = omega (arith, p, q, later, first)
 
 pub scale-count : (s s₀ k a b : ℕ) → a ≡ 1 → b ≡ 0 → s + k * a ≡ s₀ + k * b → s + k ≡ s₀
 scale-count s s₀ k a b e f t =

@@ -7,7 +7,7 @@ use lib.ListN.{length, getD}
 use Rattle.ground.specs.Listed.{Between}
 use Rattle.meaning.specs.Promises.{mostStates}
 use Rattle.distances.specs.Far.{far}
-use Rattle.watch.specs.Witness.{Leads, Readable, Woven, Log}
+use Rattle.watch.specs.Witness.{Leads, Backed, Readable, Walkable, Woven, Log}
 use Rattle.watch.specs.Turns.{FellTo}
 
 -- no way on is known yet
@@ -18,10 +18,10 @@ Blank row = (i : ℕ) → i < length row → getD row i 0 ≡ far
 pub record Going (words row back log : List ℕ) (from m : ℕ) : Type 0 where
   pub log-is : Log words (length row) log m
   pub since : from ≤ m
-  pub backward : Readable back (length row)
+  pub backward : Walkable back (length row)
   pub few : length row ≤ mostStates
   pub each : (i : ℕ) → i < length row → (getD row i 0 ≡ far) ⊎ (getD row i 0 < length row)
-  pub leads : (i : ℕ) → i < length row → getD row i 0 < length row → Leads back (getD row i 0) i
+  pub leads : (i : ℕ) → i < length row → getD row i 0 < length row → Backed back i (getD row i 0)
   pub helped : (i : ℕ) → i < length row → getD words i 0 ≡ 0 → getD row i 0 ≡ far → ⊥
   pub noted : (i : ℕ) → i < length row → getD words i 0 ≡ 0 → getD row i 0 < length row
       → (getD words (getD row i 0) 0 ≡ 0) ⊎ Between log from m (getD row i 0)
@@ -35,7 +35,7 @@ pub data Ahead (words row back log : List ℕ) (from m : ℕ) : Type 0 where
 pub record CutOff (words old row back before log : List ℕ) (m tail : ℕ) : Type 0 where
   pub long : length row ≡ length old
   pub each : (i : ℕ) → i < length old → (getD row i 0 ≡ far) ⊎ (getD row i 0 < length old)
-  pub leads : (i : ℕ) → i < length old → getD row i 0 < length old → Leads back (getD row i 0) i
+  pub leads : (i : ℕ) → i < length old → getD row i 0 < length old → Backed back i (getD row i 0)
   pub sure : (i : ℕ) → i < length old → getD words i 0 ≡ 0 → getD row i 0 < length old → getD words (getD row i 0) 0 ≡ 0
   pub log-long : length log ≡ length before
   pub kept : (t : ℕ) → t < m → getD log t 0 ≡ getD before t 0
@@ -77,7 +77,7 @@ pub record Endable (words row forth back log : List ℕ) (m from word : ℕ) : T
 pub record Ended (words words′ row row′ forth back log log′ : List ℕ) (m m′ word : ℕ) : Type 0 where
   pub long : length row′ ≡ length row
   pub saved : (i : ℕ) → i < length row → getD words i 0 ≡ 0 → (getD row′ i 0 ≡ far → ⊥)
-      → (getD row′ i 0 < length row) × (getD words (getD row′ i 0) 0 ≡ 0) × Leads back (getD row′ i 0) i
+      → (getD row′ i 0 < length row) × (getD words (getD row′ i 0) 0 ≡ 0) × Backed back i (getD row′ i 0)
   pub stuck : (i : ℕ) → i < length row → getD words i 0 ≡ 0 → getD row′ i 0 ≡ far → (j : ℕ) → Leads forth i j → getD words j 0 ≡ 0 → ⊥
   pub fell : FellTo row′ word words words′ log log′ m m′
   pub going : Going words′ row′ back log′ m m′

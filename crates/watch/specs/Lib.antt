@@ -1,3 +1,4 @@
 pub mod Witness
 pub mod Turns
 pub mod Ends
+pub mod Tests

@@ -9,10 +9,10 @@ use lib.Dec.{eqb}
 use mathlib.Core.Bool.{cond}
 use Rattle.ground.specs.Listed.{Between}
 use Rattle.meaning.specs.Promises.{mostStates}
-use Rattle.web.specs.Layout.{startAt, endAt, cellAt, HasRow}
+use Rattle.web.specs.Layout.{movesSize, startAt, endAt, cellAt, HasRow, Ascending}
 use Rattle.distances.specs.Far.{far, gone}
 use Rattle.distances.specs.Layers.{total}
-use Rattle.watch.specs.Witness.{Leads, Pointed, Hung, AllHung, SameOwn, Log, Rested, Fresh, Woven, Readable, Hangable}
+use Rattle.watch.specs.Witness.{Leads, Backed, Pointed, Hung, AllHung, SameOwn, Log, Rested, Fresh, Woven, Readable, Hangable}
 
 -- whether place i is unstruck and its number is v
 pub record IsSo (words row : List ℕ) (i v : ℕ) (b : Bool) : Type 0 where
@@ -36,12 +36,31 @@ unstruckAt v word x = (1 - word) * cond (eqb x v) 1 0
 abbrev pub countAt : (v : ℕ) (words row : List ℕ) → ℕ
 countAt v words row = weight (unstruckAt v) words row (length row)
 
+-- places may be redirected: the line has room for every unstruck place whose number is `was`
+pub record Turnable (words row : List ℕ) (was to : ℕ) (line : List ℕ) (n : ℕ) : Type 0 where
+  pub few : length row ≤ mostStates
+  pub in-words : length row ≤ length words
+  pub apart : was ≡ to → ⊥
+  pub room : n + countAt was words row ≤ length line
+  pub line-few : length line ≤ mostStates
+
 -- the places that move to t may be redirected: the line has room for every unstruck place whose number is `was`
 pub record Redirectable (words row back : List ℕ) (t was to : ℕ) (line : List ℕ) (n : ℕ) : Type 0 where
   pub few : length row ≤ mostStates
   pub in-words : length row ≤ length words
   pub has-row : HasRow back t
   pub places : (e : ℕ) → startAt back t ≤ e → e < endAt back t → cellAt back e < length row
+  pub links : Ascending (length row) back
+  pub apart : was ≡ to → ⊥
+  pub room : n + countAt was words row ≤ length line
+  pub line-few : length line ≤ mostStates
+
+-- the places of a chain may be redirected
+pub record Passable (words row back : List ℕ) (was to : ℕ) (line : List ℕ) (n : ℕ) : Type 0 where
+  pub few : length row ≤ mostStates
+  pub in-words : length row ≤ length words
+  pub long : length back ≡ movesSize
+  pub links : Ascending (length row) back
   pub apart : was ≡ to → ⊥
   pub room : n + countAt was words row ≤ length line
   pub line-few : length line ≤ mostStates
@@ -75,18 +94,18 @@ pub record Loosened (words old row before log : List ℕ) (m tail : ℕ) : Type 
   pub places : (t : ℕ) → m ≤ t → t < tail → (getD log t 0 < length old) × (getD words (getD log t 0) 0 ≡ 0)
   pub alone : (i : ℕ) → i < length old → getD words i 0 ≡ 0 → getD row i 0 ≡ far → Between log m tail i
 
--- who helps place i, sought along its row: a next place that is unstruck and has a witness
-pub data HelperIn (words row forth : List ℕ) (i j : ℕ) : Type 0 where
-  someone : j < length row → Leads forth i j → getD words j 0 ≡ 0 → (getD row j 0 ≡ far → ⊥) → HelperIn words row forth i j
-  no-one : j ≡ length row → ((h : ℕ) → Leads forth i h → getD words h 0 ≡ 0 → (getD row h 0 ≡ far → ⊥) → ⊥) → HelperIn words row forth i j
+-- who helps place i: a place to which it moves that is unstruck and has a witness
+pub data HelperIn (words row : List ℕ) (M : ℕ → ℕ → Type 0) (i j : ℕ) : Type 0 where
+  someone : j < length row → M i j → getD words j 0 ≡ 0 → (getD row j 0 ≡ far → ⊥) → HelperIn words row M i j
+  no-one : j ≡ length row → ((h : ℕ) → h < length row → M i h → getD words h 0 ≡ 0 → (getD row h 0 ≡ far → ⊥) → ⊥) → HelperIn words row M i j
 
 -- who helps place i, if it is unstruck and has no witness yet
-pub data HelperFor (words row forth : List ℕ) (i j : ℕ) : Type 0 where
-  found : getD words i 0 ≡ 0 → getD row i 0 ≡ far → j < length row → Leads forth i j → getD words j 0 ≡ 0 → (getD row j 0 ≡ far → ⊥)
-      → HelperFor words row forth i j
+pub data HelperFor (words row : List ℕ) (M : ℕ → ℕ → Type 0) (i j : ℕ) : Type 0 where
+  found : getD words i 0 ≡ 0 → getD row i 0 ≡ far → j < length row → M i j → getD words j 0 ≡ 0 → (getD row j 0 ≡ far → ⊥)
+      → HelperFor words row M i j
   not-found : j ≡ length row
-      → (getD words i 0 ≡ 0 → getD row i 0 ≡ far → (h : ℕ) → Leads forth i h → getD words h 0 ≡ 0 → (getD row h 0 ≡ far → ⊥) → ⊥)
-      → HelperFor words row forth i j
+      → (getD words i 0 ≡ 0 → getD row i 0 ≡ far → (h : ℕ) → h < length row → M i h → getD words h 0 ≡ 0 → (getD row h 0 ≡ far → ⊥) → ⊥)
+      → HelperFor words row M i j
 
 -- the line's first n are unstruck places with a witness
 abbrev pub InLine : (words row line : List ℕ) (n : ℕ) → Type 0
@@ -99,15 +118,15 @@ pub record Line (row line : List ℕ) : Type 0 where
   pub line-few : length line ≤ mostStates
 
 -- While places hang anew: who has a witness hangs, and where a place without one has a next place with one, that stands in the line from `head` on.
-pub record Hanging (words old row back line : List ℕ) (head tail : ℕ) : Type 0 where
+pub record Hanging (words old row : List ℕ) (M : ℕ → ℕ → Type 0) (line : List ℕ) (head tail : ℕ) : Type 0 where
   pub long : length row ≡ length old
-  pub pointed : Pointed row back
+  pub pointed : Pointed row M
   pub hung : AllHung words row
   pub own : SameOwn old row
   pub only : (i : ℕ) → i < length row → getD row i 0 ≡ far → getD old i 0 ≡ far
   pub in-line : InLine words row line tail
   pub room : tail + countAt far words row ≤ length line
-  pub pending : (i j : ℕ) → i < length row → j < length row → getD words i 0 ≡ 0 → getD words j 0 ≡ 0 → Leads back j i
+  pub pending : (i j : ℕ) → i < length row → j < length row → getD words i 0 ≡ 0 → getD words j 0 ≡ 0 → M i j
       → getD row i 0 ≡ far → (getD row j 0 ≡ far → ⊥) → Between line head tail j
 
 -- places that stand alone may look for a helper: the line has room for all of them
@@ -125,7 +144,8 @@ pub record Askable (words row forth log : List ℕ) (m tail : ℕ) (line : List 
 pub record Asked (words old row forth log : List ℕ) (m tail : ℕ) (before line : List ℕ) (n : ℕ) : Type 0 where
   pub long : length row ≡ length old
   pub line-long : length line ≡ length before
-  pub hanging : (back : List ℕ) → Woven (length old) forth back → Hangable words old back log m tail → Hanging words old row back line 0 n
+  pub hanging : (back : List ℕ) → Woven (length old) forth back → Hangable words old (Backed back) log m tail
+      → Hanging words old row (Backed back) line 0 n
 
 -- who stands alone may fall: the word is fresh, and all such places stand in the log from m up to `tail`
 pub record Fallable (words row log : List ℕ) (m tail word : ℕ) : Type 0 where
@@ -154,9 +174,9 @@ pub record FellTo (row : List ℕ) (word : ℕ) (old words before log : List ℕ
   pub noted : (i : ℕ) → i < length row → getD old i 0 ≡ 0 → (getD words i 0 ≡ 0 → ⊥) → Between log m m′ i
 
 -- what a row may be before a phase: fresh, and then `from` is above m; or at rest
-pub data Before (words row back log : List ℕ) (from m : ℕ) : Type 0 where
-  first : m < from → Fresh words row log m → Before words row back log from m
-  again : Rested words row back log from m → Before words row back log from m
+pub data Before (words row : List ℕ) (M : ℕ → ℕ → Type 0) (log : List ℕ) (from m : ℕ) : Type 0 where
+  first : m < from → Fresh words row log m → Before words row M log from m
+  again : Rested words row M log from m → Before words row M log from m
 
 -- a phase may be run
 pub record Watching (words row forth back log line : List ℕ) (m from word : ℕ) : Type 0 where
@@ -164,15 +184,15 @@ pub record Watching (words row forth back log line : List ℕ) (m from word : �
   pub woven : Woven (length row) forth back
   pub line-is : Line row line
   pub log-few : length log ≤ mostStates
-  pub before : Before words row back log from m
+  pub before : Before words row (Backed back) log from m
 
 -- it was run: the row is rehung, who stands alone fell, and the row rests
-pub record Watched (words words′ row row′ back log log′ : List ℕ) (m m′ word : ℕ) : Type 0 where
+pub record Watched (words words′ row row′ : List ℕ) (M : ℕ → ℕ → Type 0) (log log′ : List ℕ) (m m′ word : ℕ) : Type 0 where
   pub long : length row′ ≡ length row
   pub own : SameOwn row row′
   pub hung : AllHung words row′
-  pub pointed : Pointed row′ back
-  pub closed : (i j : ℕ) → i < length row′ → j < length row′ → getD words i 0 ≡ 0 → getD words j 0 ≡ 0 → Leads back j i
+  pub pointed : Pointed row′ M
+  pub closed : (i j : ℕ) → i < length row′ → j < length row′ → getD words i 0 ≡ 0 → getD words j 0 ≡ 0 → M i j
       → getD row′ i 0 ≡ far → (getD row′ j 0 ≡ far → ⊥) → ⊥
   pub fell : FellTo row′ word words words′ log log′ m m′
-  pub rested : Rested words′ row′ back log′ m′ m′
+  pub rested : Rested words′ row′ M log′ m′ m′

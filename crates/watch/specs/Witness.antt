@@ -1,4 +1,4 @@
--- Witnesses along stored moves: what the numbers of a row say, when a place hangs, and what a row is between two phases. A row has a number for
+-- Witnesses along moves: what the numbers of a row say, when a place hangs, and what a row is between two phases. A row has a number for
 -- each place: `far`, nobody helps it; `gone`, it keeps the promise itself; or the place that is its witness. Assumes nothing.
 use mathlib.Core.Path.{_≡_}
 use mathlib.Core.Logic.{_⊎_}
@@ -8,7 +8,7 @@ use lib.ListN.{length, getD}
 use Rattle.ground.specs.Listed.{Between}
 use Rattle.meaning.specs.Promises.{mostStates}
 use Rattle.rules.specs.Book.{bookKept}
-use Rattle.web.specs.Layout.{startAt, endAt, cellsOf, cellAt, HasRow}
+use Rattle.web.specs.Layout.{startAt, endAt, cellsOf, cellAt, HasRow, Linked, Ascending}
 use Rattle.distances.specs.Far.{far, gone}
 use Rattle.distances.specs.Layers.{total, keptIn}
 
@@ -16,17 +16,27 @@ use Rattle.distances.specs.Layers.{total, keptIn}
 abbrev pub Leads : (moves : List ℕ) (i j : ℕ) → Type 0
 Leads moves i j = Between (cellsOf moves) (startAt moves i) (endAt moves i) j
 
+-- the same seen from its end: place i moves to place j, as j's row back says, which has one place for each chain
+abbrev pub Backed : (back : List ℕ) (i j : ℕ) → Type 0
+Backed back i j = (c : ℕ) × Leads back j c × Linked back c i
+
 -- the rows of the first r places can be read, and their cells are such places
 pub record Readable (moves : List ℕ) (r : ℕ) : Type 0 where
   pub row : (i : ℕ) → i < r → HasRow moves i
   pub places : (i e : ℕ) → i < r → startAt moves i ≤ e → e < endAt moves i → cellAt moves e < r
 
+-- the same of rows back, with their chains
+pub record Walkable (back : List ℕ) (r : ℕ) : Type 0 where
+  pub row : (i : ℕ) → i < r → HasRow back i
+  pub places : (i e : ℕ) → i < r → startAt back i ≤ e → e < endAt back i → cellAt back e < r
+  pub links : Ascending r back
+
 -- rows forth and rows back of the same moves
 pub record Woven (r : ℕ) (forth back : List ℕ) : Type 0 where
   pub onward : Readable forth r
-  pub backward : Readable back r
-  pub turned : (i j : ℕ) → i < r → j < r → Leads forth i j → Leads back j i
-  pub turned-back : (i j : ℕ) → i < r → j < r → Leads back j i → Leads forth i j
+  pub backward : Walkable back r
+  pub turned : (i j : ℕ) → i < r → j < r → Leads forth i j → Backed back i j
+  pub turned-back : (i j : ℕ) → i < r → j < r → Backed back i j → Leads forth i j
 
 -- what a row begins with: it keeps promise k, or nobody helps it yet
 pub record BegunRow (book : List ℕ) (k : ℕ) (table old row : List ℕ) : Type 0 where
@@ -34,11 +44,13 @@ pub record BegunRow (book : List ℕ) (k : ℕ) (table old row : List ℕ) : Typ
   pub itself : (i : ℕ) → i < length row → keptIn book k (getD table i 0) → getD row i 0 ≡ gone
   pub nobody : (i : ℕ) → i < length row → (keptIn book k (getD table i 0) → ⊥) → getD row i 0 ≡ far
 
--- the numbers of a row: nobody, the place itself, or a place whose row back has this one
-pub record Pointed (row back : List ℕ) : Type 0 where
+-- From here on, M i j says that place i moves to place j.
+
+-- the numbers of a row: nobody, the place itself, or a place to which this one moves
+pub record Pointed (row : List ℕ) (M : ℕ → ℕ → Type 0) : Type 0 where
   pub few : length row ≤ mostStates
   pub each : (i : ℕ) → i < length row → (getD row i 0 ≡ far) ⊎ (getD row i 0 ≡ gone) ⊎ (getD row i 0 < length row)
-  pub leads : (i : ℕ) → i < length row → getD row i 0 < length row → Leads back (getD row i 0) i
+  pub leads : (i : ℕ) → i < length row → getD row i 0 < length row → M i (getD row i 0)
 
 -- in n steps from witness to witness one comes from place i to one that keeps the promise
 abbrev pub ChainIn : (row : List ℕ) (n i : ℕ) → Type 0
@@ -78,11 +90,10 @@ pub record Fresh (words row log : List ℕ) (m : ℕ) : Type 0 where
   pub each : (i : ℕ) → i < length row → (getD row i 0 ≡ far) ⊎ (getD row i 0 ≡ gone)
 
 -- a row between two phases of its promise: every unstruck place has a witness, and one that was struck since stands in the log from `from` on
-pub record Rested (words row back log : List ℕ) (from m : ℕ) : Type 0 where
+pub record Rested (words row : List ℕ) (M : ℕ → ℕ → Type 0) (log : List ℕ) (from m : ℕ) : Type 0 where
   pub log-is : Log words (length row) log m
   pub since : from ≤ m
-  pub backward : Readable back (length row)
-  pub pointed : Pointed row back
+  pub pointed : Pointed row M
   pub chained : (i : ℕ) → i < length row → getD words i 0 ≡ 0 → (getD row i 0 ≡ far → ⊥) → Chain row i
   pub helped : (i : ℕ) → i < length row → getD words i 0 ≡ 0 → getD row i 0 ≡ far → ⊥
   pub noted : (i : ℕ) → i < length row → getD words i 0 ≡ 0 → getD row i 0 < length row
@@ -92,9 +103,17 @@ pub record Rested (words row back log : List ℕ) (from m : ℕ) : Type 0 where
 abbrev pub SameOwn : (old row : List ℕ) → Type 0
 SameOwn old row = (i : ℕ) → i < length row → (getD row i 0 ≡ gone → getD old i 0 ≡ gone) × (getD old i 0 ≡ gone → getD row i 0 ≡ gone)
 
+-- a row in which who has a witness hangs, and which differs from an old one only in whom its places hang on
+pub record Hangs (words old row : List ℕ) (M : ℕ → ℕ → Type 0) : Type 0 where
+  pub long : length row ≡ length old
+  pub pointed : Pointed row M
+  pub hung : AllHung words row
+  pub own : SameOwn old row
+  pub only : (i : ℕ) → i < length row → getD row i 0 ≡ far → getD old i 0 ≡ far
+
 -- places may hang anew: those with a witness hang, and those without stand in the log from m up to `tail`
-pub record Hangable (words row back log : List ℕ) (m tail : ℕ) : Type 0 where
-  pub pointed : Pointed row back
+pub record Hangable (words row : List ℕ) (M : ℕ → ℕ → Type 0) (log : List ℕ) (m tail : ℕ) : Type 0 where
+  pub pointed : Pointed row M
   pub hung : AllHung words row
   pub in-words : length row ≤ length words
   pub in-log : tail ≤ length log
@@ -103,11 +122,11 @@ pub record Hangable (words row back log : List ℕ) (m tail : ℕ) : Type 0 wher
   pub alone : (i : ℕ) → i < length row → getD words i 0 ≡ 0 → getD row i 0 ≡ far → Between log m tail i
 
 -- they hang, and who is left without a witness has no next place with one
-pub record Rehung (words old row back : List ℕ) : Type 0 where
+pub record Rehung (words old row : List ℕ) (M : ℕ → ℕ → Type 0) : Type 0 where
   pub long : length row ≡ length old
-  pub pointed : Pointed row back
+  pub pointed : Pointed row M
   pub hung : AllHung words row
   pub own : SameOwn old row
   pub only : (i : ℕ) → i < length row → getD row i 0 ≡ far → getD old i 0 ≡ far
-  pub closed : (i j : ℕ) → i < length row → j < length row → getD words i 0 ≡ 0 → getD words j 0 ≡ 0 → Leads back j i
+  pub closed : (i j : ℕ) → i < length row → j < length row → getD words i 0 ≡ 0 → getD words j 0 ≡ 0 → M i j
       → getD row i 0 ≡ far → (getD row j 0 ≡ far → ⊥) → ⊥

@@ -6,16 +6,16 @@ ghost use mathlib.Core.Path.{_≡_};
 ghost use mathlib.Core.List.{List};
 ghost use Prim.Native.Nat.{ℕ, _+_, _<_, _≤_};
 ghost use lib.ListN.{length};
-ghost use Rattle.ground.specs.Listed.{Between};
 ghost use Rattle.meaning.specs.Promises.{mostStates};
 ghost use Rattle.rules.specs.Book.{Shaped, promisesOf};
-ghost use Rattle.web.specs.Layout.{startAt, endAt, cellsOf};
+ghost use Rattle.web.specs.Layout.{Linked};
 ghost use Rattle.distances.specs.Far.{far};
-ghost use Rattle.watch.specs.Witness.{Readable, Woven, BegunRow, Fresh, Rested, Hangable, Rehung};
-ghost use Rattle.watch.specs.Turns.{IsSo, Helps, countAt, Redirectable, Redirected, Loosened, HelperIn, HelperFor, InLine, Line, Hanging};
+ghost use Rattle.watch.specs.Witness.{Leads, Backed, Readable, Walkable, Woven, BegunRow, Fresh, Rested, Hangable, Rehung};
+ghost use Rattle.watch.specs.Turns.{IsSo, Helps, countAt, Redirectable, Passable, Redirected, Loosened, HelperIn, HelperFor, InLine, Line, Hanging};
 ghost use Rattle.watch.specs.Turns.{Askable, Asked, Fallable, FellTo, Before, Watching, Watched};
 
 pub mod ends;
+pub mod tests;
 
 // Nobody helps a place; or it keeps the promise itself. Every place's number is less.
 pub const NOBODY: u16 = 65535;
@@ -44,10 +44,42 @@ fn is_so(words: &[u32], row: &[u16], i: usize, was: u16) -> bool
     requires { ⌜ (i < length (now words)) × (i < length (now row)) ⌝ }
     ensures { λ b. ⌜ IsSo (now (words .entry)) (now (row .entry)) i was b ⌝ }
 {
-    if words[i] == 0 {
-        return row[i] == was;
+    if row[i] == was {
+        return words[i] == 0;
     }
     false
+}
+
+// Of the places on the chain that begins with place c, gives `to` to the unstruck ones whose number is `was`, and puts them into the line behind
+// its first n; how long the line then is.
+fn redirect_chain(
+    words: &[u32],
+    row: &mut [u16],
+    back: &[u16],
+    c: usize,
+    was: u16,
+    to: u16,
+    line: &mut [u16],
+    n: usize,
+) -> usize
+    requires { ⌜ Passable (now words) (now row) (now back) was to (now line) n × (c < length (now row)) ⌝ }
+    ensures { λ m. ⌜ Redirected (λ i. Linked (now (back .entry)) c i) (now (words .entry)) was to (now (row .entry)) (now (row .exit)) n
+        (now (line .entry)) (now (line .exit)) m ⌝ }
+{
+    let r = row.len();
+    let mut tail = n;
+    let mut i = c;
+    while i < r {
+        if is_so(words, row, i, was) {
+            row[i] = to;
+            line[tail] = i as u16;
+            tail += 1;
+            i = web::link(back, i);
+        } else {
+            i = web::link(back, i);
+        }
+    }
+    tail
 }
 
 // Of the places that move to place t, gives `to` to the unstruck ones whose number is `was`, and puts them into the line behind its first n; how
@@ -63,22 +95,16 @@ fn redirect(
     n: usize,
 ) -> usize
     requires { ⌜ Redirectable (now words) (now row) (now back) t was to (now line) n ⌝ }
-    ensures { λ m. ⌜ Redirected (Between (cellsOf (now (back .entry))) (startAt (now (back .entry)) t) (endAt (now (back .entry)) t))
-        (now (words .entry)) was to (now (row .entry)) (now (row .exit)) n (now (line .entry)) (now (line .exit)) m ⌝ }
+    ensures { λ m. ⌜ Redirected (λ i. Backed (now (back .entry)) i t) (now (words .entry)) was to (now (row .entry)) (now (row .exit)) n
+        (now (line .entry)) (now (line .exit)) m ⌝ }
 {
     let end = web::row_end(back, t);
     let mut tail = n;
     let mut e = web::row_start(back, t);
     while e < end {
-        let i = web::cell(back, e);
-        if is_so(words, row, i, was) {
-            row[i] = to;
-            line[tail] = i as u16;
-            tail += 1;
-            e += 1;
-        } else {
-            e += 1;
-        }
+        let c = web::cell(back, e);
+        tail = redirect_chain(words, row, back, c, was, to, line, tail);
+        e += 1;
     }
     tail
 }
@@ -93,7 +119,8 @@ fn loosen(
     from: usize,
     m: usize,
 ) -> usize
-    requires { ⌜ Rested (now words) (now row) (now back) (now log) from m × (length (now log) ≤ mostStates) ⌝ }
+    requires { ⌜ Rested (now words) (now row) (Backed (now back)) (now log) from m × Walkable (now back) (length (now row))
+        × (length (now log) ≤ mostStates) ⌝ }
     ensures { λ tail. ⌜ Loosened (now (words .entry)) (now (row .entry)) (now (row .exit)) (now (log .entry)) (now (log .exit)) m tail ⌝ }
 {
     let mut tail = m;
@@ -135,7 +162,8 @@ fn lost(
     from: usize,
     m: usize,
 ) -> usize
-    requires { ⌜ Before (now words) (now row) (now back) (now log) from m × (length (now log) ≤ mostStates) ⌝ }
+    requires { ⌜ Before (now words) (now row) (Backed (now back)) (now log) from m × Walkable (now back) (length (now row))
+        × (length (now log) ≤ mostStates) ⌝ }
     ensures { λ tail. ⌜ Loosened (now (words .entry)) (now (row .entry)) (now (row .exit)) (now (log .entry)) (now (log .exit)) m tail ⌝ }
 {
     if m < from {
@@ -158,7 +186,7 @@ fn is_helped(words: &[u32], row: &[u16], j: usize) -> bool
 // The first next place of place i that is unstruck and has a witness, or the row's length.
 fn seek_helper(words: &[u32], row: &[u16], forth: &[u16], i: usize) -> usize
     requires { ⌜ Readable (now forth) (length (now row)) × (i < length (now row)) × (length (now row) ≤ length (now words)) ⌝ }
-    ensures { λ j. ⌜ HelperIn (now (words .entry)) (now (row .entry)) (now (forth .entry)) i j ⌝ }
+    ensures { λ j. ⌜ HelperIn (now (words .entry)) (now (row .entry)) (Leads (now (forth .entry))) i j ⌝ }
 {
     let end = web::row_end(forth, i);
     let mut e = web::row_start(forth, i);
@@ -175,7 +203,7 @@ fn seek_helper(words: &[u32], row: &[u16], forth: &[u16], i: usize) -> usize
 // The same if place i is unstruck and has no witness; the row's length if not.
 fn helper(words: &[u32], row: &[u16], forth: &[u16], i: usize) -> usize
     requires { ⌜ Readable (now forth) (length (now row)) × (i < length (now row)) × (length (now row) ≤ length (now words)) ⌝ }
-    ensures { λ j. ⌜ HelperFor (now (words .entry)) (now (row .entry)) (now (forth .entry)) i j ⌝ }
+    ensures { λ j. ⌜ HelperFor (now (words .entry)) (now (row .entry)) (Leads (now (forth .entry))) i j ⌝ }
 {
     if is_so(words, row, i, NOBODY) {
         return seek_helper(words, row, forth, i);
@@ -216,10 +244,10 @@ fn ask(
 
 // From each place of the line in turn, hangs the places on it that move to it and have no witness, and puts them into the line.
 fn spread(words: &[u32], row: &mut [u16], back: &[u16], line: &mut [u16], n: usize)
-    requires { ⌜ Readable (now back) (length (now row)) × (length (now row) ≤ length (now words)) × Line (now row) (now line) × (n ≤ length (now line))
+    requires { ⌜ Walkable (now back) (length (now row)) × (length (now row) ≤ length (now words)) × Line (now row) (now line) × (n ≤ length (now line))
         × InLine (now words) (now row) (now line) n × (n + countAt far (now words) (now row) ≤ length (now line)) ⌝ }
-    ensures { λ _. ⌜ ((old : List ℕ) → Hanging (now (words .entry)) old (now (row .entry)) (now (back .entry)) (now (line .entry)) 0 n
-        → Rehung (now (words .entry)) old (now (row .exit)) (now (back .entry))) × (length (now (row .exit)) ≡ length (now (row .entry)))
+    ensures { λ _. ⌜ ((old : List ℕ) → Hanging (now (words .entry)) old (now (row .entry)) (Backed (now (back .entry))) (now (line .entry)) 0 n
+        → Rehung (now (words .entry)) old (now (row .exit)) (Backed (now (back .entry)))) × (length (now (row .exit)) ≡ length (now (row .entry)))
         × (length (now (line .exit)) ≡ length (now (line .entry))) ⌝ }
 {
     let mut tail = n;
@@ -243,9 +271,9 @@ fn rehang(
     tail: usize,
     line: &mut [u16],
 )
-    requires { ⌜ Woven (length (now row)) (now forth) (now back) × Hangable (now words) (now row) (now back) (now log) m tail
+    requires { ⌜ Woven (length (now row)) (now forth) (now back) × Hangable (now words) (now row) (Backed (now back)) (now log) m tail
         × Line (now row) (now line) × (length (now log) ≤ mostStates) ⌝ }
-    ensures { λ _. ⌜ Rehung (now (words .entry)) (now (row .entry)) (now (row .exit)) (now (back .entry))
+    ensures { λ _. ⌜ Rehung (now (words .entry)) (now (row .entry)) (now (row .exit)) (Backed (now (back .entry)))
         × (length (now (line .exit)) ≡ length (now (line .entry))) ⌝ }
 {
     let n = ask(words, row, forth, log, m, tail, line);
@@ -287,7 +315,7 @@ pub fn phase(
     word: u32,
 ) -> usize
     requires { ⌜ Watching (now words) (now row) (now forth) (now back) (now log) (now line) m from word ⌝ }
-    ensures { λ end. ⌜ Watched (now (words .entry)) (now (words .exit)) (now (row .entry)) (now (row .exit)) (now (back .entry))
+    ensures { λ end. ⌜ Watched (now (words .entry)) (now (words .exit)) (now (row .entry)) (now (row .exit)) (Backed (now (back .entry)))
         (now (log .entry)) (now (log .exit)) m end word × (length (now (line .exit)) ≡ length (now (line .entry))) ⌝ }
 {
     let tail = lost(words, row, back, log, from, m);

@@ -9,10 +9,10 @@ use lib.ListN.{length, getD, set, take, drop, length-set}
 use lib.Seq.{getD-set-same, getD-set-other}
 use Rattle.rules.proofs.FreerLaws.{freer-moves}
 use Rattle.meaning.specs.Promises.{mostStates}
-use Rattle.web.specs.Layout.{mostCells, movesSize, startsOf, endsOf, cellsOf, startAt, endAt, HasRow, CellsOnly, RowSet}
+use Rattle.web.specs.Layout.{mostCells, movesSize, startsOf, endsOf, cellsOf, linksOf, noLink, startAt, endAt, HasRow, CellsOnly, PlaceSet}
 use Rattle.web.specs.Web.{Forth, Storable}
-use Rattle.web.specs.Storing.{Row, Nexts, SameMoves, Filled}
-use Rattle.web.proofs.Layouts.{starts-long, ends-long, cells-long, cells-part, cellsBack, cells-back, cells-only}
+use Rattle.web.specs.Storing.{Row, Nexts, SameMoves, Kindred, Filled}
+use Rattle.web.proofs.Layouts.{starts-long, ends-long, cells-long, links-long, cells-part, cellsBack, cells-back, cells-only}
 
 -- ---- one row
 
@@ -135,15 +135,18 @@ filled-same P Q there back w = record { long = w .long; keeps = w .keeps; row = 
 
 -- A row that was filled in the lent cells is filled in the list, where nothing else has changed.
 pub filled-back : (P : ℕ → Type 0) (at to : ℕ) (moves cells : List ℕ) → length moves ≡ movesSize
-    → Filled P at (take (length moves - 32768) (drop 32768 moves)) cells to
+    → Filled P at (take (49152 - 32768) (drop 32768 moves)) cells to
     → Filled P at (cellsOf moves) (cellsOf (cellsBack moves cells)) to × CellsOnly moves (cellsBack moves cells)
 filled-back P at to moves cells long f = (
-  subst (λ (l : List ℕ). Filled P at (cellsOf moves) l to) (sym (cells-back moves cells long (there .long))) there,
-  cells-only moves cells long (there .long),
+  subst (λ (l : List ℕ). Filled P at (cellsOf moves) l to) (sym (cells-back moves cells long same)) there,
+  cells-only moves cells long same,
 )
   where
     there : Filled P at (cellsOf moves) cells to
-    there = subst (λ (l : List ℕ). Filled P at l cells to) (cells-part moves long) f
+    there = subst (λ (l : List ℕ). Filled P at l cells to) (cells-part moves) f
+
+    same : length cells ≡ mostCells
+    same = there .long ∙ cells-long moves long
 
 -- ---- row after row
 
@@ -231,7 +234,7 @@ module _ (book table : List ℕ) (r : ℕ) where
 
   -- The same in one list: a filled row is set,
   pub set-more : (i at to : ℕ) (old mid new : List ℕ) → length old ≡ movesSize → i < mostStates → to ≤ mostCells → StoredIn book table r i at old
-      → Filled (Nexts book table r (getD table i 0)) at (cellsOf old) (cellsOf mid) to → CellsOnly old mid → RowSet i at to mid new
+      → Filled (Nexts book table r (getD table i 0)) at (cellsOf old) (cellsOf mid) to → CellsOnly old mid → PlaceSet i at to noLink mid new
       → StoredIn book table r (i + 1) to new
   set-more i at to old mid new long inside room s f c w =
       stored-as i to _ _ _ new (w .starts ∙ ap (λ (l : List ℕ). set l i at) (c .starts)) (w .ends ∙ ap (λ (l : List ℕ). set l i to) (c .ends)) (w .cells)
@@ -240,12 +243,33 @@ module _ (book table : List ℕ) (r : ℕ) where
 
   -- and a row is shared.
   pub set-again : (i k at : ℕ) (old new : List ℕ) → length old ≡ movesSize → i < mostStates → Storable book table r → i < r
-      → SameMoves book table k i → StoredIn book table r i at old → RowSet i (startAt old k) (endAt old k) old new
+      → SameMoves book table k i → StoredIn book table r i at old → PlaceSet i (startAt old k) (endAt old k) k old new
       → StoredIn book table r (i + 1) at new
   set-again i k at old new long inside able h same s w =
       stored-as i at _ _ _ new (w .starts) (w .ends) (w .cells)
       (stored-again i k at (startsOf old) (endsOf old) (cellsOf old) (omega (arith, starts-long old long)) (omega (arith, ends-long old long)) able h
       same s)
+
+  -- Before the first place there is no link.
+  pub kin-none : (links : List ℕ) → Kindred book table 0 links
+  kin-none links = record { each = λ k h. absurd (omega arith) }
+
+  -- The last place has its link.
+  pub kin-all : (i : ℕ) (links : List ℕ) → i ≡ r → Kindred book table i links → Kindred book table r links
+  kin-all i links q w = subst (λ (n : ℕ). Kindred book table n links) q w
+
+  -- One link more: to a place of the same class, or nowhere.
+  pub kin-more : (i k : ℕ) (old new : List ℕ) → i < length old → new ≡ set old i k → (k ≡ noLink) ⊎ SameMoves book table k i
+      → Kindred book table i old → Kindred book table (i + 1) new
+  kin-more i k old new inside set-so here kin =
+      subst (λ (l : List ℕ). Kindred book table (i + 1) l) (sym set-so) (record { each = λ j h. by j h (ℕ-discrete j i) })
+    where
+      by : (j : ℕ) → j < i + 1 → Dec (j ≡ i) → (getD (set old i k) j 0 ≡ noLink) ⊎ SameMoves book table (getD (set old i k) j 0) j
+      by j h (yes q) =
+          subst (λ (x : ℕ). (getD (set old i k) x 0 ≡ noLink) ⊎ SameMoves book table (getD (set old i k) x 0) x) (sym q)
+          (subst (λ (x : ℕ). (x ≡ noLink) ⊎ SameMoves book table x i) (sym (getD-set-same old i k 0 inside)) here)
+      by j h (no q) =
+          subst (λ (x : ℕ). (x ≡ noLink) ⊎ SameMoves book table x j) (sym (getD-set-other old i j k 0 q)) (kin .each j (omega arith))
 
   -- All rows are the moves forth.
   pub stored-forth : (i at : ℕ) (moves : List ℕ) → i ≡ r → r ≤ mostStates → length moves ≡ movesSize → at ≤ mostCells

@@ -1,4 +1,5 @@
 pub mod Layouts
+pub mod Chains
 pub mod Filling
 pub mod Lookups
 pub mod Turns

@@ -1,22 +1,27 @@
 // Where stored moves stand in one slice: for each place the cell that its row starts at, then for each place the cell that its row ends before,
-// then the cells. Whoever reads or writes stored moves asks here.
+// then the cells, then for each place a link to another place of its class. Whoever reads or writes stored moves asks here.
 
 ghost use mathlib.Core.Path.{_≡_};
-ghost use Prim.Native.Nat.{_-_, _<_, _≤_};
+ghost use Prim.Native.Nat.{_<_, _≤_};
 ghost use lib.ListN.{length};
 ghost use Rattle.meaning.specs.Promises.{mostStates};
-ghost use Rattle.web.specs.Layout.{mostCells, movesSize, startAt, endAt, cellAt, RowSet, Appended};
+ghost use Rattle.web.specs.Layout.{mostCells, movesSize, noLink, startAt, endAt, cellAt, linkAt, RowSet, LinkSet, PlaceSet, Appended};
 
 // The most cells. Moves are stored for as many places as states are judged.
-pub const MOST_CELLS: usize = 32768;
+pub const MOST_CELLS: usize = 16384;
 
-// Where the ends stand from, and the cells.
+// Where the ends stand from, the cells, and the links.
 pub const ENDS: usize = ground::MOST_STATES;
 
 pub const CELLS: usize = 32768;
 
+pub const LINKS: usize = 49152;
+
 // How long the slice is.
 pub const SIZE: usize = 65536;
+
+// The link that leads nowhere.
+pub const NONE: usize = 65535;
 
 // The cell that place i's row starts at.
 pub fn row_start(moves: &[u16], i: usize) -> usize
@@ -35,19 +40,6 @@ pub fn row_end(moves: &[u16], i: usize) -> usize
     moves[at] as usize
 }
 
-// How many cells place i's row has.
-pub fn row_size(moves: &[u16], i: usize) -> usize
-    requires { ⌜ (length (now moves) ≡ movesSize) × (i < mostStates) ⌝ }
-    ensures { λ n. ⌜ (n ≡ endAt (now (moves .entry)) i - startAt (now (moves .entry)) i) × (n ≤ 65535) ⌝ }
-{
-    let start = row_start(moves, i);
-    let end = row_end(moves, i);
-    if start < end {
-        return end - start;
-    }
-    0
-}
-
 // The place that stands in cell e.
 pub fn cell(moves: &[u16], e: usize) -> usize
     requires { ⌜ (length (now moves) ≡ movesSize) × (e < mostCells) ⌝ }
@@ -55,6 +47,24 @@ pub fn cell(moves: &[u16], e: usize) -> usize
 {
     let at = CELLS + e;
     moves[at] as usize
+}
+
+// Place i's link.
+pub fn link(moves: &[u16], i: usize) -> usize
+    requires { ⌜ (length (now moves) ≡ movesSize) × (i < mostStates) ⌝ }
+    ensures { λ k. ⌜ (k ≡ linkAt (now (moves .entry)) i) × (k ≤ noLink) ⌝ }
+{
+    let at = LINKS + i;
+    moves[at] as usize
+}
+
+// Sets place i's link to k.
+pub fn set_link(moves: &mut [u16], i: usize, k: usize)
+    requires { ⌜ (length (now moves) ≡ movesSize) × (i < mostStates) × (k ≤ noLink) ⌝ }
+    ensures { λ _. ⌜ LinkSet i k (now (moves .entry)) (now (moves .exit)) ⌝ }
+{
+    let at = LINKS + i;
+    moves[at] = k as u16;
 }
 
 // Sets row i to the cells from `start` up to `end`.
@@ -65,6 +75,15 @@ pub fn set_row(moves: &mut [u16], i: usize, start: usize, end: usize)
     let at = ENDS + i;
     moves[i] = start as u16;
     moves[at] = end as u16;
+}
+
+// Sets row i to the cells from `start` up to `end`, and place i's link to k.
+pub fn set_place(moves: &mut [u16], i: usize, start: usize, end: usize, k: usize)
+    requires { ⌜ (length (now moves) ≡ movesSize) × (i < mostStates) × (start ≤ mostCells) × (end ≤ mostCells) × (k ≤ noLink) ⌝ }
+    ensures { λ _. ⌜ PlaceSet i start end k (now (moves .entry)) (now (moves .exit)) ⌝ }
+{
+    set_row(moves, i, start, end);
+    set_link(moves, i, k);
 }
 
 // Puts j into the cell behind the end of row i.

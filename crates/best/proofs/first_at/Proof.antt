@@ -1,21 +1,28 @@
--- `best::first_at` meets its contract. The loop's invariant: none of the first x places is a next state at just that distance.
+-- `best::first_at` meets its contract. The loop's invariant: none of the first x places is a next place at just that distance.
 -- Assumes nothing.
-use mathlib.Core.Path.{_≡_, sym, _∙_}
-use mathlib.Core.Bool.{false, _&&_}
+use mathlib.Core.Path.{_≡_}
 use Prim.Native.Nat.{ℕ, _-_, _<_, _≤_}
 use native.Mathlib.Omega.{arith}
+use borrow.Author.Needs.{needs}
 use borrow.Author.Count.{below-more}
-use lib.Dec.{eqb}
-use Rattle.best.specs.Step.{passesAt, rowAt}
+use Rattle.rules.specs.Table.{To}
+use Rattle.best.specs.Step.{rowAt}
 use Rattle.best.proofs.first_at.Statement.{statement}
 use Rattle.best.proofs.first_at.Tie as tie
 
 abbrev Inv-loop : tie.InvT-loop
-Inv-loop table dist clauses count from r wanted x₀ x =
-    (x ≤ r) × ((y : ℕ) → y < x → (eqb (rowAt dist from y) wanted && passesAt clauses count table y) ≡ false)
+Inv-loop book table dist r signs place from wanted x₀ x =
+    (x ≤ r) × ((y : ℕ) → y < x → (rowAt dist from y ≡ wanted) × To book table place y → ⊥)
 
 abbrev μ-loop : tie.MeasureT-loop
-μ-loop table dist clauses count from r wanted x₀ x = r - x
+μ-loop book table dist r signs place from wanted x₀ x = r - x
+
+-- what was asked, and the loop's head, from where a place was tested
+abbrev start : tie.At-loop Inv-loop μ-loop → tie.Start Inv-loop μ-loop
+start c = c .before .before .before .before .before
+
+abbrev head : tie.After-stands-at Inv-loop μ-loop → tie.At-loop Inv-loop μ-loop
+head c = c .before .before .before
 
 pub first-at-spec : {M : Type 1} → statement M
 first-at-spec =
@@ -24,14 +31,12 @@ first-at-spec =
     Inv-loop
     μ-loop
     (λ c. (omega arith, λ y h. absurd (omega arith)))
+    (λ c. omega (arith, start (c .before) .pre .in-dist))
+    (λ c. omega (arith, start (c .before) .pre .in-dist))
+    (λ c. omega (arith, start (c .before .before) .pre .in-dist))
+    (λ c κs. search needs)
+    (λ c. record { inside = omega arith; earlier = head (c .before) .loop .inv .1; here = λ h. c .before .stands-at .ensures .yes (c .if1 .taken) })
     (λ c. omega arith)
     (λ c. omega arith)
-    (λ c. omega arith)
-    (λ c. omega arith)
-    (λ c. omega arith)
-    (λ c κs. let pre = c .before .before .before .before .before .before .before .pre in (pre .long, pre .few))
-    (λ c. record { inside = omega arith; earlier = c .before .before .before .before .before .loop .inv .1; here = λ h. sym (c .before .stands-at .ensures) ∙ c .if1 .taken })
-    (λ c. omega arith)
-    (λ c. omega arith)
-    (λ c. (omega arith, below-more _ _ (c .before .before .before .before .before .loop .inv .1) (sym (c .before .stands-at .ensures) ∙ c .if1 .left)))
+    (λ c. (omega arith, below-more _ _ (head (c .before) .loop .inv .1) (c .before .stands-at .ensures .never (c .if1 .left))))
     (λ c. record { inside = omega arith; earlier = c .before .loop .inv .1; here = λ h. absurd (omega arith) }))

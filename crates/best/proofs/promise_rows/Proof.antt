@@ -12,14 +12,14 @@ use Rattle.best.proofs.promise_rows.Statement.{statement}
 use Rattle.best.proofs.promise_rows.Tie as tie
 
 abbrev Inv-loop : tie.InvT-loop
-Inv-loop book table words dist₀ r p back queue₀ q₀ dist queue q =
+Inv-loop book table words dist₀ r p back queue₀ signs q₀ dist queue q =
     (q ≤ p) × (length dist ≡ length dist₀) × RowsTo (bookSystem book) table r q dist × (length queue ≡ length queue₀)
 
 abbrev μ-loop : tie.MeasureT-loop
-μ-loop book table words dist₀ r p back queue₀ q₀ dist queue q = p - q
+μ-loop book table words dist₀ r p back queue₀ signs q₀ dist queue q = p - q
 
 abbrev start : tie.At-loop Inv-loop μ-loop → tie.Start Inv-loop μ-loop
-start c = c .before .before .before .before .before .before .before
+start c = c .before .before .before .before .before .before .before .before
 
 -- within the loop's body: row q has room
 room : (c : tie.In-loop Inv-loop μ-loop)
@@ -32,7 +32,7 @@ distances-requires c κs =
     let pre = start head .pre in (
       rows-measurable (pre .0) (head .loop .q) (omega arith),
       omega (arith, room (c .before .before)),
-      followable-queue _ _ _ _ _ _ (pre .4) (head .loop .inv .3),
+      followable-queue _ _ _ _ _ _ _ (pre .4) (head .loop .inv .3),
     )
 
 loop-again : tie.Need-loop-again Inv-loop μ-loop

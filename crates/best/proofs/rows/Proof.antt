@@ -9,11 +9,16 @@ use Rattle.best.proofs.Distances.{rowed-of-none}
 use Rattle.best.proofs.rows.Statement.{statement}
 use Rattle.best.proofs.rows.Tie as tie
 
+-- the entry, from where the promises are counted
+abbrev entry : tie.After-promises → tie.Start
+entry c = c .before .before .before .before .before .before .before .before
+
 promise-rows-requires : tie.Need-promise-rows-requires
 promise-rows-requires c κs =
-    let start = c .before .before .before .before .before .before .before .before .before .before in (
+    let counted = c .before .before .before in
+    let start = entry counted in (
       start .pre .0,
-      c .before .before .before .promises .ensures,
+      counted .promises .ensures,
       omega arith,
       subst (λ (y : ℕ). y * start .args .r ≤ length (start .args .dist .now)) (omega (arith, promises-are (start .args .book .now))) (start .pre .1),
       start .pre .2,
@@ -22,7 +27,7 @@ promise-rows-requires c κs =
 returns : tie.Need-returns
 returns c =
     let wiped = c .before .before .no-distances .ensures in
-    let start = c .before .before .before .before .before .before .before .before .before .before .before .before in
+    let start = entry (c .before .before .before .before .before) in
     let all = rowed-of-none (start .pre .0 .states .livables) (omega (arith, promises-are (start .args .book .now))) (wiped .zeros) in
     record { rowed = all; long = wiped .long }
 
@@ -30,7 +35,7 @@ pub rows-spec : {M : Type 1} → statement M
 rows-spec =
     tie.close
     (tie.spec
-    (λ c κs. search needs)
+    (λ c κs. c .before .before .before .before .before .before .before .pre .0 .states .states .shaped)
     (λ c κs. search needs)
     promise-rows-requires
     (λ c. search needs)

@@ -1,17 +1,13 @@
 -- `best::stands_at` meets its contract: the distance is tested first. Assumes nothing.
 use borrow.Author.Needs.{needs}
-use borrow.Author.Tests.{eq-eqb, ne-eqb}
+use Rattle.ground.proofs.Saying.{says-as, says-no}
 use Rattle.best.proofs.stands_at.Statement.{statement}
 use Rattle.best.proofs.stands_at.Tie as tie
 
-fits-requires : tie.Need-fits-requires
-fits-requires c κs = search needs
-
-returns : tie.Need-returns
-returns c = rw (eq-eqb (c .before .before .before .args .d) (c .before .before .before .args .wanted) (c .before .if1 .taken)) (c .fits2 .ensures)
-
-returns-2 : tie.Need-returns-2
-returns-2 c = rw (ne-eqb (c .before .before .args .d) (c .before .before .args .wanted) (c .if1 .left))
-
 pub stands-at-spec : {M : Type 1} → statement M
-stands-at-spec = tie.close (tie.spec fits-requires returns returns-2)
+stands-at-spec =
+    tie.close
+    (tie.spec
+    (λ c κs. search needs)
+    (λ c. says-as (λ move. (c .before .if1 .taken, move)) (λ both. both .1) (c .meets .ensures))
+    (λ c. says-no (λ both. c .if1 .left (both .0))))

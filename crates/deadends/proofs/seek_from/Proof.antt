@@ -1,33 +1,27 @@
--- `deadends::seek_from` meets its contract. Along the row or along all places the same is found. Assumes nothing.
+-- `deadends::seek_from` meets its contract. Assumes nothing.
+use native.Mathlib.Omega.{arith}
 use borrow.Author.Needs.{needs}
-use Rattle.deadends.proofs.Rows.{forth-readable}
+use Rattle.deadends.proofs.Answers.{sought-from, sought-front, sought-passed}
 use Rattle.deadends.proofs.seek_from.Statement.{statement}
 use Rattle.deadends.proofs.seek_from.Tie as tie
 
-seek-requires : tie.Need-seek-requires
-seek-requires c κs =
-    let pre = c .before .before .before .before .before .before .before .before .pre in
-    (pre .0, pre .1, pre .0 .lawful _ (pre .2), pre .3)
+returns-3 : tie.Need-returns-3
+returns-3 c = let at = c .before in
+    sought-front _ _ _ _ _ _ _ _ _ (omega (arith, at .before .if2 .left)) (λ e. absurd (omega (arith, c .if3 .taken, e))) (at .seek3 .ensures)
 
-seek-row-requires : tie.Need-seek-row-requires
-seek-row-requires c κs =
-    let pre = c .before .before .before .before .before .before .pre in
-    forth-readable _ _ _ _ (pre .0 .few) (pre .4 (c .if1 .left)) _ (pre .2) _ (pre .1)
-
-returns-2 : tie.Need-returns-2
-returns-2 c =
-    let at-if1 = c .before in
-    let pre = at-if1 .before .before .before .before .before .before .pre in
-    (c .seek-row .ensures _ _ _ (pre .4 (at-if1 .if1 .left)) (pre .2), pre .3)
+returns-4 : tie.Need-returns-4
+returns-4 c = let at = c .before .before in
+    sought-from _ _ _ _ _ _ _ _ _ (sought-passed _ _ _ _ _ _ _ _ (omega (arith, c .before .if3 .left)) (at .seek3 .ensures)) (c .seek-listed .ensures)
 
 pub seek-from-spec : {M : Type 1} → statement M
 seek-from-spec =
     tie.close
     (tie.spec
+    (λ c κs. search needs)
     (λ c. search needs)
+    (λ c κs. search needs)
     (λ c. search needs)
-    seek-requires
-    (λ c. search needs)
-    (λ c. c .before .before .seek .ensures)
-    seek-row-requires
-    returns-2)
+    (λ c κs. search needs)
+    returns-3
+    (λ c κs. search needs)
+    returns-4)

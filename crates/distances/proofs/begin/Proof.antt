@@ -23,11 +23,11 @@ begin-spec =
     Inv-loop
     μ-loop
     (λ c. (omega arith, begins-none _ _ _ _ _ _ (c .before .before .before .before .pre .1)))
-    (λ c. let l = c .before .before .before .before .before .before .pre .0 .in-table in omega arith)
-    (λ c. let l = c .before .before .before .before .before .before .before .pre .0 .in-table in omega arith)
+    (λ c. let l = c .before .before .before .before .before .before .pre .0 .states .in-table in omega arith)
+    (λ c. let l = c .before .before .before .before .before .before .before .pre .0 .states .in-table in omega arith)
     (λ c. let l = c .before .before .before .before .before .before .before .pre .0 .in-words in omega arith)
     (λ c. let l = c .before .before .before .before .before .before .before .before .pre .0 .in-words in omega arith)
-    (λ c κs. c .before .before .before .before .before .before .before .before .pre .0 .shaped)
+    (λ c κs. c .before .before .before .before .before .before .before .before .pre .0 .states .shaped)
     (λ c. let l = c .before .before .before .before .loop .inv .1 .long in omega arith)
     (λ c. let l = c .before .before .before .before .loop .inv .1 .long in omega arith)
     (λ c. omega arith)

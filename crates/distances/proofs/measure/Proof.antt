@@ -3,21 +3,21 @@
 use mathlib.Core.Path.{_≡_, _∙_, sym, refl}
 use native.Mathlib.Omega.{arith}
 use lib.ListN.{length}
-use Rattle.rules.specs.Book.{gatherSize}
+use Rattle.distances.specs.Layers.{slots}
 use Rattle.distances.proofs.Turns.{Measuring, measuring-none, measuring-spreadable, measuring-next, measuring-quiet, measuring-full}
 use Rattle.distances.proofs.measure.Statement.{statement}
 use Rattle.distances.proofs.measure.Tie as tie
 
 abbrev Inv-loop : tie.InvT-loop
-Inv-loop book k table words r list₀ near₀ pack₀ left₀ d₀ list near pack left d =
-    Measuring book k table words r left d near list × (length pack ≡ gatherSize) × (length list ≡ length list₀)
+Inv-loop book k table words r list₀ near₀ signs places₀ left₀ d₀ list near places left d =
+    Measuring book k table words r left d near list × (length places ≡ slots) × (length list ≡ length list₀)
 
 abbrev μ-loop : tie.MeasureT-loop
-μ-loop book k table words r list₀ near₀ pack₀ left₀ d₀ list near pack left d = left
+μ-loop book k table words r list₀ near₀ signs places₀ left₀ d₀ list near places left d = left
 
 -- the entry, seen from the call of `begin` and from the loop
 abbrev before-begin : tie.After-begin Inv-loop μ-loop → tie.Start Inv-loop μ-loop
-before-begin c = c .before .before .before .before .before .before .before
+before-begin c = c .before .before .before .before .before .before .before .before
 
 abbrev entry : tie.At-loop Inv-loop μ-loop → tie.Start Inv-loop μ-loop
 entry l = before-begin (l .before .before .before .before .before .before .before .before)
@@ -34,7 +34,7 @@ line-up-requires : tie.Need-line-up-requires Inv-loop μ-loop
 line-up-requires c κs =
     let at-begin = c .before .before .before .before in
     let pre = before-begin at-begin .pre in
-    (omega (arith, at-begin .begin .ensures .sure .long), pre .2, pre .0 .few)
+    (omega (arith, at-begin .begin .ensures .sure .long), pre .2, pre .0 .states .few)
 
 loop-holds : tie.Need-loop-holds Inv-loop μ-loop
 loop-holds c =
@@ -49,7 +49,10 @@ loop-holds c =
 
 layer-requires : tie.Need-layer-requires Inv-loop μ-loop
 layer-requires c κs =
-    let l = c .before .before .before .before in (measuring-spreadable _ _ _ _ _ (entry l .pre .0) _ _ _ _ (l .loop .inv .0) (omega arith), l .loop .inv .1)
+    let l = c .before .before .before .before in (
+      measuring-spreadable _ _ _ _ _ (entry l .pre .0) _ _ _ _ (l .loop .inv .0) _ (entry l .pre .3) (omega arith),
+      omega (arith, l .loop .inv .1),
+    )
 
 returns : tie.Need-returns Inv-loop μ-loop
 returns c =
@@ -64,7 +67,7 @@ loop-again c =
     let a = c .before .before .before .before .before .before in
     let l = turn a in (
       measuring-next _ _ _ _ _ (entry l .pre .0) _ _ _ _ (l .loop .inv .0) _ _ _ (a .layer .ensures .0) (c .if1 .left),
-      a .layer .ensures .1,
+      a .layer .ensures .1 ∙ l .loop .inv .1,
       a .layer .ensures .0 .same ∙ l .loop .inv .2,
     )
 
@@ -74,7 +77,7 @@ measure-spec =
     (tie.spec
     Inv-loop
     μ-loop
-    (λ c κs. let pre = c .before .before .before .before .before .before .pre in (pre .0, pre .1))
+    (λ c κs. let pre = c .before .before .before .before .before .before .before .pre in (pre .0, pre .1))
     line-up-requires
     loop-holds
     (λ c. sym (c .before .before .before .before .loop .inv .1))
@@ -82,7 +85,7 @@ measure-spec =
     (λ c. c .before .before .before .before .before .before .layer .ensures .0 .same ∙ same-list (turn (c .before .before .before .before .before .before)))
     (λ c. c .before .before .before .before .before .before .layer .ensures .0 .listed .long ∙ sym (entry (turn (c .before .before .before .before .before .before)) .pre .1))
     returns
-    (λ c. let l = turn (c .before .before .before .before .before .before) in omega (arith, l .loop .inv .0 .room, entry l .pre .0 .few))
+    (λ c. let l = turn (c .before .before .before .before .before .before) in omega (arith, l .loop .inv .0 .room, entry l .pre .0 .states .few))
     (λ c. omega (arith, c .before .before .before .before .before .before .layer .ensures .0 .most, c .if1 .left))
     loop-again
     (λ c. same-list (c .before))

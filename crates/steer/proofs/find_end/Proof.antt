@@ -14,10 +14,10 @@ use Rattle.steer.proofs.find_end.Statement.{statement}
 use Rattle.steer.proofs.find_end.Tie as tie
 
 abbrev Inv-loop : tie.InvT-loop
-Inv-loop book table words₀ dist r forth place₀ aim₀ b₀ words place aim b = Walking book table dist forth words₀ words r b place aim
+Inv-loop book table words₀ dist r forth signs place₀ aim₀ b₀ words place aim b = Walking book table dist forth signs words₀ words r b place aim
 
 abbrev μ-loop : tie.MeasureT-loop
-μ-loop book table words₀ dist r forth place₀ aim₀ b₀ words place aim b = r * aimsOf (bookSystem book) - b
+μ-loop book table words₀ dist r forth signs place₀ aim₀ b₀ words place aim b = r * aimsOf (bookSystem book) - b
 
 -- within the loop's body: where the walk has come to, and that its pair is not marked
 abbrev head : tie.Then1 Inv-loop μ-loop → tie.At-loop Inv-loop μ-loop
@@ -38,8 +38,8 @@ find-end-spec =
     (tie.spec
     Inv-loop
     μ-loop
-    (λ c κs. let states = c .before .before .before .before .before .pre .0 .states in (states .shaped, states .in-table))
-    (λ c. let pre = c .before .before .before .before .before .before .pre in walking-begins (pre .0) (pre .3) (pre .1) (pre .2) _ (c .first-place .ensures))
+    (λ c κs. let states = c .before .before .before .before .before .before .pre .0 .states .states in (states .shaped, states .in-table))
+    (λ c. let pre = c .before .before .before .before .before .before .before .pre in walking-begins (pre .0) (pre .3) (pre .1) (pre .2) _ (c .first-place .ensures))
     (λ c. omega (arith, walking-small (c .loop .inv)))
     (λ c. walking-at (c .before .loop .inv))
     (λ c κs. omega (arith, walking-aim (c .before .loop .inv)))

@@ -1,38 +1,45 @@
--- `steer::steer` meets its contract: the small room is used where the rows fit. Assumes nothing.
+-- `steer::steer` meets its contract: what room is lent depends on how many states there are, and on whether their moves could be stored.
+-- Assumes nothing.
 use mathlib.Core.Path.{subst}
-use Prim.Native.Nat.{ℕ, _*_, _≤_}
-use native.Mathlib.Omega.{arith}
 use borrow.Author.Needs.{needs}
-use Rattle.steer.specs.Walk.{fewDistances}
-use Rattle.steer.proofs.Trails.{few-rows}
+use Rattle.steer.specs.Walk.{WalkedAlong}
+use Rattle.steer.proofs.Ways.{walked-after}
 use Rattle.steer.proofs.steer.Statement.{statement}
 use Rattle.steer.proofs.steer.Tie as tie
 
-abbrev start : tie.After-count-aims → tie.Start
-start c = c .before .before .before .before .before
+-- the run was walked along stored moves
+returns-3 : tie.Need-returns-3
+returns-3 c =
+    let at = c .before in
+    subst (WalkedAlong _ _ _ _ _) (at .steps .given .1) (at .before .before .before .before .before .before .walk-stored .ensures)
 
-walk-small-requires : tie.Need-walk-small-requires
-walk-small-requires c κs =
-    let small = c .before .before .before in
-    let counted = small .before in
-    let few = small .is-small .ensures (c .before .before .if1 .taken) in (
-      start counted .pre,
-      subst (λ (y : ℕ). y * start counted .args .r ≤ fewDistances) (counted .count-aims .ensures) (few .0),
-      few .1,
-    )
+-- they had no room, and nothing was touched
+returns-4 : tie.Need-returns-4
+returns-4 c =
+    let walked = c .before .before .before .before in
+    let told = walked .before .before .before in
+    let at = told .before .before .before .before .before .before in
+    walked-after (subst (WalkedAlong _ _ _ _ _) (told .enum-told .given .1) (at .walk-stored .ensures)) (walked .walk-many .ensures)
 
 pub steer-spec : {M : Type 1} → statement M
 steer-spec =
     tie.close
     (tie.spec
     (λ c κs. search needs)
-    (λ c. omega (arith, few-rows (start c .pre .states) (c .count-aims .result) (c .count-aims .ensures)))
-    (λ c κs. search needs)
-    walk-small-requires
     (λ c. search needs)
     (λ c. search needs)
     (λ c. search needs)
     (λ c κs. search needs)
     (λ c. search needs)
     (λ c. search needs)
-    (λ c. search needs))
+    (λ c. search needs)
+    (λ c κs. search needs)
+    (λ c. search needs)
+    (λ c. search needs)
+    (λ c. search needs)
+    returns-3
+    (λ c. search needs)
+    (λ c κs. search needs)
+    (λ c. search needs)
+    (λ c. search needs)
+    returns-4)

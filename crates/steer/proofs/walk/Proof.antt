@@ -9,7 +9,7 @@ use Rattle.steer.proofs.walk.Tie as tie
 
 -- the places of the calls, each from the next
 abbrev start : tie.After-wipe-front → tie.Start
-start c = c .before .before .before .before .before .before .before .before .before .before
+start c = c .before .before .before .before .before .before .before .before .before .before .before
 
 abbrev wiped : tie.After-rows → tie.After-wipe-front
 wiped c = c .before .before .before .before .before .before

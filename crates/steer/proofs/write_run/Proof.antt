@@ -10,15 +10,15 @@ use Rattle.steer.proofs.write_run.Statement.{statement}
 use Rattle.steer.proofs.write_run.Tie as tie
 
 abbrev Inv-loop : tie.InvT-loop
-Inv-loop book table run₀ dist r b last goal forth place₀ aim₀ a₀ i₀ run place aim a i =
-    Known book table dist run₀ r b last goal × Onward book table r forth × (i ≤ b) × Writing (bookSystem book) table b last goal run₀ run r i place aim a
+Inv-loop book table run₀ dist r b last goal forth signs place₀ aim₀ a₀ i₀ run place aim a i =
+    Known book table dist run₀ r b last goal × Onward book table r forth signs × (i ≤ b) × Writing (bookSystem book) table b last goal run₀ run r i place aim a
 
 abbrev μ-loop : tie.MeasureT-loop
-μ-loop book table run₀ dist r b last goal forth place₀ aim₀ a₀ i₀ run place aim a i = b - i
+μ-loop book table run₀ dist r b last goal forth signs place₀ aim₀ a₀ i₀ run place aim a i = b - i
 
 loop-holds : tie.Need-loop-holds Inv-loop μ-loop
 loop-holds c =
-    let start = c .before .before .before .before .before .before in
+    let start = c .before .before .before .before .before .before .before in
     let known = start .pre .0 in
     (known, start .pre .1, omega arith, writing-starts (start .args .run .now) (known .walkable .states) (c .first-place .result) (c .first-place .ensures) (known .cut))
 
@@ -39,10 +39,10 @@ write-run-spec =
     (tie.spec
     Inv-loop
     μ-loop
-    (λ c κs. let states = c .before .before .before .before .before .pre .0 .walkable .states in (states .shaped, states .in-table))
+    (λ c κs. let states = c .before .before .before .before .before .before .pre .0 .walkable .states .states in (states .shaped, states .in-table))
     loop-holds
-    (λ c. let inv = c .before .loop .inv in omega (arith, inv .3 .at .inside, inv .0 .walkable .states .few))
-    (λ c. let inv = c .before .before .loop .inv in omega (arith, inv .3 .at .inside, inv .0 .walkable .states .in-table))
+    (λ c. let inv = c .before .loop .inv in omega (arith, inv .3 .at .inside, inv .0 .walkable .states .states .few))
+    (λ c. let inv = c .before .before .loop .inv in omega (arith, inv .3 .at .inside, inv .0 .walkable .states .states .in-table))
     (λ c. omega (arith, c .before .before .loop .inv .0 .cut .few))
     (λ c. let inv = c .before .before .loop .inv in omega (arith, inv .3 .long, inv .0 .fits, c .before .loop-test .taken))
     (λ c κs. tt)

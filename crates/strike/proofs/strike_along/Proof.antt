@@ -2,9 +2,14 @@
 use mathlib.Core.Path.{refl}
 use borrow.Author.Needs.{needs}
 use native.Mathlib.Omega.{arith}
-use Rattle.strike.proofs.Moving.{stored-along}
+use Rattle.strike.proofs.Moving.{rows-room}
 use Rattle.strike.proofs.strike_along.Statement.{statement}
 use Rattle.strike.proofs.strike_along.Tie as tie
+
+rounds-along-requires : tie.Need-rounds-along-requires
+rounds-along-requires c κs =
+    let pre = c .before .before .before .before .before .before .before .before .before .pre in
+    (record { stored = pre .0; roomed = rows-room 16384 (pre .0 .asked) (pre .0 .asked .few) (omega arith) refl refl refl }, pre .1)
 
 pub strike-along-spec : {M : Type 1} → statement M
 strike-along-spec =
@@ -13,6 +18,6 @@ strike-along-spec =
     (λ c. search needs)
     (λ c. search needs)
     (λ c. search needs)
-    (λ c κs. let pre = c .before .before .before .before .before .before .before .before .before .pre in (stored-along (pre .0) refl refl refl, pre .1))
+    rounds-along-requires
     (λ c. search needs)
     (λ c. search needs))

@@ -1,25 +1,32 @@
--- `strike::strike_few` meets its contract. Assumes nothing.
+-- `strike::strike_few` meets its contract: there is room for 512 places. Assumes nothing.
 use mathlib.Core.Path.{refl}
 use borrow.Author.Needs.{needs}
 use native.Mathlib.Omega.{arith}
-use Rattle.strike.proofs.Storing.{none-stored}
+use lib.ListN.{getD-replicate}
+use Rattle.strike.proofs.Running.{strikable-lawful}
+use Rattle.strike.proofs.Pointing.{tests-strikable}
 use Rattle.strike.proofs.strike_few.Statement.{statement}
 use Rattle.strike.proofs.strike_few.Tie as tie
 
-rounds-requires : tie.Need-rounds-requires
-rounds-requires c κs =
-    let pre = c .before .before .before .before .before .before .before .before .before .pre in
-    (pre .0, pre .1, pre .2, omega (arith, pre .3), none-stored _ _ _ _ _ _ refl refl (omega (arith, pre .3)))
+rounds-by-tests-requires : tie.Need-rounds-by-tests-requires
+rounds-by-tests-requires c κs =
+    let pre = c .before .before .before .before .before .before .before .before .before .before .before .pre in
+    let signed = c .before .before .before .before .before .before .fill .ensures .0 in (
+      tests-strikable 512 (pre .0) signed (omega (arith, pre .2)) (omega arith) refl refl refl
+          (λ i h. getD-replicate 8704 i 0 0 (omega (arith, h, pre .2))),
+      pre .1,
+    )
 
 pub strike-few-spec : {M : Type 1} → statement M
 strike-few-spec =
     tie.close
     (tie.spec
     (λ c. search needs)
+    (λ c κs. (strikable-lawful _ _ _ _ (c .before .before .before .before .pre .0), omega arith))
     (λ c. search needs)
     (λ c. search needs)
     (λ c. search needs)
-    rounds-requires
     (λ c. search needs)
+    rounds-by-tests-requires
     (λ c. search needs)
     (λ c. search needs))

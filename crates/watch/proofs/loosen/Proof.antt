@@ -36,7 +36,7 @@ cast-place c = let l = c .before in
 
 redirect-requires : tie.Need-redirect-requires Inv-loop μ-loop
 redirect-requires c κs = let l = c .before .before .before in
-    loosening-ask (l .before .before .before .before .before .before .pre .0) (l .before .loop .inv .2) (l .before .loop .inv .0) (l .loop-test .taken) (l .before .before .before .before .before .before .pre .1)
+    loosening-ask (l .before .before .before .before .before .before .pre .0) (l .before .loop .inv .2) (l .before .before .before .before .before .before .pre .1) (l .before .loop .inv .0) (l .loop-test .taken) (l .before .before .before .before .before .before .pre .2)
 
 add-h : tie.Need-add-h Inv-loop μ-loop
 add-h c = let l = c .before .before .before .before .before .before .before .before in omega (arith, within l, l .loop-test .taken, l .before .before .before .before .before .before .pre .0 .pointed .few)
@@ -51,7 +51,7 @@ loop-again c =
     let T = c .before .before .before .before .redirect .ensures in (
       omega (arith, l .before .loop .inv .0),
       omega (arith, l .loop-test .taken, T .grows),
-      loosening-more (l .before .before .before .before .before .before .pre .0) (l .before .loop .inv .2) (l .before .loop .inv .0) (l .loop-test .taken) T,
+      loosening-more (l .before .before .before .before .before .before .pre .0) (l .before .loop .inv .2) (λ i k p. p) (l .before .loop .inv .0) (l .loop-test .taken) T,
     )
 
 returns : tie.Need-returns Inv-loop μ-loop

@@ -26,7 +26,7 @@ returns c =
     let rehung = fell .before .before .before .before .before .before .before .before in
     let lost = rehung .before .before .before .before .before .before .before .before .before in
     let start = lost .before .before .before .before .before .before .before .before .before .before in (
-      phase-watched (start .pre .before) (lost .lost .ensures) (start .pre .some) (start .pre .woven .backward) (rehung .rehang .ensures .0) (fell .fall .ensures),
+      phase-watched (start .pre .before) (lost .lost .ensures) (start .pre .some) (rehung .rehang .ensures .0) (fell .fall .ensures),
       rehung .rehang .ensures .1,
     )
 
@@ -34,7 +34,7 @@ pub phase-spec : {M : Type 1} → statement M
 phase-spec =
     tie.close
     (tie.spec
-    (λ c κs. (c .before .before .before .before .before .before .before .before .before .pre .before, c .before .before .before .before .before .before .before .before .before .pre .log-few))
+    (λ c κs. let start = c .before .before .before .before .before .before .before .before .before in (start .pre .before, start .pre .woven .backward, start .pre .log-few))
     rehang-requires
     fall-requires
     (λ c. search needs)

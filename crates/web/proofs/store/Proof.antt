@@ -11,7 +11,8 @@ turn-requires c κs =
     let at-if1 = c .before .before in
     let at-forth = at-if1 .before .before .before in
     let pre = at-forth .before .before .before .before .before .before .pre in
-    (forth-turnable _ _ _ _ (pre .0 .few) (at-forth .store-forth .ensures .0 (at-if1 .if1 .taken)), pre .2)
+    let F = at-forth .store-forth .ensures .0 (at-if1 .if1 .taken) in
+    (forth-turnable _ _ _ _ (pre .0 .few) (F .0) (F .1), pre .2)
 
 returns : tie.Need-returns
 returns c =
@@ -19,7 +20,8 @@ returns c =
     let at-if1 = at-turn .before .before .before in
     let at-forth = at-if1 .before .before .before in
     let F = at-forth .store-forth .ensures .0 (at-if1 .if1 .taken) in
-    (both refl F (at-turn .turn .ensures .0 (c .if2 .taken) _ _ (F .rows)), F .long, at-turn .turn .ensures .1)
+    let able = at-forth .before .before .before .before .before .before .pre .0 in
+    (both refl (F .0) (at-turn .turn .ensures .0 (c .if2 .taken) _ _ able (F .0 .rows) (F .1)), F .0 .long, at-turn .turn .ensures .1)
 
 returns-2 : tie.Need-returns-2
 returns-2 c =

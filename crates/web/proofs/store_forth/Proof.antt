@@ -1,25 +1,28 @@
--- `web::store_forth` meets its contract. The loop's invariant: the rows of the first i places are stored below `at`, there are places for classes,
--- and the sum of the moves is small. Assumes nothing.
-use mathlib.Core.Path.{_≡_, refl, sym, _∙_}
-use Prim.Native.Nat.{_+_, _-_, _≤_, _<_}
+-- `web::store_forth` meets its contract. The loop's invariant: the rows of the first i places are stored below `at`, their links lead to places of
+-- their classes, and there are places for classes. Assumes nothing.
+use mathlib.Core.Path.{_≡_, refl, sym, ap, _∙_}
+use mathlib.Core.List.{List}
+use Prim.Native.Nat.{ℕ, _-_, _≤_, _<_}
+use mathlib.Core.Logic.{inl, inr}
 use native.Mathlib.Omega.{arith}
-use lib.ListN.{length}
+use lib.ListN.{length, set}
 use mathlib.Core.Bool.{true≢false}
 use Rattle.classes.specs.Classes.{manyPlaces}
 use Rattle.meaning.specs.Promises.{mostStates}
-use Rattle.web.specs.Layout.{mostCells, movesSize}
-use Rattle.web.specs.Storing.{listSize}
-use Rattle.web.proofs.Filling.{StoredIn, stored-none, stored-has, set-more, set-again, stored-forth}
+use Rattle.web.specs.Layout.{mostCells, movesSize, noLink, linksOf}
+use Rattle.web.specs.Storing.{listSize, Kindred}
+use Rattle.web.proofs.Filling.{StoredIn, stored-none, stored-has, set-more, set-again, stored-forth, kin-none, kin-more, kin-all}
+use Rattle.web.proofs.Layouts.{links-long}
 use Rattle.web.proofs.store_forth.Statement.{statement}
 use Rattle.web.proofs.store_forth.Tie as tie
 
 abbrev Inv-loop : tie.InvT-loop
-Inv-loop book table r moves₀ room₀ places₀ luck₀ sum₀ at₀ i₀ moves room places luck sum at i =
+Inv-loop book table r moves₀ room₀ places₀ luck₀ at₀ i₀ moves room places luck at i =
     (i ≤ r) × (at ≤ mostCells) × StoredIn book table r i at moves × (length moves ≡ movesSize) × (length room ≡ listSize)
-    × (length places ≡ manyPlaces) × (sum ≤ mostCells + 65535)
+    × (length places ≡ manyPlaces) × Kindred book table i (linksOf moves)
 
 abbrev μ-loop : tie.MeasureT-loop
-μ-loop book table r moves₀ room₀ places₀ luck₀ sum₀ at₀ i₀ moves room places luck sum at i = r - i
+μ-loop book table r moves₀ room₀ places₀ luck₀ at₀ i₀ moves room places luck at i = r - i
 
 -- the entry, seen from the loop
 abbrev entry : tie.At-loop Inv-loop μ-loop → tie.Start Inv-loop μ-loop
@@ -39,12 +42,9 @@ shared c = c .before .before
 abbrev filled : tie.After-fill Inv-loop μ-loop → tie.After-same-moves Inv-loop μ-loop
 filled c = c .before .before .before .before
 
--- the place is one of the first r, and there are few; so are the moves so far
+-- the place is one of the first r, and there are few
 inside : (c : tie.Else1 Inv-loop μ-loop) → (turn c .loop .i < entry (turn c) .args .r) × (turn c .loop .i < mostStates)
 inside c = (c .before .before .loop-test .taken, omega (arith, c .before .before .loop-test .taken, entry (turn c) .pre .0 .few))
-
-few : (c : tie.Else1 Inv-loop μ-loop) → turn c .loop .sum ≤ mostCells
-few c = omega (arith, c .before .budget .ensures, c .if1 .left)
 
 share-row-requires : tie.Need-share-row-requires Inv-loop μ-loop
 share-row-requires c κs =
@@ -55,15 +55,9 @@ share-row-requires c κs =
     let has = stored-has _ _ _ _ _ _ _ (l .loop .inv .3) (omega (arith, l .loop .inv .0, pre .0 .few)) (l .loop .inv .1) (l .loop .inv .2) (same .before) in
     (l .loop .inv .3, inside (within at-same) .1, has .0, has .1)
 
-row-size-requires : tie.Need-row-size-requires Inv-loop μ-loop
-row-size-requires c κs =
-    let at-share = c .before .before .before in
-    let e = within (shared at-share .before) in
-    (at-share .share-row .ensures .long ∙ turn e .loop .inv .3, inside e .1)
-
 loop-again : tie.Need-loop-again Inv-loop μ-loop
 loop-again c =
-    let at-share = c .before .before .before .before in
+    let at-share = c .before .before in
     let at-if2 = shared at-share in
     let at-same = at-if2 .before in
     let e = within at-same in
@@ -75,7 +69,8 @@ loop-again c =
       at-share .share-row .ensures .long ∙ l .loop .inv .3,
       l .loop .inv .4,
       at-same .before .before .likely .ensures ∙ l .loop .inv .5,
-      omega (arith, few e, c .row-size .ensures .1),
+      kin-more _ _ (entry l .args .r) _ _ _ _ (omega (arith, links-long (l .loop .moves) (l .loop .inv .3), inside e .1)) (at-share .share-row .ensures .links)
+          (inr (at-same .same-moves .ensures (at-if2 .if2 .taken))) (l .loop .inv .6),
     )
 
 fill-requires : tie.Need-fill-requires Inv-loop μ-loop
@@ -96,8 +91,8 @@ returns-2 c =
     let at-fill = c .before .before .before .before in
     (λ e. absurd (true≢false (sym e)), at-fill .fill .ensures .1 .long ∙ turn (within (filled at-fill)) .loop .inv .3)
 
-set-row-requires : tie.Need-set-row-requires Inv-loop μ-loop
-set-row-requires c κs =
+set-place-requires : tie.Need-set-place-requires Inv-loop μ-loop
+set-place-requires c κs =
     let at-fill = c .before .before .before .before .before in
     let e = within (filled at-fill) in
     let l = turn e in (
@@ -105,18 +100,12 @@ set-row-requires c κs =
       inside e .1,
       l .loop .inv .1,
       omega (arith, c .before .if3 .left),
+      omega arith,
     )
-
-row-size-requires-2 : tie.Need-row-size-requires-2 Inv-loop μ-loop
-row-size-requires-2 c κs =
-    let at-set = c .before .before .before in
-    let at-fill = at-set .before .before .before .before .before .before in
-    let e = within (filled at-fill) in
-    (at-set .set-row .ensures .long ∙ at-fill .fill .ensures .1 .long ∙ turn e .loop .inv .3, inside e .1)
 
 loop-again-2 : tie.Need-loop-again-2 Inv-loop μ-loop
 loop-again-2 c =
-    let at-set = c .before .before .before .before in
+    let at-set = c .before .before in
     let at-fill = at-set .before .before .before .before .before .before in
     let at-same = filled at-fill in
     let e = within at-same in
@@ -124,17 +113,21 @@ loop-again-2 c =
       omega (arith, inside e .0),
       omega (arith, at-set .before .before .if3 .left),
       set-more _ _ _ _ _ _ _ _ _ (l .loop .inv .3) (inside e .1) (omega (arith, at-set .before .before .if3 .left)) (l .loop .inv .2)
-          (at-fill .fill .ensures .0) (at-fill .fill .ensures .1) (at-set .set-row .ensures),
-      at-set .set-row .ensures .long ∙ at-fill .fill .ensures .1 .long ∙ l .loop .inv .3,
+          (at-fill .fill .ensures .0) (at-fill .fill .ensures .1) (at-set .set-place .ensures),
+      at-set .set-place .ensures .long ∙ at-fill .fill .ensures .1 .long ∙ l .loop .inv .3,
       at-fill .fill .ensures .2,
       at-same .before .before .likely .ensures ∙ l .loop .inv .5,
-      omega (arith, few e, c .row-size2 .ensures .1),
+      kin-more _ _ (entry l .args .r) _ _ _ _ (omega (arith, links-long (l .loop .moves) (l .loop .inv .3), inside e .1))
+          (at-set .set-place .ensures .links ∙ ap (λ (x : List ℕ). set x (l .loop .i) noLink) (at-fill .fill .ensures .1 .links)) (inl refl) (l .loop .inv .6),
     )
 
 returns-3 : tie.Need-returns-3 Inv-loop μ-loop
 returns-3 c =
     let l = c .before in (
-      λ e. stored-forth _ _ _ _ _ _ (omega arith) (entry l .pre .0 .few) (l .loop .inv .3) (l .loop .inv .1) (l .loop .inv .2),
+      λ e. (
+        stored-forth _ _ _ _ _ _ (omega arith) (entry l .pre .0 .few) (l .loop .inv .3) (l .loop .inv .1) (l .loop .inv .2),
+        kin-all _ _ _ _ _ (omega arith) (l .loop .inv .6),
+      ),
       l .loop .inv .3,
     )
 
@@ -144,7 +137,7 @@ store-forth-spec =
     (tie.spec
     Inv-loop
     μ-loop
-    (λ c. (omega arith, omega arith, stored-none _ _ _ _ _ _, c .before .before .before .pre .1, refl, refl, omega arith))
+    (λ c. (omega arith, omega arith, stored-none _ _ _ _ _ _, c .before .before .before .pre .1, refl, refl, kin-none _ _ (c .before .before .before .args .r) _))
     (λ c κs. omega (arith, entry (c .before) .pre .0 .few))
     (λ c. let l = c .before .before .before in l .loop .inv .3 ∙ sym (entry l .pre .1))
     (λ c. (λ e. absurd (true≢false (sym e)), c .before .before .before .loop .inv .3))
@@ -159,20 +152,16 @@ store-forth-spec =
     let able = entry (turn e) .pre .0 in
     (able .shaped, omega (arith, e .before .before .loop-test .taken, able .in-table)))
     share-row-requires
-    row-size-requires
-    (λ c. omega (arith, few (within (shared (c .before .before .before .before) .before)), c .row-size .ensures .1))
-    (λ c. omega (arith, inside (within (shared (c .before .before .before .before) .before)) .1))
-    (λ c. omega (arith, inside (within (shared (c .before .before .before .before) .before)) .0))
+    (λ c. omega (arith, inside (within (shared (c .before .before) .before)) .1))
+    (λ c. omega (arith, inside (within (shared (c .before .before) .before)) .0))
     loop-again
     (λ c. sym (turn (within (c .before .before)) .loop .inv .4))
     fill-requires
     same-length-2
     returns-2
-    set-row-requires
-    row-size-requires-2
-    (λ c. omega (arith, few (within (filled (c .before .before .before .before .before .before .before .before .before .before))), c .row-size2 .ensures .1))
-    (λ c. omega (arith, inside (within (filled (c .before .before .before .before .before .before .before .before .before .before))) .1))
-    (λ c. omega (arith, inside (within (filled (c .before .before .before .before .before .before .before .before .before .before))) .0))
+    set-place-requires
+    (λ c. omega (arith, inside (within (filled (c .before .before .before .before .before .before .before .before))) .1))
+    (λ c. omega (arith, inside (within (filled (c .before .before .before .before .before .before .before .before))) .0))
     loop-again-2
     (λ c. c .before .loop .inv .3 ∙ sym (entry (c .before) .pre .1))
     returns-3)

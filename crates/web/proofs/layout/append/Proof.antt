@@ -27,4 +27,4 @@ append-spec =
     (λ c. search needs)
     slice-write-moves-2
     (λ c. search needs)
-    (λ c. appended _ _ _ _ (c .before .before .before .pre .1) (c .row-end .ensures .0)))
+    (λ c. appended _ _ _ _ (c .before .before .before .pre .1) (c .before .before .before .pre .3) (c .row-end .ensures .0)))

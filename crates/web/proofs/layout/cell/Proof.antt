@@ -10,7 +10,7 @@ cast-result : tie.Need-cast-result
 cast-result c = omega (arith, c .shared-slice-known .given (32768 + c .before .args .e))
 
 returns : tie.Need-returns
-returns c = cell-read _ _
+returns c = cell-read _ _ (c .before .pre .1)
 
 pub cell-spec : {M : Type 1} → statement M
 cell-spec = tie.close (tie.spec (λ c. search needs) (λ c. search needs) (λ c. search needs) cast-result returns)

@@ -1,0 +1,40 @@
+-- `steer::walk_stored` meets its contract. As many distances as there can be have room, and the moves are stored both ways, or nothing is touched.
+-- Assumes nothing.
+use mathlib.Core.Path.{refl}
+use borrow.Author.Needs.{needs}
+use Rattle.best.proofs.Books.{table-storable}
+use Rattle.steer.proofs.Trails.{few-rows}
+use Rattle.steer.proofs.Ways.{stored-ways}
+use Rattle.steer.proofs.walk_stored.Statement.{statement}
+use Rattle.steer.proofs.walk_stored.Tie as tie
+
+-- the entry, from where the moves are stored
+abbrev start : tie.After-store → tie.Start
+start c = c .before .before .before .before .before .before .before
+
+walk-requires : tie.Need-walk-requires
+walk-requires c κs =
+    let test = c .before .before .before .before .before .before .before in
+    let at = test .before .before .before in
+    let pre = start at .pre in
+    let ways = stored-ways _ _ (at .store .ensures .0) (test .if1 .left) (pre .states .states .few) in
+    (pre, few-rows (pre .states) 16384 (pre .states .states .few), ways .0, ways .1)
+
+pub walk-stored-spec : {M : Type 1} → statement M
+walk-stored-spec =
+    tie.close
+    (tie.spec
+    (λ c. search needs)
+    (λ c. search needs)
+    (λ c κs. (table-storable (c .before .before .before .before .before .before .pre .states), refl, refl))
+    (λ c. (refl, refl))
+    (λ c. search needs)
+    (λ c. search needs)
+    (λ c. search needs)
+    (λ c. search needs)
+    (λ c. search needs)
+    (λ c. search needs)
+    walk-requires
+    (λ c. search needs)
+    (λ c. search needs)
+    (λ c. search needs))
