@@ -51,16 +51,16 @@
  * Stack, in pages of 4,096 bytes: 256 for the judge, for a class and for the two calls about rules that fight, 4 for the strike checker, 4 for
  * the audit, 2 for the run checker, 1 for the reader; what the caller and signal handlers take comes on top. host/c/stack.c runs each call on
  * a fenced stack of just this size, on sheets of 24 letters that are judged to the end and on a bad one, and prints what they take: the judge,
- * a class, the strike checker, the audit, the run checker and the reader at most 1,036,672, 1,036,880, 16,244, 12,200, 7,192 and 280 bytes,
- * naxxurbi_clash and naxxurbi_check_clash 1,041,440 and 1,041,184. Of the audit's, 3,056 are the loader's, the first time that memcpy is called.
+ * a class, the strike checker, the audit, the run checker and the reader at most 1,037,672, 1,037,832, 16,244, 12,200, 7,192 and 280 bytes,
+ * naxxurbi_clash and naxxurbi_check_clash 1,042,456 and 1,042,184. Of the audit's, 3,056 are the loader's, the first time that memcpy is called.
  *
- * The judge takes nearly as much for the smallest sheet (one letter, no rules: 1,027,608 bytes), since its rooms have a fixed size.
+ * The judge takes nearly as much for the smallest sheet (one letter, no rules: 1,027,616 bytes), since its rooms have a fixed size.
  *
  * Link libnaxxurbi.a, which bin/install makes and which has every call; a program takes in only the objects that it calls. Or link the
  * archives it is made of: libfirmware.a (both checkers), libjudge.a (naxxurbi_judge), libreader.a (naxxurbi_read, naxxurbi_read_place),
  * libaudit.a (naxxurbi_audit), libserial.a (the serial lead), libclass.a (naxxurbi_judge_class), libclash.a (naxxurbi_check_clash,
  * naxxurbi_clash); each stands alone.
- * Their code takes at most 15 KB, 26 KB, 2 KB, 8 KB, 3 KB, 26 KB and 29 KB (of 1,024 bytes); they have no data of their own. The only outside
+ * Their code takes at most 15 KB, 27 KB, 2 KB, 8 KB, 3 KB, 27 KB and 31 KB (of 1,024 bytes); they have no data of their own. The only outside
  * functions that they call are memset and memcpy.
  *
  * Time. The run checker looks at each state once for each rule and promise. The strike checker counts, for the first states and for each
@@ -178,7 +178,7 @@ uint32_t naxxurbi_audit(const uint8_t *sheet, size_t sheet_len, uint32_t account
  * Otherwise 0. numbers[4 * i] to numbers[4 * i + 3] are answer, count, a and b of sheet i; the places after the last sheet's are unchanged.
  * These and the four slices are as if naxxurbi_judge had been called for each sheet in turn with the same slices: what a sheet gets does not
  * depend on its neighbours, and the slices hold what the last good sheet left. No ends and no input: 0, and nothing is changed. It takes
- * the judge's stack and 176 bytes more.
+ * the judge's stack and 160 bytes more.
  */
 uint32_t naxxurbi_judge_class(const uint8_t *sheets, size_t sheets_len, const uint32_t *ends, size_t ends_len, uint32_t *table,
                               size_t table_len, uint32_t *words, size_t words_len, uint32_t *scratch, size_t scratch_len, uint32_t *run,
