@@ -67,7 +67,7 @@
  * entry that asks for something new, the states that may come next, and stops once there are more than the list could hold. It settles
  * the letters one at a time, takes what a limit or a rule forces as settled, and drops what they rule out; a clash that shows only at the last
  * letters costs microseconds. What no look at single rules sees still costs a walk of 2 to the power n steps for each such entry. Measured
- * (docs/BENCHMARK.md, "odd clash"), for one such walk of 24 letters: 0.11 s with 2 limits, 1.8 s with 32 limits and 255 rules; each letter
+ * (docs/BENCHMARK.md, "odd clash"), for one such walk of 24 letters: 0.1 s with 2 limits, 1.9 s with 32 limits and 255 rules; each letter
  * less halves it. Firmware that takes papers from strangers should bound the letters or the entries that it accepts. Repeated states are
  * judged exactly; where many of them are next states they are counted by marks, and else compared with the entries before.
  */
