@@ -3,8 +3,8 @@
  *
  * A rule sheet is a string of bytes (docs/FORMAT.md). The calls take any bytes and any numbers: none has a precondition, each
  * returns, and each is proved to keep the promise that is stated for it in crates/meaning/specs/Promises.antt (the audit:
- * crates/accounts/specs/Carry.antt; the serial lead: crates/serial/specs/Serial.antt; which rules fight: crates/clash/specs/Clash.antt). Of the
- * pointers themselves C callers owe what is listed below.
+ * crates/accounts/specs/Carry.antt; the serial lead: crates/serial/specs/Serial.antt; a class: crates/joined/specs/Class.antt; which rules
+ * fight: crates/dispute/specs/Clash.antt). Of the pointers themselves C callers owe what is listed below.
  *
  * Numbers returned:
  *    0        good sheet / paper or proposal accepted / the sheet can be kept / rules that fight are marked
@@ -51,16 +51,16 @@
  * Stack, in pages of 4,096 bytes: 256 for the judge, for a class and for the two calls about rules that fight, 4 for the strike checker, 4 for
  * the audit, 2 for the run checker, 1 for the reader; what the caller and signal handlers take comes on top. host/c/stack.c runs each call on
  * a fenced stack of just this size, on sheets of 24 letters that are judged to the end and on a bad one, and prints what they take: the judge,
- * a class, the strike checker, the audit, the run checker and the reader at most 1,037,672, 1,037,832, 16,244, 12,200, 7,192 and 280 bytes,
- * naxxurbi_clash and naxxurbi_check_clash 1,042,456 and 1,042,184. Of the audit's, 3,056 are the loader's, the first time that memcpy is called.
+ * a class, the strike checker, the audit, the run checker and the reader at most 1,033,768, 1,033,912, 16,244, 12,200, 7,192 and 280 bytes,
+ * naxxurbi_clash and naxxurbi_check_clash 1,038,536 and 1,038,264. Of the audit's, 3,056 are the loader's, the first time that memcpy is called.
  *
- * The judge takes nearly as much for the smallest sheet (one letter, no rules: 1,027,616 bytes), since its rooms have a fixed size.
+ * The judge takes nearly as much for a bad sheet (1,022,952 bytes), since its rooms have a fixed size.
  *
  * Link libnaxxurbi.a, which bin/install makes and which has every call; a program takes in only the objects that it calls. Or link the
  * archives it is made of: libfirmware.a (both checkers), libjudge.a (naxxurbi_judge), libreader.a (naxxurbi_read, naxxurbi_read_place),
  * libaudit.a (naxxurbi_audit), libserial.a (the serial lead), libclass.a (naxxurbi_judge_class), libclash.a (naxxurbi_check_clash,
  * naxxurbi_clash); each stands alone.
- * Their code takes at most 15 KB, 27 KB, 2 KB, 8 KB, 3 KB, 27 KB and 31 KB (of 1,024 bytes); they have no data of their own. The only outside
+ * Their code takes at most 15 KB, 29 KB, 2 KB, 8 KB, 3 KB, 29 KB and 32 KB (of 1,024 bytes); they have no data of their own. The only outside
  * functions that they call are memset and memcpy.
  *
  * Time. The run checker looks at each state once for each rule and promise. The strike checker counts, for the first states and for each

@@ -11,8 +11,9 @@ use Rattle.meaning.proofs.Exists.{livable-next}
 use Rattle.meaning.proofs.Parts.{T?}
 use Rattle.rules.specs.Book.{Shaped, bookSystem, bookLawful, bookFirst, bookMoves, bookKept, lettersOf, promisesOf}
 use Rattle.rules.proofs.Facts.{lawful-below, first-lawful, move-from, move-to}
-use Rattle.web.specs.Web.{Storable}
-use Rattle.distances.specs.Layers.{Measurable}
+use Rattle.stored.specs.Moves.{Storable}
+use Rattle.stored.proofs.Rows.{storable}
+use Rattle.distances_start.specs.Values.{Measurable}
 use Rattle.best.specs.Rows.{Livables, LivableTable, Rowable}
 
 -- A livable state is lawful.
@@ -48,8 +49,7 @@ livable-table {book} {table} shaped some few in-table livables = record {
 
 -- The moves between the livable states can be stored.
 pub table-storable : {book table : List ℕ} {r : ℕ} → LivableTable book table r → Storable book table r
-table-storable t = let s = t .states in
-    record { shaped = s .shaped; in-table = s .in-table; few = s .few; lawful = s .lawful; rises = t .livables .rises }
+table-storable t = storable (t .states) (t .livables .rises)
 
 -- Distances to a promise can be measured.
 pub rows-measurable : {book table words : List ℕ} {r : ℕ} → Rowable book table words r → (q : ℕ) → q < promisesOf book → Measurable book q table words r

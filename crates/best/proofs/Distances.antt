@@ -15,7 +15,7 @@ use Rattle.meaning.specs.Sample.{Met, Distance}
 use Rattle.meaning.proofs.SampleRun.{kept-of-met}
 use Rattle.meaning.proofs.Exists.{livable-way}
 use Rattle.ground.specs.Wiping.{Zeros}
-use Rattle.distances.specs.Far.{Live, far, Place, near, never, struck, Measured}
+use Rattle.distances_start.specs.Far.{Live, far, Place, near, never, struck, Measured}
 use Rattle.rules.specs.Book.{bookSystem, promisesOf}
 use Rattle.rules.proofs.Facts.{promises-are}
 use Rattle.best.specs.Rows.{Livables, aimsOf, Rowed, Rowable, Walkable}

@@ -7,7 +7,7 @@ use mathlib.Core.List.{List}
 use Prim.Native.Nat.{ℕ, suc, _+_, _-_, _*_, _≤_, _<_}
 use native.Mathlib.Decide.{decLt, decLe}
 use native.Mathlib.Omega.{arith}
-use lib.ListN.{length, getD}
+use lib.ListN.{getD}
 use Rattle.meaning.specs.System.{System, Livable}
 use Rattle.meaning.specs.Sample.{Distance, Passes}
 use Rattle.meaning.proofs.Unique.{distance-unique}
@@ -19,10 +19,10 @@ use Rattle.rules.specs.Book.{bookSystem, bookKept}
 use Rattle.rules.specs.Table.{To}
 use Rattle.rules.proofs.Facts.{kept-is, kept-true}
 use Rattle.signs.specs.Signs.{Signed}
-use Rattle.web.specs.Layout.{startAt, endAt, cellsOf}
-use Rattle.web.specs.Web.{Forth}
-use Rattle.web.proofs.Both.{rows-has}
-use Rattle.distances.specs.Far.{far}
+use Rattle.stored.specs.Layout.{startAt, endAt, cellsOf}
+use Rattle.stored.specs.Moves.{Forth}
+use Rattle.stored.proofs.Rows.{rows-has}
+use Rattle.distances_start.specs.Far.{far}
 use Rattle.best.specs.Rows.{Livables, aimsOf, Walkable}
 use Rattle.best.specs.Step.{Nearest, FirstNearest, Below, rowAt, FirstAt, Scannable, Lookable, BestAt}
 use Rattle.best.proofs.Places.{places-rise}

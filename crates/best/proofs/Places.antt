@@ -1,19 +1,14 @@
 -- The livable states by their places in the table: each has one place. Assumes nothing.
-use mathlib.Core.Path.{_≡_, sym, ap, subst, _∙_}
+use mathlib.Core.Path.{_≡_, sym, subst, _∙_}
 use mathlib.Core.List.{List}
-use Prim.Native.Nat.{ℕ, _*_, _≤_, _<_}
-use native.Mathlib.Decide.{ℕ-discrete, decLt}
+use Prim.Native.Nat.{ℕ, _≤_, _<_}
+use native.Mathlib.Decide.{decLt}
 use native.Mathlib.Omega.{arith}
 use lib.ListN.{length, getD, take}
 use lib.Seq.{getD-take, length-take-le}
-use Rattle.meaning.specs.System.{System, Livable, Lists, Finite}
-use Rattle.meaning.specs.Sample.{Sample}
-use Rattle.meaning.proofs.Search.{any-below}
+use Rattle.meaning.specs.System.{System, Livable, Lists}
 use Rattle.meaning.proofs.Lists.{rising-apart}
-use Rattle.meaning.proofs.Pigeonhole.{pairs-fit}
-use Rattle.meaning.proofs.SampleRun.{obeying-livable, sample-livable, aim-below}
-use Rattle.meaning.proofs.Exists.{sample-exists}
-use Rattle.best.specs.Rows.{Livables, aimsOf}
+use Rattle.best.specs.Rows.{Livables}
 
 -- The list of the livable states, place by place.
 pub livables-of : {S : System} (table : List ℕ) (r : ℕ) → r ≤ length table → Lists (Livable S) (take r table) → Livables S table r

@@ -8,7 +8,7 @@ use native.Mathlib.Decide.{decLt}
 use native.Mathlib.Omega.{arith}
 use lib.ListN.{getD}
 use Rattle.ground.specs.Listed.{Between}
-use Rattle.distances.specs.Far.{far}
+use Rattle.distances_start.specs.Far.{far}
 use Rattle.best.specs.Step.{Nearest, FirstNearest, Below, FirstAt}
 
 -- Of no places none is the nearest.

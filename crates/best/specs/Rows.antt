@@ -7,7 +7,7 @@ use lib.ListN.{length, getD}
 use Rattle.meaning.specs.System.{System, Livable}
 use Rattle.meaning.specs.Sample.{Distance}
 use Rattle.ground.specs.Wiping.{Zeros}
-use Rattle.distances.specs.Far.{far}
+use Rattle.distances_start.specs.Far.{far}
 use Rattle.rules.specs.Book.{bookSystem}
 use Rattle.rules.specs.Table.{LawfulTable}
 

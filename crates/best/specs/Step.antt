@@ -8,9 +8,9 @@ use Prim.Native.Nat.{ℕ, suc, _+_, _≤_, _<_}
 use lib.ListN.{length, getD}
 use Rattle.meaning.specs.System.{System}
 use Rattle.meaning.specs.Sample.{Passes, Best}
-use Rattle.web.specs.Layout.{startAt, endAt, cellAt, HasRow}
-use Rattle.web.specs.Web.{Forth}
-use Rattle.distances.specs.Far.{far}
+use Rattle.stored.specs.Layout.{startAt, endAt, cellAt, HasRow}
+use Rattle.stored.specs.Moves.{Forth}
+use Rattle.distances_start.specs.Far.{far}
 use Rattle.rules.specs.Book.{bookFirst}
 use Rattle.signs.specs.Signs.{Signed}
 use Rattle.best.specs.Rows.{aimsOf}

@@ -14,7 +14,7 @@ ghost use Rattle.rules.specs.Book.{Shaped, bookSystem, promisesOf};
 ghost use Rattle.rules.specs.Table.{To};
 ghost use Rattle.signs.specs.Signs.{Signed};
 ghost use Rattle.distances.specs.Follow.{Followable};
-ghost use Rattle.web.specs.Layout.{startAt, endAt, cellsOf};
+ghost use Rattle.stored.specs.Layout.{startAt, endAt, cellsOf};
 ghost use Rattle.best.specs.Rows.{aimsOf, Rowable, RowsMeasured, Walkable};
 ghost use Rattle.best.specs.Step.{FirstPlace, FirstNearest, Below, rowAt, FirstAt, Scannable, Lookable, Onward, BestAt, Stepped};
 
@@ -155,7 +155,7 @@ fn nearest(
     ensures { λ p. ⌜ FirstNearest (Below (To (now (book .entry)) (now (table .entry)) place) r) (rowAt (now (dist .entry)) from) p ⌝ }
 {
     let mut best: usize = 0;
-    let mut least: u16 = distances::FAR;
+    let mut least: u16 = distances_start::FAR;
     let mut x: usize = 0;
     while x < r {
         let at = from + x;
@@ -256,12 +256,12 @@ fn nearest_in_row(dist: &[u16], from: usize, forth: &[u16], place: usize) -> usi
     ensures { λ p. ⌜ FirstNearest (Between (cellsOf (now (forth .entry))) (startAt (now (forth .entry)) place) (endAt (now (forth .entry)) place))
         (rowAt (now (dist .entry)) from) p ⌝ }
 {
-    let end = web::row_end(forth, place);
+    let end = stored::row_end(forth, place);
     let mut best: usize = 0;
-    let mut least: u16 = distances::FAR;
-    let mut e = web::row_start(forth, place);
+    let mut least: u16 = distances_start::FAR;
+    let mut e = stored::row_start(forth, place);
     while e < end {
-        let x = web::cell(forth, e);
+        let x = stored::cell(forth, e);
         let at = from + x;
         let near = dist[at];
         if near < least {

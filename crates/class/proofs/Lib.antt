@@ -1,4 +1,2 @@
-pub mod Ends
-pub mod Turns
 pub mod Parts
 pub mod Class

@@ -1,66 +1,18 @@
 // The whole class in one call: up to 32 sheets, joined, are judged in turn with the same lent slices, and four numbers of each are noted.
-// The promise is `ClassJudged` of specs/Class.antt; it asks nothing.
+// The promise is `ClassJudged` of crates/joined/specs/Class.antt; it asks nothing.
 use ground::State;
-ghost use mathlib.Core.Path.{_≡_};
+pub use joined::EACH;
+pub use joined::SHEETS;
+use joined::fair;
+use joined::note;
 ghost use Prim.Native.Nat.{_≤_, _+_};
 ghost use lib.ListN.{length};
-ghost use Rattle.class.specs.Class.{stored, OneJudged, InTurn, ClassJudged};
-ghost use Rattle.class.specs.Steps.{deskOf, EndsFitSays, Fair, FairSays};
-
-// The most sheets in one call.
-pub const SHEETS: usize = 32;
-
-// How many numbers each sheet gets: answer, count, a, b.
-pub const EACH: usize = 4;
+ghost use Rattle.joined.specs.Class.{OneJudged, InTurn, ClassJudged};
+ghost use Rattle.joined.specs.Ends.{Fair};
+ghost use Rattle.class.specs.Desks.{deskOf};
 
 // The answer to a class that is refused.
 const REFUSED: u32 = 16;
-
-// Whether no end falls, none passes an input of `size` bytes, and the last is its length.
-fn cut(size: usize, ends: &[u32]) -> bool
-    ensures { λ r. ⌜ EndsFitSays size (now (ends .entry)) r ⌝ }
-{
-    let mut start: usize = 0;
-    let mut i: usize = 0;
-    while i < ends.len() {
-        let end = ends[i] as usize;
-        if end < start {
-            return false;
-        }
-        if size < end {
-            return false;
-        }
-        start = end;
-        i += 1;
-    }
-    start == size
-}
-
-// Whether a class is not refused: an input of `size` bytes, and `room` places for the numbers.
-fn fair(size: usize, ends: &[u32], room: usize) -> bool
-    ensures { λ r. ⌜ FairSays size (now (ends .entry)) room r ⌝ }
-{
-    let n = ends.len();
-    if SHEETS < n {
-        return false;
-    }
-    let needed = n * EACH;
-    if room < needed {
-        return false;
-    }
-    cut(size, ends)
-}
-
-// Notes the four numbers of a sheet from a place on.
-fn note(numbers: &mut [u32], at: usize, answer: u32, count: u32, a: u32, b: u32)
-    requires { ⌜ at + 4 ≤ length (now numbers) ⌝ }
-    ensures { λ _. ⌜ now (numbers .exit) ≡ stored at answer count a b (now (numbers .entry)) ⌝ }
-{
-    numbers[at] = answer;
-    numbers[at + 1] = count;
-    numbers[at + 2] = a;
-    numbers[at + 3] = b;
-}
 
 // Judges one sheet and notes its numbers from a place on.
 fn judge_one(

@@ -6,9 +6,9 @@ use native.Mathlib.Omega.{arith}
 use lib.ListN.{length, getD, set}
 use Rattle.meaning.specs.System.{System}
 use Rattle.meaning.specs.Strike.{SavedBy}
-use Rattle.distances.specs.Far.{Live}
-use Rattle.distances.proofs.Totals.{total-set}
-use Rattle.watch.specs.Witness.{freeIn}
+use Rattle.distances_start.specs.Far.{Live}
+use Rattle.distances_start.proofs.Totals.{total-set}
+use Rattle.witness.specs.Witness.{freeIn}
 use Rattle.deadends.specs.Phases.{Falls, was, stays, falls, Phased, Points, fresh, target, Pointers}
 
 -- Setting an unstruck place's word takes one from the unstruck.

@@ -7,7 +7,7 @@ use native.Mathlib.Omega.{arith}
 use lib.ListN.{length, getD, set, length-set}
 use lib.Seq.{getD-set-same, getD-set-other}
 use Rattle.ground.specs.Listed.{Between}
-use Rattle.watch.specs.Witness.{Log}
+use Rattle.witness.specs.Witness.{Log}
 
 module _ (r : ℕ) (old before : List ℕ) (m : ℕ) where
   -- the log is as it was below m; what fell stands in it from m on and before `end`

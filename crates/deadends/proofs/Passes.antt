@@ -13,8 +13,8 @@ use Rattle.meaning.specs.Strike.{SavedBy}
 use Rattle.ground.proofs.Tests.{passes}
 use Rattle.rules.specs.Book.{bookSystem}
 use Rattle.rules.specs.Table.{To}
-use Rattle.distances.specs.Far.{Live}
-use Rattle.watch.specs.Witness.{freeIn}
+use Rattle.distances_start.specs.Far.{Live}
+use Rattle.witness.specs.Witness.{freeIn}
 use Rattle.deadends.specs.Phases.{
   Counts,
   Points,

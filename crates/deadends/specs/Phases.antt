@@ -12,8 +12,8 @@ use Rattle.meaning.specs.Promises.{mostStates}
 use Rattle.rules.specs.Book.{bookSystem}
 use Rattle.rules.specs.Table.{To}
 use Rattle.signs.specs.Signs.{Signed}
-use Rattle.distances.specs.Far.{Live}
-use Rattle.watch.specs.Witness.{freeIn, Log}
+use Rattle.distances_start.specs.Far.{Live}
+use Rattle.witness.specs.Witness.{freeIn, Log}
 
 -- A word that counts as unstruck in the phase that gives the word v: 0, or v itself, since states fall together.
 abbrev pub Counts : ℕ → ℕ → Type 0

@@ -1,11 +1,1 @@
-pub mod Totals
-pub mod Spreads
-pub mod Closed
-pub mod Turns
-pub mod Exact
-pub mod Chains
-pub mod Lines
-pub mod Sifts
-pub mod Order
-pub mod Along
 pub mod Lent

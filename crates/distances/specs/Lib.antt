@@ -1,3 +1,1 @@
-pub mod Far
-pub mod Layers
 pub mod Follow

@@ -16,9 +16,9 @@ use Rattle.meaning.proofs.Tests.{below-next}
 use Rattle.proposals.specs.Proposals.{noMarks, firstMarks, marksOf, Chosen, leftOut, Proposal}
 use Rattle.proposals.proofs.Marks.{chosen-within}
 use Rattle.trials.specs.Trials.{Answered, OneTried, ends, drops, keeps, Dropping}
-use Rattle.clash.specs.Clash.{rulesIn, Fighting, Crowded, together, one-less, Weighed, crowded, accepted, refused}
-use Rattle.clash.specs.Clash.{ClashChecked, faulty, misnumbered, weighed, Reduced, MetMore, at-once, dropping, at-last}
-use Rattle.clash.specs.Clash.{Plan, Worked, more, kept, found, Planned, worked}
+use Rattle.dispute.specs.Clash.{rulesIn, Fighting, Crowded, together, one-less, Weighed, crowded, accepted, refused}
+use Rattle.dispute.specs.Clash.{ClashChecked, faulty, misnumbered, weighed, Reduced, MetMore, at-once, dropping, at-last}
+use Rattle.dispute.specs.Clash.{Plan, Worked, more, kept, found, Planned, worked}
 use Rattle.trials.proofs.Trials.{answered-apart, Verdict, is-11, is-12, is-13, verdict}
 use Rattle.trials.proofs.Loops.{some-not-none, same-some}
 

@@ -25,8 +25,8 @@ use Rattle.choice.proofs.Fewer.{among-kept}
 use Rattle.proposals.specs.Proposals.{mostRules, noMarks, firstMarks, marksOf, Chosen, leftOut, Proposal}
 use Rattle.proposals.proofs.Marks.{length-first}
 use Rattle.trials.specs.Trials.{Answered, ends, drops, keeps, Dropping}
-use Rattle.clash.specs.Clash.{rulesIn, Fighting, together, one-less, crowded, accepted, refused, ClashChecked, faulty, misnumbered, weighed}
-use Rattle.clash.specs.Clash.{at-once, dropping, at-last, Plan, more, kept, found, Planned, worked}
+use Rattle.dispute.specs.Clash.{rulesIn, Fighting, together, one-less, crowded, accepted, refused, ClashChecked, faulty, misnumbered, weighed}
+use Rattle.dispute.specs.Clash.{at-once, dropping, at-last, Plan, more, kept, found, Planned, worked}
 use Rattle.trials.proofs.Trials.{answered-apart, Verdict, is-11, is-12, is-13, verdict}
 use Rattle.trials.proofs.Loops.{some-not-none, dropping-length}
 use Rattle.fights.proofs.Verdicts.{answered-met, kept-at-12, never-at-13}

@@ -1,5 +1,1 @@
-pub mod Samples
-pub mod Trails
-pub mod Writings
-pub mod Papers
 pub mod Ways

@@ -1,16 +1,32 @@
 -- The two ways of walking, along stored moves and by tests of pairs: what each has to be lent, and that a run found after nothing was touched is
 -- the run of the whole. Assumes nothing.
-use mathlib.Core.Path.{_≡_, subst₂}
+use mathlib.Core.Path.{_≡_, sym, subst, subst₂}
 use mathlib.Core.List.{List}
-use Prim.Native.Nat.{ℕ, _≤_}
+use Prim.Native.Nat.{ℕ, _*_, _≤_}
 use native.Mathlib.Omega.{arith}
-use lib.ListN.{length}
-use Rattle.signs.specs.Signs.{Signed}
+use lib.ListN.{length, replicate, length-replicate}
+use Rattle.rules.specs.Book.{bookSystem}
+use Rattle.signs.specs.Signs.{headSize, Signed}
 use Rattle.web.specs.Web.{StoredRows, none, both}
 use Rattle.distances.specs.Follow.{Followable}
 use Rattle.distances.proofs.Lent.{none-followable}
+use Rattle.best.specs.Rows.{aimsOf, LivableTable}
 use Rattle.best.specs.Step.{Onward}
-use Rattle.steer.specs.Walk.{Walked}
+use Rattle.trail.specs.Walk.{Walked}
+use Rattle.trail.proofs.Trails.{few-rows}
+
+-- Arrays of zeros for n places are room for the distances and the queue of r places. Their lengths come by a law; computed, they would cost by the
+-- arrays' size.
+pub lent-rows : {book table : List ℕ} {r : ℕ} → LivableTable book table r → (n : ℕ) → r ≤ n
+    → (aimsOf (bookSystem book) * r ≤ length (replicate {A = ℕ} (16 * n) 0)) × (r ≤ length (replicate {A = ℕ} n 0))
+lent-rows {book = book} {r = r} t n few = (
+  subst (λ (x : ℕ). aimsOf (bookSystem book) * r ≤ x) (sym (length-replicate {A = ℕ} (16 * n) 0)) (few-rows t n few),
+  subst (λ (x : ℕ). r ≤ x) (sym (length-replicate {A = ℕ} n 0)) few,
+)
+
+-- The same for the signs' head.
+pub lent-signs : (n : ℕ) → headSize ≤ n → headSize ≤ length (replicate {A = ℕ} n 0)
+lent-signs n enough = subst (λ (x : ℕ). headSize ≤ x) (sym (length-replicate {A = ℕ} n 0)) enough
 
 -- the next moments and the distances can be found
 abbrev pub Ways : (book table : List ℕ) (r : ℕ) (forth back queue signs : List ℕ) → Type 0

@@ -1,2 +1,1 @@
-pub mod Steered
-pub mod Walk
+pub mod Ways

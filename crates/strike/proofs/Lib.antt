@@ -1,7 +1,1 @@
-pub mod Marks
-pub mod Running
-pub mod Rows
-pub mod Saved
-pub mod Moving
-pub mod WaysOn
-pub mod Pointing
+pub mod Ready

@@ -1,5 +1,1 @@
-pub mod Marked
-pub mod Phases
-pub mod Rows
-pub mod Along
-pub mod Tests
+pub mod Ways

@@ -10,12 +10,14 @@ use lib.ListN.{length, getD, set, length-set}
 use lib.Seq.{getD-set-same, getD-set-other}
 use Rattle.ground.specs.Listed.{Between}
 use Rattle.meaning.specs.Promises.{mostStates}
-use Rattle.distances.specs.Far.{far}
-use Rattle.watch.specs.Witness.{Leads, Backed, Readable, Woven, Hangable, Hangs}
-use Rattle.watch.specs.Turns.{weight, unstruckAt, countAt, InLine, HelperFor, found, not-found, Askable, Asked}
-use Rattle.watch.proofs.Weights.{count-most, count-turn}
-use Rattle.watch.proofs.Helped.{Sought}
-use Rattle.watch.proofs.Hooked.{Hooks, as-was, hooked, Hooked, hangs-hooked}
+use Rattle.distances_start.specs.Far.{far}
+use Rattle.stored.specs.Layout.{Backed}
+use Rattle.witness.specs.Witness.{Hangable, Hangs}
+use Rattle.witness.specs.Turns.{weight, unstruckAt, countAt, HelperFor, found, not-found}
+use Rattle.watch.specs.Along.{Leads, Readable, Woven, InLine, Askable, Asked}
+use Rattle.witness.proofs.Weights.{count-most, count-turn}
+use Rattle.watch.proofs.Seeking.{Sought}
+use Rattle.witness.proofs.Hooked.{Hooks, as-was, hooked, Hooked, hangs-hooked}
 
 -- where a place without a witness has a next place with one, that stands in the line, or the place itself in the log from g on
 abbrev pub Waits : (words row : List ℕ) (M : ℕ → ℕ → Type 0) (log : List ℕ) (g tail : ℕ) (line : List ℕ) (n : ℕ) → Type 0
@@ -225,7 +227,8 @@ module _ (words old forth log : List ℕ) (m tail : ℕ) (before : List ℕ) (re
           still : (l : ℕ) → Between line 0 n l → Between (set line n i) 0 (n + 1) l
           still l (t, a, b, e) = (t, a, omega arith, getD-set-other line n t i 0 (λ q. omega arith) ∙ e)
 
-          waits′ : (back : List ℕ) → Waits words row (Backed back) log g tail line n → Waits words (set row i j) (Backed back) log (g + 1) tail (set line n i) (n + 1)
+          waits′ : (back : List ℕ) → Waits words row (Backed back) log g tail line n
+              → Waits words (set row i j) (Backed back) log (g + 1) tail (set line n i) (n + 1)
           waits′ back was k l a b z y p f o = by (ℕ-discrete l i)
             where
               -- who has no witness now is another place, and had none

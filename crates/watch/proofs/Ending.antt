@@ -2,19 +2,21 @@
 use mathlib.Core.Path.{_≡_, refl, sym, ap, subst, _∙_}
 use mathlib.Core.Logic.{_⊎_, inl, inr}
 use mathlib.Core.List.{List}
-use Prim.Native.Nat.{ℕ, zero, suc, _+_, _-_, _*_, _≤_, _<_}
+use Prim.Native.Nat.{ℕ, _+_, _-_, _*_, _≤_, _<_}
 use native.Mathlib.Decide.{ℕ-discrete, decLt}
 use native.Mathlib.Omega.{arith}
 use lib.ListN.{length, getD, set, length-set}
 use lib.Seq.{getD-set-same, getD-set-other}
 use Rattle.ground.specs.Listed.{Between}
 use Rattle.meaning.specs.Promises.{mostStates}
-use Rattle.web.specs.Layout.{startAt, endAt, cellAt, Ascending}
-use Rattle.distances.specs.Far.{far, gone}
-use Rattle.watch.specs.Witness.{Leads, Readable, Woven, freeIn, Log, Fresh, Walkable, Backed}
-use Rattle.watch.specs.Turns.{weight, unstruckAt, countAt, Redirects, turns, stays, Redirected, Redirectable, Loosened, Fallable, FallsAt, was, keeps, falls, FellTo}
+use Rattle.stored.specs.Layout.{startAt, endAt, cellAt, Backed}
+use Rattle.distances_start.specs.Far.{far, gone}
+use Rattle.witness.specs.Witness.{freeIn, Log, Fresh}
+use Rattle.witness.specs.Turns.{weight, unstruckAt, countAt, Redirects, turns, stays, Redirected, Loosened, Fallable, FallsAt, was, keeps, falls, FellTo}
+use Rattle.watch.specs.Along.{Leads, Readable, Woven, Walkable, Redirectable}
 use Rattle.watch.specs.Ends.{Blank, Going, Ahead, opening, going, CutOff, WayOn, goes, ends, Lookable, Looked, Ended}
-use Rattle.watch.proofs.Sums.{weighs-one, weighs-none, two-counts, none-counts}
+use Rattle.watch.proofs.Redirecting.{redirectable-along}
+use Rattle.witness.proofs.Sums.{weighs-one, weighs-none, two-counts, none-counts}
 
 -- ---- blanking a row
 
@@ -50,7 +52,8 @@ module _ {words row back log : List ℕ} {from m : ℕ} where
   ahead-few (going R) = R .few
 
 -- With a blank row, all unstruck places are listed.
-pub listed-cut : {words row log log′ : List ℕ} (back : List ℕ) {m tail : ℕ} → Blank row → length row ≤ mostStates → Loosened words row row log log′ m tail → CutOff words row row back log log′ m tail
+pub listed-cut : {words row log log′ : List ℕ} (back : List ℕ) {m tail : ℕ} → Blank row → length row ≤ mostStates → Loosened words row row log log′ m tail
+    → CutOff words row row back log log′ m tail
 listed-cut back B few L = record {
   long = refl;
   each = λ i h. inl (B i h);
@@ -115,18 +118,15 @@ module _ {words old row back before log : List ℕ} {from m tail h : ℕ} (R : G
   cutting-ask inside most =
       let place = cutting-place inside in
       let few = R .few in
-      record {
+      redirectable-along (R .backward) (L .long) place (record {
         few = omega (arith, few, L .long);
         in-words = omega (arith, L .long, R .log-is .in-words);
-        has-row = R .backward .row (getD log h 0) place;
-        places = λ e s l. let a = R .backward .places (getD log h 0) e place s l in omega (arith, a, L .long);
-        links = subst (λ (n : ℕ). Ascending n back) (sym (L .long)) (R .backward .links);
         apart = λ e. absurd (omega (arith, e, place, few));
         room = let a = two-counts far (getD log h 0) words row (λ e. absurd (omega (arith, e, place, few))) in
             let b : freeIn words (length row) ≡ freeIn words (length old) = ap (λ (n : ℕ). freeIn words n) (L .long) in
             omega (arith, a, b, R .log-is .count, L .counted, L .log-long, R .log-is .in-log);
         line-few = omega (arith, L .log-long, most);
-      }
+      })
 
   -- A turn: whose way on it was has none.
   pub cutting-more : {row′ log′ : List ℕ} {tail′ : ℕ} → h < m
@@ -214,7 +214,8 @@ module _ {words old row back before log : List ℕ} {from m tail h : ℕ} (R : G
     alone = L .alone;
   }
     where
-      each-at : (i : ℕ) → i < length old → Loses old row i → (getD old i 0 ≡ far) ⊎ (getD old i 0 < length old) → (getD row i 0 ≡ far) ⊎ (getD row i 0 < length old)
+      each-at : (i : ℕ) → i < length old → Loses old row i → (getD old i 0 ≡ far) ⊎ (getD old i 0 < length old) → (getD row i 0 ≡ far)
+          ⊎ (getD row i 0 < length old)
       each-at i k (inr s) o = inl s
       each-at i k (inl s) (inl o) = inl (s ∙ o)
       each-at i k (inl s) (inr o) = inr (omega (arith, s, o))
@@ -243,7 +244,8 @@ none-more words forth i e j N is n f h k u = by (ℕ-discrete f e)
 pub none-ends : (words forth : List ℕ) (r i e : ℕ) → NoneTo words forth i e → endAt forth i ≤ e → WayOn words forth r i r
 none-ends words forth r i e N over = ends refl (λ h s u. N (s .0) (s .1) (omega (arith, s .2, over)) (ap (λ (x : ℕ). getD words x 0) (s .3) ∙ u))
 
-pub here-goes : (words forth : List ℕ) (r i e j : ℕ) → startAt forth i ≤ e → e < endAt forth i → j ≡ cellAt forth e → j < r → getD words j 0 ≡ 0 → WayOn words forth r i j
+pub here-goes : (words forth : List ℕ) (r i e j : ℕ) → startAt forth i ≤ e → e < endAt forth i → j ≡ cellAt forth e → j < r → getD words j 0 ≡ 0
+    → WayOn words forth r i j
 here-goes words forth r i e j h k is l u = goes l (e, h, k, sym is) u
 
 -- what is known at turn g
@@ -278,14 +280,16 @@ module _ {words old row forth log : List ℕ} {m g : ℕ} (L : Looking words old
 
       each-at : (i : ℕ) → i < length old → Dec (i ≡ getD log g 0)
           → (getD (set row (getD log g 0) j) i 0 ≡ getD old i 0)
-          ⊎ ((getD (set row (getD log g 0) j) i 0 < length old) × Leads forth i (getD (set row (getD log g 0) j) i 0) × (getD words (getD (set row (getD log g 0) j) i 0) 0 ≡ 0))
+          ⊎ ((getD (set row (getD log g 0) j) i 0 < length old) × Leads forth i (getD (set row (getD log g 0) j) i 0)
+          × (getD words (getD (set row (getD log g 0) j) i 0) 0 ≡ 0))
       each-at i h (yes q) =
           let f = found W in
           let e : getD (set row (getD log g 0) j) i 0 ≡ j = ap (λ (y : ℕ). getD (set row (getD log g 0) j) y 0) q ∙ here in
           let lead : Leads forth i j = subst (λ (y : ℕ). Leads forth y j) (sym q) (f .0) in
           inr (omega (arith, e, below), subst (λ (y : ℕ). Leads forth i y) (sym e) lead, ap (λ (y : ℕ). getD words y 0) e ∙ f .1)
       each-at i h (no q) =
-          subst (λ (y : ℕ). (y ≡ getD old i 0) ⊎ ((y < length old) × Leads forth i y × (getD words y 0 ≡ 0))) (sym (getD-set-other row (getD log g 0) i j 0 q)) (L .each i h)
+          subst (λ (y : ℕ). (y ≡ getD old i 0) ⊎ ((y < length old) × Leads forth i y × (getD words y 0 ≡ 0)))
+          (sym (getD-set-other row (getD log g 0) i j 0 q)) (L .each i h)
 
       none-at : (t : ℕ) → m ≤ t → t < g + 1 → getD (set row (getD log g 0) j) (getD log t 0) 0 ≡ far → Dec (getD log t 0 ≡ getD log g 0)
           → (i : ℕ) → Leads forth (getD log t 0) i → getD words i 0 ≡ 0 → ⊥
@@ -334,7 +338,8 @@ module _ {words row row′ back log log′ forth : List ℕ} {from m tail : ℕ}
     lone : (i : ℕ) → i < length row → getD words i 0 ≡ 0 → getD row″ i 0 ≡ far → Between log′ m tail i
     lone i h u e = by (L .each i (omega (arith, h, C .long)))
       where
-        by : (getD row″ i 0 ≡ getD row′ i 0) ⊎ ((getD row″ i 0 < length row′) × Leads forth i (getD row″ i 0) × (getD words (getD row″ i 0) 0 ≡ 0)) → Between log′ m tail i
+        by : (getD row″ i 0 ≡ getD row′ i 0) ⊎ ((getD row″ i 0 < length row′) × Leads forth i (getD row″ i 0) × (getD words (getD row″ i 0) 0 ≡ 0))
+            → Between log′ m tail i
         by (inl s) = C .alone i h u (sym s ∙ e)
         by (inr s) = absurd (omega (arith, e, s .0, C .long, ahead-few A))
 

@@ -1,13 +1,22 @@
--- What `rehang` hands on: the places may be asked, and after that the witnesses may be spread. Assumes nothing.
-use mathlib.Core.Path.{sym, subst}
+-- What `rehang` is handed and hands on: the places may be asked, and after that the witnesses may be spread. Assumes nothing.
+use mathlib.Core.Path.{_≡_, sym, subst}
 use mathlib.Core.List.{List}
 use Prim.Native.Nat.{ℕ, _≤_}
 use native.Mathlib.Omega.{arith}
 use lib.ListN.{length}
 use Rattle.meaning.specs.Promises.{mostStates}
-use Rattle.watch.specs.Witness.{Backed, Woven, Hangable, Walkable}
-use Rattle.watch.specs.Turns.{Line, Hanging, Askable, Asked}
+use Rattle.stored.specs.Layout.{Backed}
+use Rattle.witness.specs.Witness.{Hangable}
+use Rattle.witness.specs.Turns.{Line}
+use Rattle.watch.specs.Along.{Woven, Walkable, Hanging, Askable, Asked}
 use Rattle.watch.proofs.Spreading.{Spreadable}
+
+-- Once places were cut off, the row is as long as it was.
+pub lost-woven : {r r′ : ℕ} {forth back : List ℕ} → r′ ≡ r → Woven r forth back → Woven r′ forth back
+lost-woven {forth = forth} {back = back} long W = subst (λ (r : ℕ). Woven r forth back) (sym long) W
+
+pub lost-line : {row row′ line : List ℕ} → length row′ ≡ length row → Line row line → Line row′ line
+lost-line long K = record { in-line = omega (arith, long, K .in-line); line-few = K .line-few }
 
 module _ (words old forth back log : List ℕ) (m tail : ℕ) (before : List ℕ) (w : Woven (length old) forth back)
     (h : Hangable words old (Backed back) log m tail) (l : Line old before) where

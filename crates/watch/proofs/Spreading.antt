@@ -8,12 +8,14 @@ use native.Mathlib.Omega.{arith}
 use lib.ListN.{length, getD}
 use Rattle.ground.specs.Listed.{Between}
 use Rattle.meaning.specs.Promises.{mostStates}
-use Rattle.web.specs.Layout.{Ascending}
-use Rattle.distances.specs.Far.{far}
-use Rattle.watch.specs.Witness.{Leads, Backed, Walkable, Hangs, Rehung}
-use Rattle.watch.specs.Turns.{weight, unstruckAt, countAt, Redirectable, Redirects, turns, stays, Redirected, InLine, Line, Hanging}
-use Rattle.watch.proofs.Turning.{redirected-counts}
-use Rattle.watch.proofs.Hooked.{Hooks, as-was, hooked, Hooked, hangs-hooked}
+use Rattle.stored.specs.Layout.{Backed}
+use Rattle.distances_start.specs.Far.{far}
+use Rattle.witness.specs.Witness.{Hangs, Rehung}
+use Rattle.witness.specs.Turns.{weight, unstruckAt, countAt, Redirects, turns, stays, Redirected, Line}
+use Rattle.watch.specs.Along.{Walkable, Redirectable, InLine, Hanging}
+use Rattle.witness.proofs.Turning.{redirected-counts}
+use Rattle.watch.proofs.Redirecting.{redirectable-along}
+use Rattle.witness.proofs.Hooked.{Hooks, as-was, hooked, Hooked, hangs-hooked}
 
 -- what hangs while places hang anew
 pub hanging-hangs : {words old row line : List ℕ} {M : ℕ → ℕ → Type 0} {head tail : ℕ} → Hanging words old row M line head tail → Hangs words old row M
@@ -86,16 +88,8 @@ module _ (words row₀ back line₀ : List ℕ) (n : ℕ) (pre : Spreadable word
           let e = r .long in
           let f = r .line-long in
           let p = spread-next .0 in
-          record {
-            few = omega arith;
-            in-words = omega arith;
-            has-row = pre .0 .row next (omega arith);
-            places = λ d h k. let q = pre .0 .places next d (omega arith) h k in omega arith;
-            links = subst (λ (n : ℕ). Ascending n back) (sym (r .long)) (pre .0 .links);
-            apart = apart;
-            room = r .room;
-            line-few = omega arith;
-          }
+          redirectable-along (pre .0) (r .long) (omega arith)
+          (record { few = omega arith; in-words = omega arith; apart = apart; room = r .room; line-few = omega arith })
 
       module _ (row′ line′ : List ℕ) (m : ℕ)
           (done : Redirected (λ (i : ℕ). Backed back i (getD line head 0)) words far (getD line head 0) row row′ tail line line′ m) where
@@ -111,7 +105,8 @@ module _ (words row₀ back line₀ : List ℕ) (n : ℕ) (pre : Spreadable word
         hooks : Hooked words row row′ (Backed back)
         hooks = record { long = done .long; each = λ i h. by i (done .each i h) }
           where
-            by : (i : ℕ) → Redirects (Backed back i next) (getD words i 0) far next (getD row i 0) (getD row′ i 0) → Hooks words row (Backed back) i (getD row′ i 0)
+            by : (i : ℕ) → Redirects (Backed back i next) (getD words i 0) far next (getD row i 0) (getD row′ i 0)
+                → Hooks words row (Backed back) i (getD row′ i 0)
             by i (turns p z o g) = let u = r .in-line head more in hooked next o g (u .0) (u .1) (u .2) p
             by i (stays e f) = as-was e
 
@@ -138,7 +133,8 @@ module _ (words row₀ back line₀ : List ℕ) (n : ℕ) (pre : Spreadable word
         room′ : m + countAt far words row′ ≤ length line′
         room′ =
             let a = redirected-counts words far next row row′ tail line line′ m apart done in
-            let b : countAt far words row′ ≡ weight (unstruckAt far) words row′ (length row) = ap (λ (x : ℕ). weight (unstruckAt far) words row′ x) (done .long) in
+            let b : countAt far words row′ ≡ weight (unstruckAt far) words row′ (length row) = ap (λ (x : ℕ). weight (unstruckAt far) words row′ x)
+            (done .long) in
             let c = r .room in
             let d = done .line-long in
             omega arith

@@ -6,9 +6,11 @@ use Prim.Native.Nat.{ℕ, _≤_, _<_}
 use lib.ListN.{length, getD}
 use Rattle.ground.specs.Listed.{Between}
 use Rattle.meaning.specs.Promises.{mostStates}
-use Rattle.distances.specs.Far.{far}
-use Rattle.watch.specs.Witness.{Leads, Backed, Readable, Walkable, Woven, Log}
-use Rattle.watch.specs.Turns.{FellTo}
+use Rattle.distances_start.specs.Far.{far}
+use Rattle.stored.specs.Layout.{Backed}
+use Rattle.witness.specs.Witness.{Log}
+use Rattle.witness.specs.Turns.{FellTo}
+use Rattle.watch.specs.Along.{Leads, Readable, Walkable, Woven}
 
 -- no way on is known yet
 abbrev pub Blank : (row : List ℕ) → Type 0

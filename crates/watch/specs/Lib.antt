@@ -1,4 +1,2 @@
-pub mod Witness
-pub mod Turns
+pub mod Along
 pub mod Ends
-pub mod Tests

@@ -1,14 +1,14 @@
 // Reason 0 along stored moves: each unstruck place names a next place that is unstruck, its way on. A round looks again only at places whose way
 // on was struck since; who finds no other falls.
-use super::NOBODY;
-use super::fall;
-use super::list_alone;
 use super::redirect;
+use witness::NOBODY;
+use witness::fall;
+use witness::list_alone;
 ghost use mathlib.Core.Path.{_≡_};
 ghost use Prim.Native.Nat.{_<_, _≤_};
 ghost use lib.ListN.{length};
 ghost use Rattle.meaning.specs.Promises.{mostStates};
-ghost use Rattle.watch.specs.Witness.{Readable};
+ghost use Rattle.watch.specs.Along.{Readable};
 ghost use Rattle.watch.specs.Ends.{Blank, Ahead, Going, CutOff, WayOn, Lookable, Looked, Endable, Ended};
 
 // Before the first round no way on is known.
@@ -68,10 +68,10 @@ fn way_on(words: &[u32], forth: &[u16], r: usize, i: usize) -> usize
     requires { ⌜ Readable (now forth) r × (i < r) × (r ≤ length (now words)) ⌝ }
     ensures { λ j. ⌜ WayOn (now (words .entry)) (now (forth .entry)) r i j ⌝ }
 {
-    let end = web::row_end(forth, i);
-    let mut e = web::row_start(forth, i);
+    let end = stored::row_end(forth, i);
+    let mut e = stored::row_start(forth, i);
     while e < end {
-        let j = web::cell(forth, e);
+        let j = stored::cell(forth, e);
         if words[j] == 0 {
             return j;
         }

@@ -1,54 +1,22 @@
-// Watching a promise along stored moves. Each unstruck place has a witness: it keeps the promise itself, or it names a next place whose witnesses
-// lead on to one that does. A phase looks again only at places whose witnesses were cut by a strike since the promise's last phase, and at those
-// that hang on them; who finds no new witness falls. The struck places stand in a log, in the order in which they fell.
-use ground::State;
+// Watching a promise along stored moves. A phase looks again only at places whose witnesses were cut by a strike since the promise's last phase, and
+// at those that hang on them; who finds no new witness falls.
+use witness::NOBODY;
+use witness::fall;
+use witness::is_helped;
+use witness::is_so;
+use witness::list_alone;
 ghost use mathlib.Core.Path.{_≡_};
 ghost use mathlib.Core.List.{List};
 ghost use Prim.Native.Nat.{ℕ, _+_, _<_, _≤_};
 ghost use lib.ListN.{length};
 ghost use Rattle.meaning.specs.Promises.{mostStates};
-ghost use Rattle.rules.specs.Book.{Shaped, promisesOf};
-ghost use Rattle.web.specs.Layout.{Linked};
-ghost use Rattle.distances.specs.Far.{far};
-ghost use Rattle.watch.specs.Witness.{Leads, Backed, Readable, Walkable, Woven, BegunRow, Fresh, Rested, Hangable, Rehung};
-ghost use Rattle.watch.specs.Turns.{IsSo, Helps, countAt, Redirectable, Passable, Redirected, Loosened, HelperIn, HelperFor, InLine, Line, Hanging};
-ghost use Rattle.watch.specs.Turns.{Askable, Asked, Fallable, FellTo, Before, Watching, Watched};
+ghost use Rattle.stored.specs.Layout.{Linked, Backed};
+ghost use Rattle.distances_start.specs.Far.{far};
+ghost use Rattle.witness.specs.Witness.{Rested, Hangable, Rehung};
+ghost use Rattle.witness.specs.Turns.{countAt, Redirected, Loosened, HelperIn, HelperFor, Line, Before, Watched};
+ghost use Rattle.watch.specs.Along.{Leads, Readable, Walkable, Woven, Redirectable, Passable, InLine, Hanging, Askable, Asked, Watching};
 
 pub mod ends;
-pub mod tests;
-
-// Nobody helps a place; or it keeps the promise itself. Every place's number is less.
-pub const NOBODY: u16 = 65535;
-
-pub const ITSELF: u16 = 65534;
-
-// What each place begins with: it keeps promise k, counted from 0, or nobody helps it yet.
-pub fn begin(book: &[State], k: usize, table: &[State], row: &mut [u16])
-    requires { ⌜ Shaped (now book) × (k < promisesOf (now book)) × (length (now row) ≤ length (now table)) ⌝ }
-    ensures { λ _. ⌜ BegunRow (now (book .entry)) k (now (table .entry)) (now (row .entry)) (now (row .exit)) ⌝ }
-{
-    let mut i: usize = 0;
-    while i < row.len() {
-        if rules::kept(book, k, table[i]) {
-            row[i] = ITSELF;
-            i += 1;
-        } else {
-            row[i] = NOBODY;
-            i += 1;
-        }
-    }
-}
-
-// Whether place i is unstruck and its number is `was`.
-fn is_so(words: &[u32], row: &[u16], i: usize, was: u16) -> bool
-    requires { ⌜ (i < length (now words)) × (i < length (now row)) ⌝ }
-    ensures { λ b. ⌜ IsSo (now (words .entry)) (now (row .entry)) i was b ⌝ }
-{
-    if row[i] == was {
-        return words[i] == 0;
-    }
-    false
-}
 
 // Of the places on the chain that begins with place c, gives `to` to the unstruck ones whose number is `was`, and puts them into the line behind
 // its first n; how long the line then is.
@@ -74,9 +42,9 @@ fn redirect_chain(
             row[i] = to;
             line[tail] = i as u16;
             tail += 1;
-            i = web::link(back, i);
+            i = stored::link(back, i);
         } else {
-            i = web::link(back, i);
+            i = stored::link(back, i);
         }
     }
     tail
@@ -98,11 +66,11 @@ fn redirect(
     ensures { λ m. ⌜ Redirected (λ i. Backed (now (back .entry)) i t) (now (words .entry)) was to (now (row .entry)) (now (row .exit)) n
         (now (line .entry)) (now (line .exit)) m ⌝ }
 {
-    let end = web::row_end(back, t);
+    let end = stored::row_end(back, t);
     let mut tail = n;
-    let mut e = web::row_start(back, t);
+    let mut e = stored::row_start(back, t);
     while e < end {
-        let c = web::cell(back, e);
+        let c = stored::cell(back, e);
         tail = redirect_chain(words, row, back, c, was, to, line, tail);
         e += 1;
     }
@@ -134,25 +102,6 @@ fn loosen(
     tail
 }
 
-// Before the promise's first phase: all unstruck places that nobody helps, behind the log's first m.
-fn list_alone(words: &[u32], row: &[u16], log: &mut [u16], m: usize) -> usize
-    requires { ⌜ Fresh (now words) (now row) (now log) m × (length (now log) ≤ mostStates) ⌝ }
-    ensures { λ tail. ⌜ Loosened (now (words .entry)) (now (row .entry)) (now (row .entry)) (now (log .entry)) (now (log .exit)) m tail ⌝ }
-{
-    let mut tail = m;
-    let mut i: usize = 0;
-    while i < row.len() {
-        if is_so(words, row, i, NOBODY) {
-            log[tail] = i as u16;
-            tail += 1;
-            i += 1;
-        } else {
-            i += 1;
-        }
-    }
-    tail
-}
-
 // The places that need a witness, behind the log's first m: before the first phase, when `from` is above m, all without one; else those cut off.
 fn lost(
     words: &[u32],
@@ -172,26 +121,15 @@ fn lost(
     loosen(words, row, back, log, from, m)
 }
 
-// Whether place j is unstruck and has a witness.
-fn is_helped(words: &[u32], row: &[u16], j: usize) -> bool
-    requires { ⌜ (j < length (now words)) × (j < length (now row)) ⌝ }
-    ensures { λ b. ⌜ Helps (now (words .entry)) (now (row .entry)) j b ⌝ }
-{
-    if words[j] == 0 {
-        return row[j] != NOBODY;
-    }
-    false
-}
-
 // The first next place of place i that is unstruck and has a witness, or the row's length.
 fn seek_helper(words: &[u32], row: &[u16], forth: &[u16], i: usize) -> usize
     requires { ⌜ Readable (now forth) (length (now row)) × (i < length (now row)) × (length (now row) ≤ length (now words)) ⌝ }
     ensures { λ j. ⌜ HelperIn (now (words .entry)) (now (row .entry)) (Leads (now (forth .entry))) i j ⌝ }
 {
-    let end = web::row_end(forth, i);
-    let mut e = web::row_start(forth, i);
+    let end = stored::row_end(forth, i);
+    let mut e = stored::row_start(forth, i);
     while e < end {
-        let j = web::cell(forth, e);
+        let j = stored::cell(forth, e);
         if is_helped(words, row, j) {
             return j;
         }
@@ -278,28 +216,6 @@ fn rehang(
 {
     let n = ask(words, row, forth, log, m, tail, line);
     spread(words, row, back, line, n);
-}
-
-// Strikes the unstruck places without a witness, which all stand in the log from m up to `tail`; how long the log then is.
-fn fall(words: &mut [u32], row: &[u16], log: &mut [u16], m: usize, tail: usize, word: u32) -> usize
-    requires { ⌜ Fallable (now words) (now row) (now log) m tail word × (length (now log) ≤ mostStates) ⌝ }
-    ensures { λ end. ⌜ FellTo (now (row .entry)) word (now (words .entry)) (now (words .exit)) (now (log .entry)) (now (log .exit)) m end ⌝ }
-{
-    let mut end = m;
-    let mut g = m;
-    while g < tail {
-        let t = log[g];
-        let i = t as usize;
-        if is_so(words, row, i, NOBODY) {
-            words[i] = word;
-            log[end] = t;
-            end += 1;
-            g += 1;
-        } else {
-            g += 1;
-        }
-    }
-    end
 }
 
 // One phase of a promise: strikes together the places from which no witnesses lead on to it; how long the log then is.

@@ -1,3 +1,1 @@
-pub mod Layout
 pub mod Web
-pub mod Storing

@@ -593,8 +593,10 @@ pub fn rehung_chain(letters: u8, helpers: u8) -> Draft {
 }
 
 /// A counter to a dead end beside free letters, so that each state has 2^free next
-/// states: too many moves to be stored, and a round for each number. 16 promises
-/// of the lowest letter.
+/// states, and a round for each number. The moves are too many to be stored one by
+/// one, and as many of the first states as there are numbers are of different
+/// classes; beside 9 free letters they are not stored at all. 16 promises of the
+/// lowest letter.
 pub fn counter_beside(letters: u8, free: u8) -> Draft {
     let mut draft = counter_to_dead_end(letters);
     draft.letters += free;
@@ -618,7 +620,7 @@ pub fn many() -> Vec<Family> {
         name: format!("chain of 2^{letters} states hung anew, 2^{helpers} helpers"),
         sheet: rehung_chain(letters, helpers).bytes(),
     });
-    let beside = [(7, 5), (8, 5), (9, 5)].map(|(letters, free)| Family {
+    let beside = [(7, 5), (8, 5), (9, 5), (5, 9)].map(|(letters, free)| Family {
         name: format!("counter of {letters} letters to a dead end beside {free} free letters"),
         sheet: counter_beside(letters, free).bytes(),
     });

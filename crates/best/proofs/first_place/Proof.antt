@@ -25,7 +25,11 @@ first-place-spec =
     (λ c. omega arith)
     (λ c. omega arith)
     (λ c κs. c .before .before .before .before .before .pre .0)
-    (λ c. record { inside = omega arith; earlier = c .before .before .before .before .loop .inv .1; here = λ h. sym (c .before .first-state .ensures) ∙ c .if1 .taken })
+    (λ c. record {
+      inside = omega arith;
+      earlier = c .before .before .before .before .loop .inv .1;
+      here = λ h. sym (c .before .first-state .ensures) ∙ c .if1 .taken;
+    })
     (λ c. omega arith)
     (λ c. omega arith)
     (λ c. (omega arith, below-more _ _ (c .before .before .before .before .loop .inv .1) (sym (c .before .first-state .ensures) ∙ c .if1 .left)))

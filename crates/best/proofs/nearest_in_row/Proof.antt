@@ -3,7 +3,7 @@ use mathlib.Core.List.{List}
 use Prim.Native.Nat.{ℕ, _+_, _-_, _≤_, _<_}
 use native.Mathlib.Omega.{arith}
 use lib.ListN.{length}
-use Rattle.web.specs.Layout.{startAt, endAt, cellsOf}
+use Rattle.stored.specs.Layout.{startAt, endAt, cellsOf}
 use Rattle.ground.specs.Listed.{Between}
 use Rattle.best.specs.Step.{Nearest, rowAt}
 use Rattle.best.proofs.Scans.{nearest-all, nearest-none, looked-nearer, looked-not}
@@ -55,14 +55,16 @@ loop-again-2 c =
     let inv = head .loop .inv in (
       omega (arith, inv .0),
       omega (arith, inside (at .before)),
-      looked-not (cells head) _ _ (head .loop .e) _ (at .cell .ensures) (inv .2) _ (start head .pre .ascends) (inside (at .before)) (omega (arith, c .if1 .left)),
+      looked-not (cells head) _ _ (head .loop .e) _ (at .cell .ensures) (inv .2) _ (start head .pre .ascends) (inside (at .before))
+          (omega (arith, c .if1 .left)),
     )
 
 returns : tie.Need-returns Inv-loop μ-loop
 returns c =
     let inv = c .before .loop .inv in
     let end = c .before .before .before .row-end .ensures .0 in
-    nearest-all (λ x m. (m .0, m .1, omega (arith, m .1, m .2, inv .1), m .3)) (λ x m. (m .0, m .1, omega (arith, m .2, c .loop-test .left, end), m .3)) (inv .2)
+    nearest-all (λ x m. (m .0, m .1, omega (arith, m .1, m .2, inv .1), m .3))
+    (λ x m. (m .0, m .1, omega (arith, m .2, c .loop-test .left, end), m .3)) (inv .2)
 
 pub nearest-in-row-spec : {M : Type 1} → statement M
 nearest-in-row-spec =

@@ -20,6 +20,12 @@ passed-spec =
     (λ c. let a = c .before .before .before .args in passed-none (bookSystem (a .book .now)) (a .aim) (a .s) (omega (arith, promises-are (a .book .now))))
     (λ c κs. search needs)
     (λ c. omega (arith, promises-are (start (c .before) .args .book .now)))
-    (λ c. let at = c .before .before in passed-on _ _ _ (sym (at .kept .ensures) ∙ c .before .if2 .taken) (omega (arith, promises-are (start at .args .book .now))))
-    (λ c. let at = c .before .before in passed-back _ _ _ (sym (at .kept .ensures) ∙ c .before .if2 .taken) (omega (arith, promises-are (start at .args .book .now))))
-    (λ c. let at = c .before in passed-not _ _ _ (sym (at .kept .ensures) ∙ c .if2 .left) (omega (arith, promises-are (start at .args .book .now))) (start at .pre .1)))
+    (λ c.
+    let at = c .before .before in
+    passed-on _ _ _ (sym (at .kept .ensures) ∙ c .before .if2 .taken) (omega (arith, promises-are (start at .args .book .now))))
+    (λ c.
+    let at = c .before .before in
+    passed-back _ _ _ (sym (at .kept .ensures) ∙ c .before .if2 .taken) (omega (arith, promises-are (start at .args .book .now))))
+    (λ c.
+    let at = c .before in
+    passed-not _ _ _ (sym (at .kept .ensures) ∙ c .if2 .left) (omega (arith, promises-are (start at .args .book .now))) (start at .pre .1)))

@@ -39,5 +39,7 @@ seek-spec =
     (λ c κs. search needs)
     (λ c κs. let s = start (c .before .before) in next-scannable (s .pre .0) (s .args .place) (s .args .aim) (s .pre .1) (s .pre .2) (s .pre .3))
     returns
-    (λ c κs. let s = start (c .before .before .before .before) in next-scannable (s .pre .0) (s .args .place) (s .args .aim) (s .pre .1) (s .pre .2) (s .pre .3))
+    (λ c κs.
+    let s = start (c .before .before .before .before) in
+    next-scannable (s .pre .0) (s .args .place) (s .args .aim) (s .pre .1) (s .pre .2) (s .pre .3))
     returns-2)

@@ -1,5 +1,4 @@
 -- `best::step` meets its contract. The aim passes, and what the row or the scan gives is the best next state. Assumes nothing.
-use borrow.Author.Needs.{needs}
 use native.Mathlib.Omega.{arith}
 use Rattle.best.proofs.Distances.{row-within}
 use Rattle.best.proofs.Nexts.{row-lookable, best-in-row}

@@ -2,7 +2,7 @@
 use Prim.Native.Nat.{_-_}
 use native.Mathlib.Omega.{arith}
 use lib.ListN.{length}
-use Rattle.class.specs.Steps.{deskOf}
+use Rattle.class.specs.Desks.{deskOf}
 use Rattle.class.proofs.Parts.{Turning, turning-none, turning-more, turning-room, turning-cut, turning-all}
 use Rattle.class.proofs.judge_all.Statement.{statement}
 use Rattle.class.proofs.judge_all.Tie as tie

@@ -8,13 +8,18 @@ use Rattle.classes.proofs.likely.Statement.{statement}
 use Rattle.classes.proofs.likely.Tie as tie
 
 mul-place : tie.Need-mul-place
-mul-place c = omega (arith, mod-lt (c .signature .result) (c .before .before .before .before .before .pre .1), c .before .before .before .before .before .pre .2)
+mul-place c =
+    let pre = c .before .before .before .before .before .pre in
+    omega (arith, mod-lt (c .signature .result) (pre .1), pre .2)
 
 cast-place : tie.Need-cast-place
-cast-place c = omega (arith, c .slice-known2 .given (c .before .signature .result % length (c .before .before .before .before .before .before .args .places .now)))
+cast-place c =
+    omega (arith, c .slice-known2 .given (c .before .signature .result % length (c .before .before .before .before .before .before .args .places .now)))
 
 mul-places : tie.Need-mul-places
-mul-places c = omega (arith, mod-lt (c .before .signature .result) (c .before .before .before .before .before .before .pre .1), c .before .before .before .before .before .before .pre .2)
+mul-places c =
+    let pre = c .before .before .before .before .before .before .pre in
+    omega (arith, mod-lt (c .before .signature .result) (pre .1), pre .2)
 
 pub likely-spec : {M : Type 1} → statement M
 likely-spec =

@@ -1,11 +1,11 @@
--- `classes::signature` meets its contract, which is none: its sums fit. The invariant: the signature is below 65521. Assumes nothing.
+-- `classes::signature` meets its contract, which is none: its sums fit. The invariant: the signature is below the prime number 2147483647. Assumes nothing.
 use Prim.Native.Nat.{_-_, _<_}
 use native.Mathlib.Omega.{arith}
 use Rattle.classes.proofs.signature.Statement.{statement}
 use Rattle.classes.proofs.signature.Tie as tie
 
 abbrev Inv-loop : tie.InvT-loop
-Inv-loop book s steps sign₀ i₀ sign i = sign < 65521
+Inv-loop book s steps sign₀ i₀ sign i = sign < 2147483647
 
 abbrev μ-loop : tie.MeasureT-loop
 μ-loop book s steps sign₀ i₀ sign i = steps - i

@@ -2,7 +2,7 @@
 -- Assumes nothing.
 use mathlib.Core.Path.{subst}
 use borrow.Author.Needs.{needs}
-use Rattle.steer.specs.Walk.{WalkedAlong}
+use Rattle.steer.specs.Ways.{WalkedAlong}
 use Rattle.steer.proofs.Ways.{walked-after}
 use Rattle.steer.proofs.steer.Statement.{statement}
 use Rattle.steer.proofs.steer.Tie as tie
@@ -19,7 +19,7 @@ returns-4 c =
     let walked = c .before .before .before .before in
     let told = walked .before .before .before in
     let at = told .before .before .before .before .before .before in
-    walked-after (subst (WalkedAlong _ _ _ _ _) (told .enum-told .given .1) (at .walk-stored .ensures)) (walked .walk-many .ensures)
+    walked-after (subst (WalkedAlong _ _ _ _ _) (told .enum-told .given .1) (at .walk-stored .ensures)) (walked .walk-unstored .ensures)
 
 pub steer-spec : {M : Type 1} → statement M
 steer-spec =

@@ -1,14 +1,15 @@
 -- `steer::walk_many` meets its contract: the lent arrays have room for as many states as there can be. Assumes nothing.
 use borrow.Author.Needs.{needs}
 use native.Mathlib.Omega.{arith}
-use Rattle.steer.proofs.Trails.{few-rows}
+use Rattle.steer.proofs.Ways.{lent-rows, lent-signs}
 use Rattle.steer.proofs.walk_many.Statement.{statement}
 use Rattle.steer.proofs.walk_many.Tie as tie
 
 walk-by-tests-requires : tie.Need-walk-by-tests-requires
 walk-by-tests-requires c κs =
     let pre = c .before .before .before .before .before .before .before .before .before .pre in
-    (pre, few-rows (pre .states) 16384 (pre .states .states .few), pre .states .states .few, omega arith)
+    let room = lent-rows (pre .states) 16384 (pre .states .states .few) in
+    (pre, room .0, room .1, lent-signs 32770 (omega arith))
 
 pub walk-many-spec : {M : Type 1} → statement M
 walk-many-spec =

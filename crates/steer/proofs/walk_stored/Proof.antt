@@ -1,10 +1,11 @@
 -- `steer::walk_stored` meets its contract. As many distances as there can be have room, and the moves are stored both ways, or nothing is touched.
 -- Assumes nothing.
 use mathlib.Core.Path.{refl}
+use Prim.Native.Nat.{ℕ}
 use borrow.Author.Needs.{needs}
+use lib.ListN.{length-replicate}
 use Rattle.best.proofs.Books.{table-storable}
-use Rattle.steer.proofs.Trails.{few-rows}
-use Rattle.steer.proofs.Ways.{stored-ways}
+use Rattle.steer.proofs.Ways.{lent-rows, stored-ways}
 use Rattle.steer.proofs.walk_stored.Statement.{statement}
 use Rattle.steer.proofs.walk_stored.Tie as tie
 
@@ -17,8 +18,9 @@ walk-requires c κs =
     let test = c .before .before .before .before .before .before .before in
     let at = test .before .before .before in
     let pre = start at .pre in
-    let ways = stored-ways _ _ (at .store .ensures .0) (test .if1 .left) (pre .states .states .few) in
-    (pre, few-rows (pre .states) 16384 (pre .states .states .few), ways .0, ways .1)
+    let room = lent-rows (pre .states) 16384 (pre .states .states .few) in
+    let ways = stored-ways _ _ (at .store .ensures .0) (test .if1 .left) (room .1) in
+    (pre, room .0, ways .0, ways .1)
 
 pub walk-stored-spec : {M : Type 1} → statement M
 walk-stored-spec =
@@ -26,7 +28,7 @@ walk-stored-spec =
     (tie.spec
     (λ c. search needs)
     (λ c. search needs)
-    (λ c κs. (table-storable (c .before .before .before .before .before .before .pre .states), refl, refl))
+    (λ c κs. (table-storable (c .before .before .before .before .before .before .pre .states), length-replicate {A = ℕ} 65536 0, length-replicate {A = ℕ} 65536 0))
     (λ c. (refl, refl))
     (λ c. search needs)
     (λ c. search needs)

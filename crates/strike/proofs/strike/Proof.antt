@@ -1,7 +1,7 @@
 -- `strike::strike` meets its contract. Assumes nothing.
 use borrow.Author.Needs.{needs}
 use native.Mathlib.Omega.{arith}
-use Rattle.strike.proofs.Running.{wiped-strikable}
+use Rattle.strike.proofs.Ready.{wiped-strikable}
 use Rattle.strike.proofs.strike.Statement.{statement}
 use Rattle.strike.proofs.strike.Tie as tie
 

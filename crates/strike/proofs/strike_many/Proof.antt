@@ -1,8 +1,8 @@
 -- `strike::strike_many` meets its contract: where no moves were stored, the words are still 0. Assumes nothing.
 use mathlib.Core.Path.{subst}
 use borrow.Author.Needs.{needs}
-use Rattle.strike.specs.Phases.{StrickenIfStored}
-use Rattle.strike.proofs.Running.{still-strikable}
+use Rattle.strike.specs.Ways.{StrickenIfStored}
+use Rattle.strike.proofs.Ready.{still-strikable}
 use Rattle.strike.proofs.strike_many.Statement.{statement}
 use Rattle.strike.proofs.strike_many.Tie as tie
 

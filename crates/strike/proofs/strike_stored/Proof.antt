@@ -1,8 +1,8 @@
 -- `strike::strike_stored` meets its contract: if any moves are stored, all are. Assumes nothing.
-use mathlib.Core.Path.{refl}
 use borrow.Author.Needs.{needs}
-use Rattle.strike.proofs.Running.{strikable-storable}
-use Rattle.strike.proofs.WaysOn.{kept-along}
+use Prim.Native.Nat.{ℕ}
+use lib.ListN.{length-replicate}
+use Rattle.strike.proofs.Ready.{strikable-storable, kept-along}
 use Rattle.strike.proofs.strike_stored.Statement.{statement}
 use Rattle.strike.proofs.strike_stored.Tie as tie
 
@@ -17,7 +17,7 @@ strike-stored-spec =
     (tie.spec
     (λ c. search needs)
     (λ c. search needs)
-    (λ c κs. (strikable-storable _ _ _ _ (c .before .before .before .before .before .pre .0), refl, refl))
+    (λ c κs. (strikable-storable (c .before .before .before .before .before .pre .0), length-replicate {A = ℕ} 65536 0, length-replicate {A = ℕ} 65536 0))
     (λ c. search needs)
     (λ c. search needs)
     (λ c. search needs)

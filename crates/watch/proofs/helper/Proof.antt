@@ -1,6 +1,6 @@
 -- `watch::helper` meets its contract. Assumes nothing.
 use native.Mathlib.Omega.{arith}
-use Rattle.watch.proofs.Helped.{helper-sought, helper-other}
+use Rattle.witness.proofs.Helped.{helper-sought, helper-other}
 use Rattle.watch.proofs.helper.Statement.{statement}
 use Rattle.watch.proofs.helper.Tie as tie
 

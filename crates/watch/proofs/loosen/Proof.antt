@@ -1,14 +1,11 @@
 -- `watch::loosen` meets its contract. The loop's invariant is `Loosening`. Assumes nothing.
-use mathlib.Core.Path.{_≡_, _∙_}
 use Prim.Native.Nat.{_-_, _≤_}
 use native.Mathlib.Omega.{arith}
 use lib.ListN.{length}
-use Rattle.watch.proofs.Loosening.{Loosening, loosening-none, loosening-within, loosening-place, loosening-ask, loosening-more, loosening-done}
+use Rattle.witness.proofs.Loosening.{Loosening, loosening-none, loosening-within, loosening-place, loosening-turn, loosening-more, loosening-done}
+use Rattle.watch.proofs.Redirecting.{redirectable-along}
 use Rattle.watch.proofs.loosen.Statement.{statement}
 use Rattle.watch.proofs.loosen.Tie as tie
-use Rattle.watch.proofs.loosen.Reads as reads
-use Rattle.watch.proofs.loosen.Lts as lts
-use Rattle.watch.proofs.redirect.Reads as redirect-reads
 
 abbrev Inv-loop : tie.InvT-loop
 Inv-loop words row₀ back log₀ from m tail₀ h₀ row log tail h = (from ≤ h) × (h ≤ tail) × Loosening words row₀ row log₀ log m tail h
@@ -32,14 +29,24 @@ slice-read-t c = let l = c .before in let R = l .before .before .before .before 
 
 cast-place : tie.Need-cast-place Inv-loop μ-loop
 cast-place c = let l = c .before in
-    omega (arith, loosening-place (l .before .before .before .before .before .before .pre .0) (l .before .loop .inv .2) (l .before .loop .inv .0) (l .loop-test .taken), l .before .before .before .before .before .before .pre .0 .pointed .few)
+    omega (
+      arith,
+      loosening-place (l .before .before .before .before .before .before .pre .0) (l .before .loop .inv .2) (l .before .loop .inv .0)
+          (l .loop-test .taken),
+      l .before .before .before .before .before .before .pre .0 .pointed .few,
+    )
 
 redirect-requires : tie.Need-redirect-requires Inv-loop μ-loop
-redirect-requires c κs = let l = c .before .before .before in
-    loosening-ask (l .before .before .before .before .before .before .pre .0) (l .before .loop .inv .2) (l .before .before .before .before .before .before .pre .1) (l .before .loop .inv .0) (l .loop-test .taken) (l .before .before .before .before .before .before .pre .2)
+redirect-requires c κs =
+    let l = c .before .before .before in
+    let start = l .before .before .before .before .before .before in
+    let inv = l .before .loop .inv in
+    redirectable-along (start .pre .1) (inv .2 .long) (loosening-place (start .pre .0) (inv .2) (inv .0) (l .loop-test .taken))
+    (loosening-turn (start .pre .0) (inv .2) (inv .0) (l .loop-test .taken) (start .pre .2))
 
 add-h : tie.Need-add-h Inv-loop μ-loop
-add-h c = let l = c .before .before .before .before .before .before .before .before in omega (arith, within l, l .loop-test .taken, l .before .before .before .before .before .before .pre .0 .pointed .few)
+add-h c = let l = c .before .before .before .before .before .before .before .before in
+    omega (arith, within l, l .loop-test .taken, l .before .before .before .before .before .before .pre .0 .pointed .few)
 
 loop-less : tie.Need-loop-less Inv-loop μ-loop
 loop-less c = let l = c .before .before .before .before .before .before .before .before in let R = l .before .before .before .before .before .before .pre .0 in
@@ -51,7 +58,8 @@ loop-again c =
     let T = c .before .before .before .before .redirect .ensures in (
       omega (arith, l .before .loop .inv .0),
       omega (arith, l .loop-test .taken, T .grows),
-      loosening-more (l .before .before .before .before .before .before .pre .0) (l .before .loop .inv .2) (λ i k p. p) (l .before .loop .inv .0) (l .loop-test .taken) T,
+      loosening-more (l .before .before .before .before .before .before .pre .0) (l .before .loop .inv .2) (λ i k p. p) (l .before .loop .inv .0)
+          (l .loop-test .taken) T,
     )
 
 returns : tie.Need-returns Inv-loop μ-loop

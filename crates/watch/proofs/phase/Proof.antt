@@ -1,7 +1,8 @@
 -- `watch::phase` meets its contract. Assumes nothing.
 use native.Mathlib.Omega.{arith}
 use borrow.Author.Needs.{needs}
-use Rattle.watch.proofs.Phasing.{lost-woven, lost-line, lost-hangable, lost-fallable, phase-watched}
+use Rattle.witness.proofs.Phasing.{lost-hangable, lost-fallable, phase-watched}
+use Rattle.watch.proofs.Rehanging.{lost-woven, lost-line}
 use Rattle.watch.proofs.phase.Statement.{statement}
 use Rattle.watch.proofs.phase.Tie as tie
 
@@ -11,14 +12,16 @@ rehang-requires c κs =
     let start = lost .before .before .before .before .before .before .before .before .before .before in
     let B = start .pre .before in
     let L = lost .lost .ensures in
-    (lost-woven B L (start .pre .woven), lost-hangable B L, lost-line B L (start .pre .line-is), omega (arith, start .pre .log-few, L .log-long))
+    (lost-woven (L .long) (start .pre .woven), lost-hangable B L, lost-line (L .long) (start .pre .line-is), omega (arith, start .pre .log-few, L .log-long))
 
 fall-requires : tie.Need-fall-requires
 fall-requires c κs =
     let rehung = c .before .before .before .before .before .before .before in
     let lost = rehung .before .before .before .before .before .before .before .before .before in
-    let start = lost .before .before .before .before .before .before .before .before .before .before in
-    (lost-fallable (start .pre .before) (lost .lost .ensures) (start .pre .some) (rehung .rehang .ensures .0), omega (arith, start .pre .log-few, lost .lost .ensures .log-long))
+    let start = lost .before .before .before .before .before .before .before .before .before .before in (
+      lost-fallable (start .pre .before) (lost .lost .ensures) (start .pre .some) (rehung .rehang .ensures .0),
+      omega (arith, start .pre .log-few, lost .lost .ensures .log-long),
+    )
 
 returns : tie.Need-returns
 returns c =
@@ -34,7 +37,8 @@ pub phase-spec : {M : Type 1} → statement M
 phase-spec =
     tie.close
     (tie.spec
-    (λ c κs. let start = c .before .before .before .before .before .before .before .before .before in (start .pre .before, start .pre .woven .backward, start .pre .log-few))
+    (λ c κs. let start = c .before .before .before .before .before .before .before .before .before in
+    (start .pre .before, start .pre .woven .backward, start .pre .log-few))
     rehang-requires
     fall-requires
     (λ c. search needs)

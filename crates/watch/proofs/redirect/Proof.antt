@@ -1,7 +1,7 @@
 -- `watch::redirect` meets its contract. The loop's invariant: the row is redirected up to cell e. Assumes nothing.
 use Prim.Native.Nat.{_-_, _<_}
 use native.Mathlib.Omega.{arith}
-use Rattle.web.specs.Layout.{mostCells, endAt}
+use Rattle.stored.specs.Layout.{mostCells, endAt}
 use Rattle.watch.proofs.Redirecting.{RowTo, row-none, row-done, cell-ready, cell-more}
 use Rattle.watch.proofs.redirect.Statement.{statement}
 use Rattle.watch.proofs.redirect.Tie as tie
@@ -38,7 +38,8 @@ loop-again c =
     let at-chain = c .before .before .before .before in
     let at-cell = cell at-chain in
     let l = at-cell .before .before in
-    cell-more _ _ _ _ _ _ _ _ (entry l .pre) _ _ _ _ (l .loop .inv) _ (inside (at-cell .before) .0) (at-cell .cell .ensures) _ _ _ (at-chain .redirect-chain .ensures)
+    cell-more _ _ _ _ _ _ _ _ (entry l .pre) _ _ _ _ (l .loop .inv) _ (inside (at-cell .before) .0) (at-cell .cell .ensures) _ _ _
+    (at-chain .redirect-chain .ensures)
 
 returns : tie.Need-returns Inv-loop μ-loop
 returns c =

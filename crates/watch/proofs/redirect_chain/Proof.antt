@@ -63,7 +63,8 @@ loop-again-2 : tie.Need-loop-again-2 Inv-loop μ-loop
 loop-again-2 c =
     let e = else (c .before) in
     let l = e .before in
-    chain-past _ _ _ _ _ _ _ _ (entry l .pre .0) (entry l .pre .1) _ _ _ _ (l .loop .inv) (inside e) _ (c .link2 .ensures .0) (c .before .before .is-so .ensures)
+    chain-past _ _ _ _ _ _ _ _ (entry l .pre .0) (entry l .pre .1) _ _ _ _ (l .loop .inv) (inside e) _ (c .link2 .ensures .0)
+    (c .before .before .is-so .ensures)
     (c .before .if1 .left)
 
 returns : tie.Need-returns Inv-loop μ-loop

@@ -5,7 +5,8 @@ use Rattle.watch.proofs.rehang.Statement.{statement}
 use Rattle.watch.proofs.rehang.Tie as tie
 
 ask-requires : tie.Need-ask-requires
-ask-requires c κs = let pre = c .before .before .before .before .before .before .before .before .pre in rehang-askable _ _ _ _ _ _ _ _ (pre .0) (pre .1) (pre .2) (pre .3)
+ask-requires c κs = let pre = c .before .before .before .before .before .before .before .before .pre in
+    rehang-askable _ _ _ _ _ _ _ _ (pre .0) (pre .1) (pre .2) (pre .3)
 
 spread-requires : tie.Need-spread-requires
 spread-requires c κs =
@@ -26,6 +27,8 @@ rehang-spec =
     (tie.spec
     ask-requires
     spread-requires
-    (λ c. c .before .before .before .before .spread .ensures .1 ∙ c .before .before .before .before .before .before .before .before .before .before .before .ask .ensures .long)
-    (λ c. c .before .before .before .before .spread .ensures .2 ∙ c .before .before .before .before .before .before .before .before .before .before .before .ask .ensures .line-long)
+    (λ c. c .before .before .before .before .spread .ensures .1
+    ∙ c .before .before .before .before .before .before .before .before .before .before .before .ask .ensures .long)
+    (λ c. c .before .before .before .before .spread .ensures .2
+    ∙ c .before .before .before .before .before .before .before .before .before .before .before .ask .ensures .line-long)
     returns)

@@ -2,8 +2,8 @@
 use Prim.Native.Nat.{_-_, _<_}
 use native.Mathlib.Omega.{arith}
 use lib.ListN.{length}
-use Rattle.web.specs.Layout.{endAt}
-use Rattle.watch.proofs.Helped.{Passed, passed-none, passed-place, passed-found, passed-more, passed-all}
+use Rattle.stored.specs.Layout.{endAt}
+use Rattle.watch.proofs.Seeking.{Passed, passed-none, passed-place, passed-found, passed-more, passed-all}
 use Rattle.watch.proofs.seek_helper.Statement.{statement}
 use Rattle.watch.proofs.seek_helper.Tie as tie
 
@@ -15,7 +15,8 @@ abbrev μ-loop : tie.MeasureT-loop
 
 -- within the loop's body: e is a cell of the row,
 inside : (c : tie.In-loop Inv-loop μ-loop)
-    → c .before .loop .e < endAt (c .before .before .before .before .before .before .before .args .forth .now) (c .before .before .before .before .before .before .before .args .i)
+    → c .before .loop .e < endAt (c .before .before .before .before .before .before .before .args .forth .now)
+    (c .before .before .before .before .before .before .before .args .i)
 inside c = omega (arith, c .loop-test .taken, c .before .before .before .row-end .ensures .0)
 
 -- and holds a place
@@ -34,7 +35,8 @@ returns : tie.Need-returns Inv-loop μ-loop
 returns c =
     let at-cell = c .before .before in
     let at-loop = at-cell .before .before in
-    passed-found _ _ _ _ (at-loop .before .before .before .before .before .before .pre) _ (at-loop .loop .inv) (inside (at-cell .before)) _ (at-cell .cell .ensures)
+    passed-found _ _ _ _ (at-loop .before .before .before .before .before .before .pre) _ (at-loop .loop .inv) (inside (at-cell .before)) _
+    (at-cell .cell .ensures)
     (c .before .is-helped .ensures) (c .if1 .taken)
 
 add-e : tie.Need-add-e Inv-loop μ-loop
@@ -46,7 +48,8 @@ loop-again : tie.Need-loop-again Inv-loop μ-loop
 loop-again c =
     let at-cell = c .before .before in
     let at-loop = at-cell .before .before in
-    passed-more _ _ _ _ (at-loop .before .before .before .before .before .before .pre) _ (at-loop .loop .inv) (inside (at-cell .before)) _ (at-cell .cell .ensures)
+    passed-more _ _ _ _ (at-loop .before .before .before .before .before .before .pre) _ (at-loop .loop .inv) (inside (at-cell .before)) _
+    (at-cell .cell .ensures)
     (c .before .is-helped .ensures) (c .if1 .left)
 
 returns-2 : tie.Need-returns-2 Inv-loop μ-loop

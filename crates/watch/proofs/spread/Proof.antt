@@ -33,7 +33,8 @@ loop-again : tie.Need-loop-again Inv-loop μ-loop
 loop-again c =
     let at-redirect = c .before .before .before .before in
     let turn = at-redirect .before .before .before .before in
-    spread-more _ _ _ _ _ (turn .before .before .before .before .before .before .pre) _ _ _ _ (turn .before .loop .inv) (turn .loop-test .taken) _ _ _ (at-redirect .redirect .ensures)
+    spread-more _ _ _ _ _ (turn .before .before .before .before .before .before .pre) _ _ _ _ (turn .before .loop .inv) (turn .loop-test .taken) _ _ _
+    (at-redirect .redirect .ensures)
 
 returns : tie.Need-returns Inv-loop μ-loop
 returns c =

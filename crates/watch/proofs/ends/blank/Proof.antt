@@ -4,7 +4,7 @@ use Prim.Native.Nat.{ℕ, _-_, _<_}
 use native.Mathlib.Omega.{arith}
 use borrow.Author.Needs.{needs}
 use lib.ListN.{length, getD, length-set}
-use Rattle.distances.specs.Far.{far}
+use Rattle.distances_start.specs.Far.{far}
 use Rattle.watch.proofs.Ending.{blank-more}
 use Rattle.watch.proofs.ends.blank.Statement.{statement}
 use Rattle.watch.proofs.ends.blank.Tie as tie
@@ -26,6 +26,9 @@ blank-spec =
     (λ c. c .loop-test .taken)
     (λ c. search needs)
     (λ c. simp length-set (omega (arith, c .loop-test .taken)))
-    (λ c. (length-set (c .before .loop .row) (c .before .loop .i) far ∙ c .before .loop .inv .0, blank-more (c .before .loop .row) (c .before .loop .i) (c .loop-test .taken) (c .before .loop .inv .1)))
+    (λ c. (
+      length-set (c .before .loop .row) (c .before .loop .i) far ∙ c .before .loop .inv .0,
+      blank-more (c .before .loop .row) (c .before .loop .i) (c .loop-test .taken) (c .before .loop .inv .1),
+    ))
     (λ c. c .before .loop .inv .0)
     (λ c. (λ i h. c .before .loop .inv .1 i (omega (arith, h, c .loop-test .left)), c .before .loop .inv .0)))

@@ -1,14 +1,10 @@
 -- `watch::ends::cut` meets its contract. The loop's invariant is `Cutting`. Assumes nothing.
-use mathlib.Core.Path.{_≡_, _∙_}
 use Prim.Native.Nat.{_-_, _≤_}
 use native.Mathlib.Omega.{arith}
 use lib.ListN.{length}
 use Rattle.watch.proofs.Ending.{Cutting, cutting-none, cutting-within, cutting-place, cutting-ask, cutting-more, cutting-done}
 use Rattle.watch.proofs.ends.cut.Statement.{statement}
 use Rattle.watch.proofs.ends.cut.Tie as tie
-use Rattle.watch.proofs.ends.cut.Reads as reads
-use Rattle.watch.proofs.ends.cut.Lts as lts
-use Rattle.watch.proofs.redirect.Reads as redirect-reads
 
 abbrev Inv-loop : tie.InvT-loop
 Inv-loop words row₀ back log₀ from m tail₀ h₀ row log tail h = (from ≤ h) × Cutting words row₀ row log₀ log m tail h
@@ -32,14 +28,20 @@ slice-read-t c = let l = c .before in let R = l .before .before .before .before 
 
 cast-place : tie.Need-cast-place Inv-loop μ-loop
 cast-place c = let l = c .before in
-    omega (arith, cutting-place (l .before .before .before .before .before .before .pre .0) (l .before .loop .inv .1) (l .loop-test .taken), l .before .before .before .before .before .before .pre .0 .few)
+    omega (
+      arith,
+      cutting-place (l .before .before .before .before .before .before .pre .0) (l .before .loop .inv .1) (l .loop-test .taken),
+      l .before .before .before .before .before .before .pre .0 .few,
+    )
 
 redirect-requires : tie.Need-redirect-requires Inv-loop μ-loop
 redirect-requires c κs = let l = c .before .before .before in
-    cutting-ask (l .before .before .before .before .before .before .pre .0) (l .before .loop .inv .1) (l .loop-test .taken) (l .before .before .before .before .before .before .pre .1)
+    cutting-ask (l .before .before .before .before .before .before .pre .0) (l .before .loop .inv .1) (l .loop-test .taken)
+    (l .before .before .before .before .before .before .pre .1)
 
 add-h : tie.Need-add-h Inv-loop μ-loop
-add-h c = let l = c .before .before .before .before .before .before .before .before in omega (arith, within l, l .before .loop .inv .1 .grows, l .loop-test .taken, l .before .before .before .before .before .before .pre .0 .few)
+add-h c = let l = c .before .before .before .before .before .before .before .before in
+    omega (arith, within l, l .before .loop .inv .1 .grows, l .loop-test .taken, l .before .before .before .before .before .before .pre .0 .few)
 
 loop-less : tie.Need-loop-less Inv-loop μ-loop
 loop-less c = let l = c .before .before .before .before .before .before .before .before in let R = l .before .before .before .before .before .before .pre .0 in
@@ -48,8 +50,10 @@ loop-less c = let l = c .before .before .before .before .before .before .before 
 loop-again : tie.Need-loop-again Inv-loop μ-loop
 loop-again c =
     let l = c .before .before .before .before .before .before .before .before in
-    let T = c .before .before .before .before .redirect .ensures in
-    (omega (arith, l .before .loop .inv .0), cutting-more (l .before .before .before .before .before .before .pre .0) (l .before .loop .inv .1) (l .loop-test .taken) T)
+    let T = c .before .before .before .before .redirect .ensures in (
+      omega (arith, l .before .loop .inv .0),
+      cutting-more (l .before .before .before .before .before .before .pre .0) (l .before .loop .inv .1) (l .loop-test .taken) T,
+    )
 
 returns : tie.Need-returns Inv-loop μ-loop
 returns c = cutting-done (c .before .before .before .before .before .before .pre .0) (c .before .loop .inv .1) (omega (arith, c .loop-test .left))

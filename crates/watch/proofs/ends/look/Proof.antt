@@ -1,7 +1,6 @@
 -- `watch::ends::look` meets its contract. The loop's invariant is `Looking`. Assumes nothing.
 use Prim.Native.Nat.{_-_, _≤_, _<_}
 use native.Mathlib.Omega.{arith}
-use borrow.Author.Needs.{needs}
 use lib.ListN.{length, getD}
 use Rattle.watch.proofs.Ending.{Looking, looking-none, looking-more, looking-past, looking-done}
 use Rattle.watch.proofs.ends.look.Statement.{statement}
@@ -14,12 +13,17 @@ abbrev μ-loop : tie.MeasureT-loop
 μ-loop words row₀ forth log m tail r g₀ row g = tail - g
 
 -- within the loop: the place that is read
-place : (c : tie.In-loop Inv-loop μ-loop) → getD (c .before .before .before .before .before .before .args .log .now) (c .before .loop .g) 0 < length (c .before .before .before .before .before .before .args .row .now)
+place : (c : tie.In-loop Inv-loop μ-loop)
+    → getD (c .before .before .before .before .before .before .args .log .now)
+    (c .before .loop .g) 0 < length (c .before .before .before .before .before .before .args .row .now)
 place c = c .before .before .before .before .before .before .pre .places _ (c .before .loop .inv .0) (c .loop-test .taken)
 
 loop-again : tie.Need-loop-again Inv-loop μ-loop
-loop-again c = let l = c .before .before .before in
-    (omega (arith, l .before .loop .inv .0), looking-more (l .before .loop .inv .1) (l .before .before .before .before .before .before .pre .few) (place l) (c .if1 .taken) (c .before .way-on .ensures))
+loop-again c = let l = c .before .before .before in (
+  omega (arith, l .before .loop .inv .0),
+  looking-more (l .before .loop .inv .1) (l .before .before .before .before .before .before .pre .few) (place l) (c .if1 .taken)
+      (c .before .way-on .ensures),
+)
 
 loop-again-2 : tie.Need-loop-again-2 Inv-loop μ-loop
 loop-again-2 c = let l = c .before .before .before in
@@ -39,10 +43,12 @@ look-spec =
     (λ c. let l = c .before .before .before in omega (arith, c .if1 .taken, l .before .before .before .before .before .before .pre .few))
     (λ c. let l = c .before .before .before in omega (arith, place l, l .before .before .before .before .before .before .pre .few))
     (λ c. let l = c .before .before .before in omega (arith, place l, l .before .loop .inv .1 .long))
-    (λ c. let l = c .before .before .before in let p = l .before .before .before .before .before .before .pre in omega (arith, l .loop-test .taken, p .in-log, p .log-few))
+    (λ c. let l = c .before .before .before in let p = l .before .before .before .before .before .before .pre in
+    omega (arith, l .loop-test .taken, p .in-log, p .log-few))
     (λ c. let l = c .before .before .before in omega (arith, l .loop-test .taken))
     loop-again
-    (λ c. let l = c .before .before .before in let p = l .before .before .before .before .before .before .pre in omega (arith, l .loop-test .taken, p .in-log, p .log-few))
+    (λ c. let l = c .before .before .before in let p = l .before .before .before .before .before .before .pre in
+    omega (arith, l .loop-test .taken, p .in-log, p .log-few))
     (λ c. let l = c .before .before .before in omega (arith, l .loop-test .taken))
     loop-again-2
     (λ c. c .before .loop .inv .1 .long)

@@ -8,17 +8,24 @@ use Rattle.watch.proofs.ends.lost.Tie as tie
 returns : tie.Need-returns
 returns c =
     let start = c .before .before .before .before .before .before .before .before .before .before in
-    listed-cut _ (ahead-blank (c .before .before .before .before .before .if1 .taken) (start .pre .0)) (ahead-few (start .pre .0)) (c .before .before .list-alone .ensures)
+    listed-cut _ (ahead-blank (c .before .before .before .before .before .if1 .taken) (start .pre .0)) (ahead-few (start .pre .0))
+    (c .before .before .list-alone .ensures)
 
 pub lost-spec : {M : Type 1} → statement M
 lost-spec =
     tie.close
     (tie.spec
-    (λ c κs. (ahead-fresh (c .before .before .if1 .taken) (c .before .before .before .before .before .before .before .pre .0), c .before .before .before .before .before .before .before .pre .1))
+    (λ c κs. (
+      ahead-fresh (c .before .before .if1 .taken) (c .before .before .before .before .before .before .before .pre .0),
+      c .before .before .before .before .before .before .before .pre .1,
+    ))
     (λ c. search needs)
     (λ c. search needs)
     returns
-    (λ c κs. (ahead-going (omega (arith, c .before .before .if1 .left)) (c .before .before .before .before .before .before .before .pre .0), c .before .before .before .before .before .before .before .pre .1))
+    (λ c κs. (
+      ahead-going (omega (arith, c .before .before .if1 .left)) (c .before .before .before .before .before .before .before .pre .0),
+      c .before .before .before .before .before .before .before .pre .1,
+    ))
     (λ c. search needs)
     (λ c. search needs)
     (λ c. search needs))

@@ -15,8 +15,10 @@ fall-requires : tie.Need-fall-requires
 fall-requires c κs =
     let looked = c .before .before .before .before .before in
     let lost = looked .before .before .before .before .before .before .before .before in
-    let start = lost .before .before .before .before .before .before .before .before .before in
-    (cut-fallable (start .pre .ahead) (start .pre .woven) (lost .lost .ensures) (looked .look .ensures) (start .pre .some), omega (arith, start .pre .log-few, lost .lost .ensures .log-long))
+    let start = lost .before .before .before .before .before .before .before .before .before in (
+      cut-fallable (start .pre .ahead) (start .pre .woven) (lost .lost .ensures) (looked .look .ensures) (start .pre .some),
+      omega (arith, start .pre .log-few, lost .lost .ensures .log-long),
+    )
 
 returns : tie.Need-returns
 returns c =
@@ -30,7 +32,10 @@ pub phase-spec : {M : Type 1} → statement M
 phase-spec =
     tie.close
     (tie.spec
-    (λ c κs. (c .before .before .before .before .before .before .before .before .pre .ahead, c .before .before .before .before .before .before .before .before .pre .log-few))
+    (λ c κs. (
+      c .before .before .before .before .before .before .before .before .pre .ahead,
+      c .before .before .before .before .before .before .before .before .pre .log-few,
+    ))
     look-requires
     fall-requires
     (λ c. search needs)

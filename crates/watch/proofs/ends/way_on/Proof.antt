@@ -1,9 +1,7 @@
 -- `watch::ends::way_on` meets its contract. The loop's invariant: up to cell e there is no unstruck place. Assumes nothing.
-use mathlib.Core.Path.{_≡_}
 use Prim.Native.Nat.{_-_, _≤_, _<_}
 use native.Mathlib.Omega.{arith}
-use lib.ListN.{length}
-use Rattle.web.specs.Layout.{startAt, endAt}
+use Rattle.stored.specs.Layout.{startAt, endAt}
 use Rattle.watch.proofs.Ending.{NoneTo, none-more, none-ends, here-goes}
 use Rattle.watch.proofs.ends.way_on.Statement.{statement}
 use Rattle.watch.proofs.ends.way_on.Tie as tie
@@ -15,7 +13,9 @@ abbrev μ-loop : tie.MeasureT-loop
 μ-loop words forth r i end e₀ e = end - e
 
 -- within the loop: e is a cell of the row,
-inside : (c : tie.In-loop Inv-loop μ-loop) → c .before .loop .e < endAt (c .before .before .before .before .before .before .args .forth .now) (c .before .before .before .before .before .before .args .i)
+inside : (c : tie.In-loop Inv-loop μ-loop)
+    → c .before .loop .e < endAt (c .before .before .before .before .before .before .args .forth .now)
+    (c .before .before .before .before .before .before .args .i)
 inside c = omega (arith, c .loop-test .taken, c .before .before .before .row-end .ensures .0)
 
 -- and holds a place
@@ -35,11 +35,22 @@ way-on-spec =
     (λ c κs. let h = c .before .before .pre .0 .row _ (c .before .before .pre .1) in (h .long, h .place))
     (λ c κs. let h = c .before .before .before .pre .0 .row _ (c .before .before .before .pre .1) in (h .long, h .place))
     (λ c. (omega (arith, c .row-start .ensures), λ f h k. absurd (omega (arith, h, k, c .row-start .ensures))))
-    (λ c κs. let h = c .before .before .before .before .before .before .pre .0 .row _ (c .before .before .before .before .before .before .pre .1) in (h .long, omega (arith, inside c, h .within)))
+    (λ c κs. let h = c .before .before .before .before .before .before .pre .0 .row _ (c .before .before .before .before .before .before .pre .1) in
+    (h .long, omega (arith, inside c, h .within)))
     (λ c. omega (arith, c .before .before .before .before .before .before .before .pre .0 .row _ (place c) .place))
     (λ c. omega (arith, place (c .before), c .before .before .before .before .before .before .before .before .pre .2))
-    (λ c. let l = c .before .before .before in here-goes _ _ _ _ _ _ (l .before .loop .inv .0) (inside l) (c .before .before .cell .ensures) (place (c .before .before)) (c .if1 .taken))
-    (λ c. let l = c .before .before .before in let h = l .before .before .before .before .before .before .pre .0 .row _ (l .before .before .before .before .before .before .pre .1) in omega (arith, inside l, h .within))
+    (λ c. let l = c .before .before .before in
+    here-goes _ _ _ _ _ _ (l .before .loop .inv .0) (inside l) (c .before .before .cell .ensures) (place (c .before .before)) (c .if1 .taken))
+    (λ c. let l = c .before .before .before in
+    let h = l .before .before .before .before .before .before .pre .0 .row _ (l .before .before .before .before .before .before .pre .1) in
+    omega (arith, inside l, h .within))
     (λ c. let l = c .before .before .before in omega (arith, l .loop-test .taken))
-    (λ c. let l = c .before .before .before in (omega (arith, l .before .loop .inv .0), none-more (l .before .before .before .before .before .before .args .words .now) (l .before .before .before .before .before .before .args .forth .now) (l .before .before .before .before .before .before .args .i) (l .before .loop .e) _ (l .before .loop .inv .1) (c .before .before .cell .ensures) (c .if1 .left)))
-    (λ c. none-ends (c .before .before .before .before .before .before .args .words .now) (c .before .before .before .before .before .before .args .forth .now) _ (c .before .before .before .before .before .before .args .i) (c .before .loop .e) (c .before .loop .inv .1) (omega (arith, c .loop-test .left, c .before .before .before .row-end .ensures .0))))
+    (λ c. let l = c .before .before .before in (
+      omega (arith, l .before .loop .inv .0),
+      none-more (l .before .before .before .before .before .before .args .words .now)
+          (l .before .before .before .before .before .before .args .forth .now) (l .before .before .before .before .before .before .args .i)
+          (l .before .loop .e) _ (l .before .loop .inv .1) (c .before .before .cell .ensures) (c .if1 .left),
+    ))
+    (λ c. none-ends (c .before .before .before .before .before .before .args .words .now)
+    (c .before .before .before .before .before .before .args .forth .now) _ (c .before .before .before .before .before .before .args .i)
+    (c .before .loop .e) (c .before .loop .inv .1) (omega (arith, c .loop-test .left, c .before .before .before .row-end .ensures .0))))

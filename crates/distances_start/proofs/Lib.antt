@@ -1,0 +1,5 @@
+pub mod Totals
+pub mod Spreads
+pub mod Shut
+pub mod Lining
+pub mod Parts

@@ -1,0 +1,4 @@
+pub mod Sifts
+pub mod Order
+pub mod Layering
+pub mod Turns

@@ -1,0 +1,2 @@
+pub mod Wiping
+pub mod Rooms

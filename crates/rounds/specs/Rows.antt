@@ -1,0 +1,32 @@
+-- The rows of witnesses, one for each reason, side by side in one list. Assumes nothing.
+use mathlib.Core.Path.{_≡_}
+use mathlib.Core.List.{List}
+use Prim.Native.Nat.{ℕ, suc, _*_, _≤_, _<_}
+use lib.ListN.{length, take, drop}
+use Rattle.meaning.specs.Promises.{mostStates}
+use Rattle.rules.specs.Book.{promisesOf}
+use Rattle.rules.specs.Table.{LawfulTable}
+use Rattle.witness.specs.Witness.{BegunRow}
+
+-- the row of reason q
+abbrev pub rowOf : (r q : ℕ) → List ℕ → List ℕ
+rowOf r q wit = take r (drop (q * r) wit)
+
+-- there is room for the rows of all reasons, for a log and for a line
+pub record RoomForRows (book : List ℕ) (r : ℕ) (wit log line : List ℕ) : Type 0 where
+  pub room : suc (promisesOf book) * r ≤ length wit
+  pub in-log : r ≤ length log
+  pub log-few : length log ≤ mostStates
+  pub in-line : r ≤ length line
+  pub line-few : length line ≤ mostStates
+
+-- the promises' rows may be begun: of a table of lawful states, with room for a row of each reason
+pub record Beginnable (book table : List ℕ) (r : ℕ) (wit : List ℕ) : Type 0 where
+  pub states : LawfulTable book table r
+  pub room : suc (promisesOf book) * r ≤ length wit
+
+-- they have begun, and the row of reason 0 is as it was
+pub record BegunRows (book table : List ℕ) (r : ℕ) (old wit : List ℕ) : Type 0 where
+  pub long : length wit ≡ length old
+  pub zeroth : rowOf r 0 wit ≡ rowOf r 0 old
+  pub begun : (k : ℕ) → k < promisesOf book → BegunRow book k table (rowOf r (suc k) wit) (rowOf r (suc k) wit)

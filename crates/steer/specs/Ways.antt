@@ -1,0 +1,20 @@
+-- What the two ways of walking tell, along stored moves and by tests of pairs. Assumes nothing.
+use mathlib.Core.Path.{_≡_}
+use mathlib.Core.List.{List}
+use Prim.Native.Nat.{ℕ}
+use Rattle.trail.specs.Walk.{Walked}
+use Rattle.steer.specs.declared.Way.{Way}
+use Rattle.steer.specs.declared.Way.the-variants.{Along, NotStored}
+
+-- what walking along stored moves tells: the run; or that they have no room, and then nothing is touched
+abbrev pub WalkedAlong : (book words words′ run run′ : List ℕ) → Way → Type 0
+WalkedAlong book words words′ run run′ (Along steps) = Walked book words words′ run run′ (steps .a) (steps .b)
+WalkedAlong book words words′ run run′ NotStored = (words′ ≡ words) × (run′ ≡ run)
+
+-- up to so many states need next to no room
+abbrev pub tinyStates : ℕ
+tinyStates = 32
+
+-- up to so many states whose moves are not stored need room of a middle size
+abbrev pub someStates : ℕ
+someStates = 2048

@@ -1,0 +1,3 @@
+pub mod Layouts
+pub mod Chains
+pub mod Rows

@@ -1,0 +1,4 @@
+pub mod Samples
+pub mod Trails
+pub mod Writings
+pub mod Papers

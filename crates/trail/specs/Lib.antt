@@ -1,0 +1,2 @@
+pub mod Steered
+pub mod Walk

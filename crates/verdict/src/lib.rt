@@ -1,0 +1,64 @@
+// The judge over a sheet's book: lists the reachable states (answer 11 where there is no room for them), strikes those that nobody could keep,
+// and hands over the strike list (answer 13) or what `keeping` finds.
+use ending::Judgement;
+use ending::leave;
+use ending::refusal;
+use ending::room;
+use ending::write_strikes;
+use ground::State;
+use keeping::judge_kept;
+ghost use Rattle.rules.specs.Book.{Shaped, bookSystem};
+ghost use Rattle.ending.specs.Judging.{lentOf, outcomeOf, JudgedBy};
+ghost use Rattle.verdict.specs.Reached.{Reached};
+
+// With the r reachable states listed in the table.
+fn judge_reached(
+    book: &[State],
+    table: &mut [State],
+    words: &mut [u32],
+    scratch: &mut [State],
+    run: &mut [State],
+    r: usize,
+) -> Judgement
+    requires { ⌜ Reached (now book) (lentOf (now table) (now words) (now scratch) (now run)) r ⌝ }
+    ensures { λ j. ⌜ JudgedBy (bookSystem (now (book .entry)))
+        (lentOf (now (table .entry)) (now (words .entry)) (now (scratch .entry)) (now (run .entry)))
+        (outcomeOf j (lentOf (now (table .exit)) (now (words .exit)) (now (scratch .exit)) (now (run .exit)))) ⌝ }
+{
+    let left = strike::strike(book, table, words, r);
+    if left == 0 {
+        write_strikes(table, words, scratch, r);
+        let reached = r as u32;
+        return Judgement {
+            answer: 13,
+            count: reached,
+            a: 0,
+            b: 0,
+            place: 0,
+        };
+    }
+    let k = arrange::keep(table, words, r);
+    judge_kept(book, table, words, scratch, run, k)
+}
+
+// For a good sheet, compiled into its book.
+pub fn judge_book(
+    book: &[State],
+    table: &mut [State],
+    words: &mut [u32],
+    scratch: &mut [State],
+    run: &mut [State],
+) -> Judgement
+    requires { ⌜ Shaped (now book) ⌝ }
+    ensures { λ j. ⌜ JudgedBy (bookSystem (now (book .entry)))
+        (lentOf (now (table .entry)) (now (words .entry)) (now (scratch .entry)) (now (run .entry)))
+        (outcomeOf j (lentOf (now (table .exit)) (now (words .exit)) (now (scratch .exit)) (now (run .exit)))) ⌝ }
+{
+    let cap = room(table.len(), words.len(), scratch.len());
+    let r = explore::explore(book, table, scratch, cap);
+    if cap < r {
+        leave(table, words, scratch, 0, 0);
+        return refusal(11, 0, 0);
+    }
+    judge_reached(book, table, words, scratch, run, r)
+}

@@ -1,0 +1,4 @@
+pub mod Ranking
+pub mod Sifting
+pub mod Testing
+pub mod Cutting

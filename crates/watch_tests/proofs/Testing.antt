@@ -1,0 +1,160 @@
+-- Watching by tests: whether one place helps another, the search for a helper, cutting off by number, and one phase as a whole. Assumes nothing.
+use mathlib.Core.Path.{_≡_, refl, sym, ap, subst, _∙_}
+use mathlib.Core.Logic.{_⊎_, inl, inr}
+use mathlib.Core.Bool.{Bool, true, false}
+use mathlib.Core.List.{List}
+use Prim.Native.Nat.{ℕ, _+_, _≤_, _<_}
+use native.Mathlib.Decide.{ℕ-discrete}
+use native.Mathlib.Omega.{arith}
+use lib.ListN.{length, getD, set}
+use Rattle.ground.specs.Says.{Says}
+use Rattle.meaning.specs.Promises.{mostStates}
+use Rattle.signs.specs.Signs.{Signed}
+use Rattle.distances_start.specs.Far.{far}
+use Rattle.witness.specs.Witness.{Rested, Hangs, Hangable}
+use Rattle.witness.specs.Turns.{IsSo, Helps, HelperIn, someone, no-one, Turnable, Redirected, Loosened, Line, Before, first, again}
+use Rattle.watch_tests.specs.Tests.{Anywhere, Gathered, Copied, Parted, Spreading, Testable, HelpsIt, JoinsIt}
+use Rattle.witness.proofs.Beginning.{no-both}
+use Rattle.witness.proofs.Turning.{redirects-same, redirected-by, turned-none, place-past, place-room, place-more}
+use Rattle.witness.proofs.Phasing.{before-log}
+use Rattle.watch_tests.proofs.Ranking.{parted-ranked, parted-pending}
+
+-- ---- tests of pairs
+
+-- Place j has a witness, and the move is tested; or it has none.
+pub helps-met : {words row : List ℕ} {M : ℕ → ℕ → Type 0} {i j : ℕ} {a b : Bool} → Helps words row j a → a ≡ true → Says (M i j) b → HelpsIt words row M i j b
+helps-met H t S = record { yes = λ e. let u = H .yes t in (u .0, u .1, S .yes e); never = λ e z o l. S .never e l }
+
+pub helps-not : {words row : List ℕ} {M : ℕ → ℕ → Type 0} {i j : ℕ} {a : Bool} → Helps words row j a → a ≡ false → HelpsIt words row M i j false
+helps-not H t = record { yes = λ e. absurd (no-both e refl); never = λ e z o l. H .never t z o }
+
+-- Place i stands alone, and the move is tested; or it does not.
+pub joins-met : {words row : List ℕ} {M : ℕ → ℕ → Type 0} {i t : ℕ} {a b : Bool} → IsSo words row i far a → a ≡ true → Says (M i t) b
+    → JoinsIt words row M i t b
+joins-met H t S = record { yes = λ e. let u = H .yes t in (u .0, u .1, S .yes e); never = λ e z f l. S .never e l }
+
+pub joins-not : {words row : List ℕ} {M : ℕ → ℕ → Type 0} {i t : ℕ} {a : Bool} → IsSo words row i far a → a ≡ false → JoinsIt words row M i t false
+joins-not H t = record { yes = λ e. absurd (no-both e refl); never = λ e z f l. H .never t z f }
+
+-- ---- seeking a helper, place by place
+
+-- none of the first e places helps place i
+abbrev pub NoHelper : (words row : List ℕ) (M : ℕ → ℕ → Type 0) (i e : ℕ) → Type 0
+NoHelper words row M i e = (j : ℕ) → j < e → getD words j 0 ≡ 0 → (getD row j 0 ≡ far → ⊥) → M i j → ⊥
+
+module _ (words row : List ℕ) (M : ℕ → ℕ → Type 0) (i : ℕ) where
+  pub seek-more : (e : ℕ) {b : Bool} → NoHelper words row M i e → HelpsIt words row M i e b → b ≡ false → NoHelper words row M i (e + 1)
+  seek-more e N H f j h z o l = by (ℕ-discrete j e)
+    where
+      by : Dec (j ≡ e) → ⊥
+      by (yes q) =
+          H .never f (ap (λ (x : ℕ). getD words x 0) (sym q) ∙ z) (λ g. o (ap (λ (x : ℕ). getD row x 0) q ∙ g)) (subst (M i) q l)
+      by (no q) = N j (omega arith) z o l
+
+  pub seek-found : (j : ℕ) {b : Bool} → j < length row → HelpsIt words row M i j b → b ≡ true → HelperIn words row M i j
+  seek-found j h H t = let u = H .yes t in someone h (u .2) (u .0) (u .1)
+
+  pub seek-all : (e : ℕ) → NoHelper words row M i e → length row ≤ e → HelperIn words row M i (length row)
+  seek-all e N over = no-one refl (λ j h l z o. N j (omega arith) z o l)
+
+-- ---- cutting off, place by place
+
+-- place i is one of the first e
+abbrev pub Below : (e i : ℕ) → Type 0
+Below e i = i < e
+
+module _ (words : List ℕ) (was to : ℕ) (old : List ℕ) (n : ℕ) (before : List ℕ) (ready : Turnable words old was to before n) where
+  pub turn-none : Redirected (Below 0) words was to old old n before before n
+  turn-none = turned-none (Below 0) (λ i p. omega arith) words was to old n before (ready .apart)
+
+  module _ (row line : List ℕ) (m i : ℕ) (r : Redirected (Below i) words was to old row n before line m) (inside : i < length old) where
+    grows : (j : ℕ) → j < i → j < i + 1
+    grows j h = omega arith
+
+    splits : (j : ℕ) → j < i + 1 → (j < i) ⊎ (j ≡ i)
+    splits j h = by (ℕ-discrete j i)
+      where
+        by : Dec (j ≡ i) → (j < i) ⊎ (j ≡ i)
+        by (yes q) = inr q
+        by (no q) = inl (omega arith)
+
+    pub turn-past : {b : Bool} → IsSo words row i was b → b ≡ false → Redirected (Below (i + 1)) words was to old row n before line m
+    turn-past so f = place-past (Below i) words was to old n before ready row line m r i inside (Below (i + 1)) grows splits (so .never f)
+
+    pub turn-room : {b : Bool} → IsSo words row i was b → b ≡ true → (m < length line) × (m < mostStates)
+    turn-room so t = place-room (Below i) words was to old n before ready row line m r i inside (so .yes t .0) (so .yes t .1)
+
+    pub turn-more : {b : Bool} → IsSo words row i was b → b ≡ true
+        → Redirected (Below (i + 1)) words was to old (set row i to) n before (set line m i) (m + 1)
+    turn-more so t =
+        place-more (Below i) words was to old n before ready row line m r i inside (Below (i + 1)) grows splits (so .yes t .0) (so .yes t .1) (omega arith)
+
+  pub turn-done : (row line : List ℕ) (m i : ℕ) → Redirected (Below i) words was to old row n before line m → i ≤ length old → length old ≤ i
+      → Redirected (Below (length old)) words was to old row n before line m
+  turn-done row line m i r most over = redirected-by words was to old row n before line m r (λ j. redirects-same (λ p. omega arith) (λ p. omega arith))
+
+-- ---- from part to part
+
+-- For cutting off, the moves need not be known.
+pub rested-anywhere : {words row log : List ℕ} {M : ℕ → ℕ → Type 0} {from m : ℕ} → Rested words row M log from m → Rested words row Anywhere log from m
+rested-anywhere R = record {
+  log-is = R .log-is;
+  since = R .since;
+  pointed = record { few = R .pointed .few; each = R .pointed .each; leads = λ i h l. tt };
+  chained = R .chained;
+  helped = R .helped;
+  noted = R .noted;
+}
+
+pub before-anywhere : {words row log : List ℕ} {M : ℕ → ℕ → Type 0} {from m : ℕ} → Before words row M log from m → Before words row Anywhere log from m
+before-anywhere (first h F) = first h F
+before-anywhere (again R) = again (rested-anywhere R)
+
+-- Who may hang anew hangs, as far as it has a witness.
+pub hangable-hangs : {words row log : List ℕ} {M : ℕ → ℕ → Type 0} {m tail : ℕ} → Hangable words row M log m tail → Hangs words row row M
+hangable-hangs H = record { long = refl; pointed = H .pointed; hung = H .hung; own = λ i h. (λ e. e, λ e. e); only = λ i h e. e }
+
+-- All unstruck places, those with a witness in front, may be spread from.
+module _ {book table words row signs line line′ : List ℕ} {k : ℕ} (T : Testable book table words row signs line (length row))
+    (G : Gathered words (length row) line line′ k) where
+  pub all-part : (k ≤ length line′) × (length line′ ≤ mostStates) × ((s : ℕ) → s < k → getD line′ s 0 < length row) × (length row ≤ mostStates)
+  all-part =
+      let a = G .room in
+      let b = T .room in
+      let c = G .long in
+      let d = T .line-few in
+      (omega arith, omega arith, λ s h. G .places s h .0, T .signed .states .few)
+
+  module _ {line″ : List ℕ} {n : ℕ} (P : Parted row line′ line″ n k) where
+    pub all-testable : Testable book table words row signs line″ k
+    all-testable = record {
+      signed = T .signed;
+      in-words = T .in-words;
+      room = let a = G .room in let b = T .room in let c = G .long in let d = P .long in omega arith;
+      line-few = let c = G .long in let d = P .long in let e = T .line-few in omega arith;
+    }
+
+    pub all-spreading : {M : ℕ → ℕ → Type 0} → Hangs words row row M → Spreading words row row M line″ 0 n k
+    all-spreading {M = M} H = record { hangs = H; ranked = parted-ranked G P; pending = parted-pending G P M }
+
+-- The places cut off may be asked.
+module _ {book table words row signs line line′ log : List ℕ} {m tail k : ℕ} (T : Testable book table words row signs line (length row))
+    (within : tail ≤ length row) (C : Copied log m tail line line′ k) where
+  pub lost-testable : Testable book table words row signs line′ k
+  lost-testable = record {
+    signed = T .signed;
+    in-words = T .in-words;
+    room = let a = C .count in let b = C .long in let c = T .room in omega arith;
+    line-few = let b = C .long in let c = T .line-few in omega arith;
+  }
+
+-- After the places were cut off, the moves can be tested.
+pub cut-testable : {book table words row row′ signs log log′ line : List ℕ} {M : ℕ → ℕ → Type 0} {from m tail : ℕ} → Before words row M log from m
+    → Loosened words row row′ log log′ m tail → Signed book table (length row) signs → Line row line
+    → Testable book table words row′ signs line (length row′)
+cut-testable {book = book} {table = table} {signs = signs} B L S K = record {
+  signed = subst (λ (x : ℕ). Signed book table x signs) (sym (L .long)) S;
+  in-words = let a = before-log B .in-words in let b = L .long in omega arith;
+  room = let a = K .in-line in let b = L .long in omega arith;
+  line-few = K .line-few;
+}

@@ -1,0 +1,9 @@
+pub mod Sums
+pub mod Weights
+pub mod Beginning
+pub mod Turning
+pub mod Loosening
+pub mod Helped
+pub mod Hooked
+pub mod Falling
+pub mod Phasing
