@@ -29,10 +29,12 @@ const SOME_DISTANCES: usize = 32768;
 
 const MOST_DISTANCES: usize = 262144;
 
-// Room for the signs of tiny and few states: of 256 step rules for each state.
+// Room for the signs of tiny, few and some states: of 256 step rules for each state.
 const TINY_SIGNS: usize = signs::HEAD + TINY_STATES * 8;
 
 const FEW_SIGNS: usize = signs::HEAD + stored::FEW_STATES * 8;
+
+const SOME_SIGNS: usize = signs::HEAD + SOME_STATES * 8;
 
 // The run walked along stored moves; or that they have no room.
 pub enum Way {
@@ -128,7 +130,7 @@ fn walk_some(
 {
     let mut dist = [0u16; SOME_DISTANCES];
     let mut queue = [0u16; SOME_STATES];
-    let mut signs = [0u64; FEW_SIGNS];
+    let mut signs = [0u64; SOME_SIGNS];
     walk_by_tests(
         book,
         table,

@@ -26,10 +26,12 @@ const SOME_ROWS: usize = REASONS * SOME_STATES;
 
 const MOST_ROWS: usize = REASONS * ground::MOST_STATES;
 
-// Room for the signs of tiny and few states: of 256 step rules for each state.
+// Room for the signs of tiny, few and some states: of 256 step rules for each state.
 const TINY_SIGNS: usize = signs::HEAD + TINY_STATES * 8;
 
 const FEW_SIGNS: usize = signs::HEAD + stored::FEW_STATES * 8;
+
+const SOME_SIGNS: usize = signs::HEAD + SOME_STATES * 8;
 
 // What striking along stored moves came to: how many states are left; or that there was no room for the moves.
 pub enum Struck {
@@ -68,7 +70,7 @@ fn strike_some(book: &[State], table: &[State], words: &mut [u32], r: usize) -> 
     requires { ⌜ Strikable (now book) (now table) (now words) r × Zeros (now words) r × (r ≤ someStates) ⌝ }
     ensures { λ left. ⌜ Stricken (now (book .entry)) (now (table .entry)) r (now (words .entry)) (now (words .exit)) left ⌝ }
 {
-    let mut pairs = [0u64; FEW_SIGNS];
+    let mut pairs = [0u64; SOME_SIGNS];
     signs::fill(book, table, r, &mut pairs);
     let mut wit = [0u16; SOME_ROWS];
     let mut log = [0u16; SOME_STATES];

@@ -9,7 +9,7 @@ walk-by-tests-requires : tie.Need-walk-by-tests-requires
 walk-by-tests-requires c κs =
     let pre = c .before .before .before .before .before .before .before .before .before .pre in
     let room = lent-rows (pre .0 .states) 2048 (pre .1) in
-    (pre .0, room .0, room .1, lent-signs 4098 (omega arith))
+    (pre .0, room .0, room .1, lent-signs 16386 (omega arith))
 
 pub walk-some-spec : {M : Type 1} → statement M
 walk-some-spec =
