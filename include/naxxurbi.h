@@ -60,7 +60,7 @@
  * archives it is made of: libfirmware.a (both checkers), libjudge.a (naxxurbi_judge), libreader.a (naxxurbi_read, naxxurbi_read_place),
  * libaudit.a (naxxurbi_audit), libserial.a (the serial lead), libclass.a (naxxurbi_judge_class), libclash.a (naxxurbi_check_clash,
  * naxxurbi_clash); each stands alone.
- * Their code takes at most 15 KB, 29 KB, 2 KB, 8 KB, 3 KB, 29 KB and 33 KB (of 1,024 bytes); they have no data of their own. The only outside
+ * Their code takes at most 15 KB, 30 KB, 2 KB, 8 KB, 3 KB, 30 KB and 34 KB (of 1,024 bytes); they have no data of their own. The only outside
  * functions that they call are memset and memcpy.
  *
  * Time. The run checker looks at each state once for each rule and promise. The strike checker counts, for the first states and for each

@@ -15,7 +15,7 @@ use Rattle.meaning.specs.Sample.{Met, Distance}
 use Rattle.meaning.proofs.SampleRun.{kept-of-met}
 use Rattle.meaning.proofs.Exists.{livable-way}
 use Rattle.ground.specs.Wiping.{Zeros}
-use Rattle.distances_start.specs.Far.{Live, far, Place, near, never, struck, Measured}
+use Rattle.distances_start.specs.Far.{UnstruckIn, far, Place, near, never, struck, Measured}
 use Rattle.rules.specs.Book.{bookSystem, promisesOf}
 use Rattle.rules.proofs.Facts.{promises-are}
 use Rattle.best.specs.Rows.{Livables, aimsOf, Rowed, Rowable, Walkable}
@@ -30,21 +30,21 @@ abbrev Near : System → ℕ → ℕ → ℕ → Type 0
 Near S q s d = Distance S q d s × (d < far)
 
 module _ {S : System} {table : List ℕ} (words : List ℕ) {r : ℕ} (L : Livables S table r) (clean : Zeros words r) where
-  live-livable : (s : ℕ) → Live table words r s → Livable S s
+  live-livable : (s : ℕ) → UnstruckIn table words r s → Livable S s
   live-livable s v = subst (Livable S) (v .2) (L .sound (v .0) (v .1))
 
-  livable-live : (s : ℕ) → Livable S s → Live table words r s
+  livable-live : (s : ℕ) → Livable S s → UnstruckIn table words r s
   livable-live s l = let w = L .whole s l in (w .0, w .1, w .2, clean (w .0) (w .1))
 
   -- A way of livable states to an aim is a way of unmarked places to a kept promise.
-  way-kept : (q : ℕ) → q < S .promises → (n s : ℕ) → Way S (Livable S) (Met S q) n s → Way S (Live table words r) (S .Kept q) n s
-  way-kept q h = way-both S (Livable S) (Live table words r) (Met S q) (S .Kept q) livable-live (λ t m. kept-of-met S q t (omega arith) m)
+  way-kept : (q : ℕ) → q < S .promises → (n s : ℕ) → Way S (Livable S) (Met S q) n s → Way S (UnstruckIn table words r) (S .Kept q) n s
+  way-kept q h = way-both S (Livable S) (UnstruckIn table words r) (Met S q) (S .Kept q) livable-live (λ t m. kept-of-met S q t (omega arith) m)
 
   -- What is measured at a livable state is its distance.
-  measured-distance : (q s word d : ℕ) → q < S .promises → word ≡ 0 → Livable S s → Place S (Live table words r) (S .Kept q) s word d → Near S q s d
+  measured-distance : (q s word d : ℕ) → q < S .promises → word ≡ 0 → Livable S s → Place S (UnstruckIn table words r) (S .Kept q) s word d → Near S q s d
   measured-distance q s word d h e l (near _ small way fewest) = (
     record {
-      way = way-both S (Live table words r) (Livable S) (S .Kept q) (Met S q) live-livable (λ t m. inr m) d s way;
+      way = way-both S (UnstruckIn table words r) (Livable S) (S .Kept q) (Met S q) live-livable (λ t m. inr m) d s way;
       fewest = λ n w. fewest n (way-kept q h n s w);
     },
     omega arith,

@@ -11,14 +11,14 @@ ghost use Rattle.choice.specs.Choice.{Wrote};
 ghost use Rattle.choice.specs.Writing.{Within, RuleAsks, Added, marked, RulesWritten, stated};
 
 // The most step rules that a sheet can have.
-pub const RULES: usize = 255;
+pub const RULES: usize = ground::MOST_RULES;
 
 // Where a sheet counts its limits, its first rules and its step rules.
 const LIMITS: usize = 4;
 
 const FIRSTS: usize = 5;
 
-const STEPS: usize = 6;
+pub const STEPS: usize = 6;
 
 // Where it states its length, high byte first.
 const HIGH: usize = 1;

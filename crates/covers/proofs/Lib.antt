@@ -2,4 +2,3 @@ pub mod Counting
 pub mod Covering
 pub mod Tallying
 pub mod Binding
-pub mod Marking

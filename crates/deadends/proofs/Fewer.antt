@@ -6,7 +6,7 @@ use native.Mathlib.Omega.{arith}
 use lib.ListN.{length, getD, set}
 use Rattle.meaning.specs.System.{System}
 use Rattle.meaning.specs.Strike.{SavedBy}
-use Rattle.distances_start.specs.Far.{Live}
+use Rattle.distances_start.specs.Far.{UnstruckIn}
 use Rattle.distances_start.proofs.Totals.{total-set}
 use Rattle.witness.specs.Witness.{freeIn}
 use Rattle.deadends.specs.Phases.{Falls, was, stays, falls, Phased, Points, fresh, target, Pointers}
@@ -24,7 +24,7 @@ pub phased-free : {S : System} {table : List ℕ} {r reason v : ℕ} {old new : 
     → (i : ℕ) → i < r → getD new i 0 ≡ 0 → getD old i 0 ≡ 0
 phased-free {S} {table} {r} {reason} {v} {old} {new} p s i h z = by (p .each i h)
   where
-    by : Falls (SavedBy S (Live table old r) reason (getD table i 0)) v (getD old i 0) (getD new i 0) → getD old i 0 ≡ 0
+    by : Falls (SavedBy S (UnstruckIn table old r) reason (getD table i 0)) v (getD old i 0) (getD new i 0) → getD old i 0 ≡ 0
     by (was a e) = sym e ∙ z
     by (stays a b c) = a
     by (falls a b c) = a

@@ -13,7 +13,7 @@ use Rattle.meaning.specs.Strike.{SavedBy}
 use Rattle.ground.proofs.Tests.{passes}
 use Rattle.rules.specs.Book.{bookSystem}
 use Rattle.rules.specs.Table.{To}
-use Rattle.distances_start.specs.Far.{Live}
+use Rattle.distances_start.specs.Far.{UnstruckIn}
 use Rattle.witness.specs.Witness.{freeIn}
 use Rattle.deadends.specs.Phases.{
   Counts,
@@ -44,7 +44,7 @@ use Rattle.deadends.proofs.Noting.{Noting}
 module _ (book table : List ℕ) (r v : ℕ) (old : List ℕ) (from : ℕ) where
   -- reason 0 saves place i
   abbrev SavedAt : ℕ → Type 0
-  SavedAt i = SavedBy (bookSystem book) (Live table old r) 0 (getD table i 0)
+  SavedAt i = SavedBy (bookSystem book) (UnstruckIn table old r) 0 (getD table i 0)
 
   -- a move to a place that was unstruck saves
   saved-to : (i j : ℕ) → j < r → getD old j 0 ≡ 0 → To book table i j → SavedAt i

@@ -12,7 +12,7 @@ use Rattle.meaning.specs.Promises.{mostStates}
 use Rattle.rules.specs.Book.{bookSystem}
 use Rattle.rules.specs.Table.{To}
 use Rattle.signs.specs.Signs.{Signed}
-use Rattle.distances_start.specs.Far.{Live}
+use Rattle.distances_start.specs.Far.{UnstruckIn}
 use Rattle.witness.specs.Witness.{freeIn, Log}
 
 -- A word that counts as unstruck in the phase that gives the word v: 0, or v itself, since states fall together.
@@ -56,7 +56,7 @@ pub data Falls (Saved : Type 0) (v old new : ℕ) : Type 0 where
 -- one phase over the table's first r places, in which n fall and get the word v
 pub record Phased (S : System) (table : List ℕ) (r reason v : ℕ) (old new : List ℕ) (n : ℕ) : Type 0 where
   pub long : length new ≡ length old
-  pub each : (i : ℕ) → i < r → Falls (SavedBy S (Live table old r) reason (getD table i 0)) v (getD old i 0) (getD new i 0)
+  pub each : (i : ℕ) → i < r → Falls (SavedBy S (UnstruckIn table old r) reason (getD table i 0)) v (getD old i 0) (getD new i 0)
   pub counted : n + freeIn new r ≡ freeIn old r
 
 -- a phase may be run: no place has its word yet

@@ -1,12 +1,9 @@
 // Which rules fight (document 02, order 5): what the check of a proposal and the planner promise (specs/Clash.antt), and what their trials come to
-// (proofs/Answers.antt). Of code only what both share: where a sheet counts its step rules, and the clearing of the slices.
+// (proofs/Answers.antt). Of code only what both share: the clearing of the slices.
 use ground::State;
 ghost use mathlib.Core.Path.{_≡_};
 ghost use Rattle.meaning.specs.Promises.{cleared};
 ghost use Rattle.trials.specs.Trials.{lentThree};
-
-// Where a sheet counts its step rules.
-pub const STEPS: usize = 6;
 
 // Zeros in all three slices.
 pub fn clear(table: &mut [State], words: &mut [u32], scratch: &mut [State])

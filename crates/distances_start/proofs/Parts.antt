@@ -6,7 +6,7 @@ use native.Mathlib.Omega.{arith}
 use lib.ListN.{length, getD, take, drop, length-drop, length-append, List·getD-append}
 use lib.Seq.{length-take-le, getD-append-add, getD-take}
 use Rattle.meaning.specs.System.{System}
-use Rattle.distances_start.specs.Far.{Place, Live, Measured}
+use Rattle.distances_start.specs.Far.{Place, UnstruckIn, Measured}
 use Rattle.distances_start.specs.Values.{Near}
 
 -- The part has r places.
@@ -24,7 +24,7 @@ near-measured S G table words r at old part fits n = record {
       length-append (take at old) _ ∙ ap (λ (x : ℕ). length (take at old) + x) (length-append part _)
       ∙ (let a = n .long in let b = head in let c = length-drop (at + r - at) (drop at old) in let d = length-drop at old in omega arith);
   below = λ i h. List·getD-append (take at old) _ 0 i (omega (arith, head)) ∙ getD-take at old i 0 h;
-  places = λ i h. subst (λ (x : ℕ). Place S (Live table words r) G (getD table i 0) (getD words i 0) x) (sym (at-part i h)) (n .places i h);
+  places = λ i h. subst (λ (x : ℕ). Place S (UnstruckIn table words r) G (getD table i 0) (getD words i 0) x) (sym (at-part i h)) (n .places i h);
 }
   where
     head : length (take at old) ≡ at

@@ -8,7 +8,7 @@ use native.Mathlib.Omega.{arith}
 use lib.ListN.{getD}
 use Rattle.meaning.specs.System.{System}
 use Rattle.meaning.specs.Strike.{Way}
-use Rattle.distances_start.specs.Far.{Live, far, gone, Place, near, never, struck}
+use Rattle.distances_start.specs.Far.{UnstruckIn, far, gone, Place, near, never, struck}
 use Rattle.distances_start.specs.Values.{farAt, fars, Reaches, as-was, reached, Spread, Sure, Near}
 use Rattle.distances_start.proofs.Totals.{total-less, total-none}
 
@@ -37,7 +37,7 @@ none-far r old none i h e = let z = total-none (farAt old) r none i h in omega a
 module _ (S : System) (G : ℕ → Type 0) (table words : List ℕ) (r : ℕ) where
   -- a way through unstruck states to G, from the state at place i
   abbrev pub WayAt : ℕ → ℕ → Type 0
-  WayAt n i = Way S (Live table words r) G n (getD table i 0)
+  WayAt n i = Way S (UnstruckIn table words r) G n (getD table i 0)
 
   -- an unstruck place's value is far, or the number of moves of a way
   abbrev pub Reached : (i x : ℕ) → Type 0
@@ -105,14 +105,14 @@ module _ (S : System) (G : ℕ → Type 0) (table words : List ℕ) (r : ℕ) wh
     shut-low shut zero i h z w = let b = sure .base i h z (w .1) in (omega arith, omega arith)
     shut-low shut (suc n) i h z w = by (start n (w .1 .2)) (shut-low shut n)
       where
-        start : (n : ℕ) {t : ℕ} → Way S (Live table words r) G n t → Live table words r t
+        start : (n : ℕ) {t : ℕ} → Way S (UnstruckIn table words r) G n t → UnstruckIn table words r t
         start zero w = w .0
         start (suc n) w = w .0
 
-        by : Live table words r (w .1 .0) → ((i : ℕ) → i < r → getD words i 0 ≡ 0 → WayAt n i → (getD old i 0 ≤ n) × (getD old i 0 < gone))
+        by : UnstruckIn table words r (w .1 .0) → ((i : ℕ) → i < r → getD words i 0 ≡ 0 → WayAt n i → (getD old i 0 ≤ n) × (getD old i 0 < gone))
             → (getD old i 0 ≤ suc n) × (getD old i 0 < gone)
         by (m, k, e, y) rec =
-            let q = rec m k y (subst (λ (x : ℕ). Way S (Live table words r) G n x) (sym e) (w .1 .2)) in
+            let q = rec m k y (subst (λ (x : ℕ). Way S (UnstruckIn table words r) G n x) (sym e) (w .1 .2)) in
             let a = q .0 in
             let b = q .1 in
             let g = shut i m h k z y (subst (λ (x : ℕ). S .Move (getD table i 0) x) (sym e) (w .1 .1)) b in
@@ -123,10 +123,10 @@ module _ (S : System) (G : ℕ → Type 0) (table words : List ℕ) (r : ℕ) wh
     shut-near shut = record { long = sure .long; places = λ i h. by i h (ℕ-discrete (getD words i 0) 0) }
       where
         at : (i : ℕ) → i < r → getD words i 0 ≡ 0 → Reached i (getD old i 0)
-            → Place S (Live table words r) G (getD table i 0) (getD words i 0) (getD old i 0)
+            → Place S (UnstruckIn table words r) G (getD table i 0) (getD words i 0) (getD old i 0)
         at i h z (inl e) = never z e (λ n w. let q = shut-low shut n i h z w .1 in omega arith)
         at i h z (inr (a, w)) = near z a w (λ n v. shut-low shut n i h z v .0)
 
-        by : (i : ℕ) → i < r → Dec (getD words i 0 ≡ 0) → Place S (Live table words r) G (getD table i 0) (getD words i 0) (getD old i 0)
+        by : (i : ℕ) → i < r → Dec (getD words i 0 ≡ 0) → Place S (UnstruckIn table words r) G (getD table i 0) (getD words i 0) (getD old i 0)
         by i h (yes z) = at i h z (sure .each i h z)
         by i h (no n) = struck n (sure .struck i h n)

@@ -10,7 +10,7 @@ use lib.Seq.{getD-set-same, getD-set-other}
 use Rattle.meaning.specs.Strike.{Way}
 use Rattle.rules.specs.Book.{bookSystem}
 use Rattle.rules.proofs.Facts.{kept-is, kept-true}
-use Rattle.distances_start.specs.Far.{Live, far, gone}
+use Rattle.distances_start.specs.Far.{UnstruckIn, far, gone}
 use Rattle.distances_start.specs.Values.{Begun, out, there, waits, fars, Reaches, as-was, reached, Spread, Opening, keptIn}
 use Rattle.distances_start.proofs.Totals.{total-set}
 
@@ -128,12 +128,12 @@ begins-opening book k table words r i near b e = record {
     -- what an unstruck place's value says before the first layer is spread
     Says : ℕ → Type 0
     Says m = (getD near m 0 ≡ far)
-        ⊎ ((getD near m 0 < gone) × Way (bookSystem book) (Live table words r) (bookSystem book .Kept k) (getD near m 0) (getD table m 0))
+        ⊎ ((getD near m 0 < gone) × Way (bookSystem book) (UnstruckIn table words r) (bookSystem book .Kept k) (getD near m 0) (getD table m 0))
 
     by : (m : ℕ) → m < r → getD words m 0 ≡ 0 → (getD near m 0 ≡ far) ⊎ ((getD near m 0 ≡ 0) × keptIn book k (getD table m 0)) → Says m
     by m h z (inl q) = inl q
     by m h z (inr (q, t)) = inr (
       omega arith,
-      subst (λ (x : ℕ). Way (bookSystem book) (Live table words r) (bookSystem book .Kept k) x (getD table m 0)) (sym q)
+      subst (λ (x : ℕ). Way (bookSystem book) (UnstruckIn table words r) (bookSystem book .Kept k) x (getD table m 0)) (sym q)
           ((m, h, refl, z), kept-is book k (getD table m 0) t),
     )

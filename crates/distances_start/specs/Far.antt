@@ -7,8 +7,8 @@ use Rattle.meaning.specs.System.{System}
 use Rattle.meaning.specs.Strike.{Way}
 
 -- s is one of the table's first r states and unstruck: its word is 0
-abbrev pub Live : (table words : List ℕ) (r s : ℕ) → Type 0
-Live table words r s = (i : ℕ) × (i < r) × (getD table i 0 ≡ s) × (getD words i 0 ≡ 0)
+abbrev pub UnstruckIn : (table words : List ℕ) (r s : ℕ) → Type 0
+UnstruckIn table words r s = (i : ℕ) × (i < r) × (getD table i 0 ≡ s) × (getD words i 0 ≡ 0)
 
 -- no distance: from here no path of unstruck states meets the promise
 abbrev pub far : ℕ
@@ -28,4 +28,4 @@ pub data Place (S : System) (U G : ℕ → Type 0) (s word d : ℕ) : Type 0 whe
 pub record Measured (S : System) (G : ℕ → Type 0) (table words : List ℕ) (r from : ℕ) (old dist : List ℕ) : Type 0 where
   pub long : length dist ≡ length old
   pub below : (i : ℕ) → i < from → getD dist i 0 ≡ getD old i 0
-  pub places : (i : ℕ) → i < r → Place S (Live table words r) G (getD table i 0) (getD words i 0) (getD dist (from + i) 0)
+  pub places : (i : ℕ) → i < r → Place S (UnstruckIn table words r) G (getD table i 0) (getD words i 0) (getD dist (from + i) 0)

@@ -11,7 +11,7 @@ use Rattle.meaning.specs.System.{System}
 use Rattle.meaning.specs.Strike.{Way}
 use Rattle.rules.specs.Book.{promisesOf, bookKept, bookSystem}
 use Rattle.rules.specs.Table.{LawfulTable}
-use Rattle.distances_start.specs.Far.{Live, far, gone, Place}
+use Rattle.distances_start.specs.Far.{UnstruckIn, far, gone, Place}
 
 -- what `distances` asks of the sheet and the table
 pub record Measurable (book : List ℕ) (k : ℕ) (table words : List ℕ) (r : ℕ) : Type 0 where
@@ -69,7 +69,7 @@ pub record Sure (S : System) (G : ℕ → Type 0) (table words : List ℕ) (r : 
   pub long : length near ≡ r
   pub struck : (i : ℕ) → i < r → (getD words i 0 ≡ 0 → ⊥) → getD near i 0 ≡ gone
   pub each : (i : ℕ) → i < r → getD words i 0 ≡ 0
-      → (getD near i 0 ≡ far) ⊎ ((getD near i 0 < gone) × Way S (Live table words r) G (getD near i 0) (getD table i 0))
+      → (getD near i 0 ≡ far) ⊎ ((getD near i 0 < gone) × Way S (UnstruckIn table words r) G (getD near i 0) (getD table i 0))
   pub base : (i : ℕ) → i < r → getD words i 0 ≡ 0 → G (getD table i 0) → getD near i 0 ≡ 0
 
 -- the beginning: the goal's places are at 0, and no other is reached
@@ -84,4 +84,4 @@ Opening book k table words r near = Opened (bookSystem book) (bookSystem book .K
 -- the distances of the first r places, from place 0 on
 pub record Near (S : System) (G : ℕ → Type 0) (table words : List ℕ) (r : ℕ) (near : List ℕ) : Type 0 where
   pub long : length near ≡ r
-  pub places : (i : ℕ) → i < r → Place S (Live table words r) G (getD table i 0) (getD words i 0) (getD near i 0)
+  pub places : (i : ℕ) → i < r → Place S (UnstruckIn table words r) G (getD table i 0) (getD words i 0) (getD near i 0)

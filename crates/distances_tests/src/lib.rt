@@ -14,12 +14,6 @@ ghost use Rattle.distances_start.specs.Far.{Measured, gone};
 ghost use Rattle.distances_start.specs.Values.{Measurable, Near};
 ghost use Rattle.distances_tests.specs.Layers.{Listed, Sifted, Spreadable, LayerSifted, LayersDone, Done, Serves, Served};
 
-// How many places are remembered as spread from. What a slot holds is tested before it is believed, so that zeros will do at first.
-const SLOTS: usize = 2048;
-
-// Where no more places than this are left, each place of a layer is spread from.
-const FEW: usize = 32;
-
 // Gives d to the listed places that move to place j, and closes the gaps that they leave in the list; how many places are left there.
 fn spread(
     book: &[State],
@@ -105,7 +99,7 @@ fn served(
     ensures { λ b. ⌜ (b ≡ true → Served (now (book .entry)) (now (table .entry)) r d j (now (near .entry)))
         × (length (now (places .exit)) ≡ length (now (places .entry))) ⌝ }
 {
-    if left <= FEW {
+    if left <= signs::FEW_WAITING {
         return false;
     }
     let q = signs::slot(signs, r, j, places.len());
@@ -183,7 +177,8 @@ fn layers(
 }
 
 // The distances of the table's first r places, in a slice of that length, with room for a list of places. Where few places are left at the
-// beginning the table of those spread from is never asked, so it is not made.
+// beginning the table of those spread from is never asked, so it is not made. What a slot holds is tested before it is believed, so that zeros will
+// do at first.
 fn measure(
     book: &[State],
     k: usize,
@@ -201,11 +196,11 @@ fn measure(
 {
     distances_start::begin(book, k, table, words, r, near);
     let left = distances_start::line_up(near, r, distances_start::FAR, list);
-    if left <= FEW {
+    if left <= signs::FEW_WAITING {
         let mut unused = [0u16; 1];
         layers(book, table, r, left, list, near, &mut unused, signs);
     } else {
-        let mut places = [0u16; SLOTS];
+        let mut places = [0u16; signs::SLOTS];
         layers(book, table, r, left, list, near, &mut places, signs);
     }
 }

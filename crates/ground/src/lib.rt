@@ -1,4 +1,4 @@
-// The ground: what several crates use alike. A state's type, the most states that are judged, the lesser of two numbers, and wiping. Beside
+// The ground: what several crates use alike. A state's type, the most states that are judged, a sheet's bounds, the lesser of two numbers, and wiping. Beside
 // the code stand what a test says, what stands in a list, bits, and their laws.
 ghost use mathlib.Core.Path.{_≡_};
 ghost use Prim.Native.Nat.{_≤_, min};
@@ -11,6 +11,13 @@ pub type State = u32;
 
 // The most states that are judged: `mostStates` of the meaning.
 pub const MOST_STATES: usize = 16384;
+
+// The most limits, step rules and promises that a sheet can have.
+pub const MOST_LIMITS: usize = 32;
+
+pub const MOST_RULES: usize = 255;
+
+pub const MOST_PROMISES: usize = 16;
 
 // The lesser of two numbers.
 pub fn lesser(a: usize, b: usize) -> usize

@@ -6,13 +6,17 @@ use lib.ListN.{length, take}
 use lib.Seq.{length-take-le}
 use Rattle.meaning.specs.System.{System, Livable, Lists, CanBeKept}
 use Rattle.meaning.specs.Promises.{short, can, cleared, outcome}
+use Rattle.rules.specs.Book.{bookSystem}
 use Rattle.trail.specs.Steered.{Steered}
+use Rattle.trail.specs.Walk.{Walked}
 use Rattle.ending.specs.declared.Judgement.{Judgement}
 use Rattle.ending.specs.Judging.{lentOf, outcomeOf, refused, RoomFor, JudgedBy, LeftOver}
 use Rattle.ending.proofs.Wiping.{wiped-whole, zeros-same}
+use Rattle.keeping.specs.Kept.{Kept, HandedOver, too-long, in-room, handed}
+use Rattle.keeping.proofs.Steps.{kept-in-table, kept-can}
 
 -- 12: it can be kept, but the run needs b places.
-pub short-judged : {S : System} {table words scratch run words₁ run₁ table′ words′ scratch′ : List ℕ} {a b : ℕ} {j : Judgement} → j ≡ refused 12 b 0
+short-judged : {S : System} {table words scratch run words₁ run₁ table′ words′ scratch′ : List ℕ} {a b : ℕ} {j : Judgement} → j ≡ refused 12 b 0
     → RoomFor S (lentOf table words scratch run) → CanBeKept S → Steered S run run₁ a b → length words₁ ≡ length words → length run < b
     → LeftOver 0 0 table words₁ scratch table′ words′ scratch′
     → JudgedBy S (lentOf table words scratch run) (outcomeOf j (lentOf table′ words′ scratch′ run₁))
@@ -26,10 +30,10 @@ short-judged {table = table} {words} {words₁ = words₁} {table′ = table′}
 }
 
 -- 0: it can be kept, and the run fits.
-pub kept-judged : {S : System} {table words scratch run words₁ run₁ table′ words′ scratch′ : List ℕ} {k a b : ℕ}
+kept-judged : {S : System} {table words scratch run words₁ run₁ table′ words′ scratch′ : List ℕ} {k a b : ℕ}
     → RoomFor S (lentOf table words scratch run) → CanBeKept S → Lists (Livable S) (take k table) → k ≤ length table
     → Steered S run run₁ a b → length words₁ ≡ length words → b ≤ length run → LeftOver k 0 table words₁ scratch table′ words′ scratch′
-    → JudgedBy S (lentOf table words scratch run) (outcomeOf (record { answer = 0; count = k; a = a; b = b; place = 0 }) (lentOf table′ words′ scratch′ run₁))
+    → JudgedBy S (lentOf table words scratch run) (outcomeOf (handed k a b) (lentOf table′ words′ scratch′ run₁))
 unfolding outcome
 kept-judged {table = table} {words} {run = run} {words₁ = words₁} {words′ = words′} {k = k} room kept lists fits steered long enough L = record {
   finding = can (take k table) (steered .states) (steered .back);
@@ -39,3 +43,14 @@ kept-judged {table = table} {words} {run = run} {words₁ = words₁} {words′ 
       let leaves = lentOf (L .table-is i) (none i) (L .scratch-is i) (steered .fits enough .0 i) in
       record { answer = 0; count = sym (length-take-le k table fits) i; a = steered .fits enough .1 i; b = sym (steered .long) i; place = 0; leaves = leaves };
 }
+
+-- So whatever is handed over once steering is done is what the promise says.
+pub handed-judged : {book table words scratch run words₁ run₁ table′ words′ scratch′ : List ℕ} {k a b : ℕ} {j : Judgement}
+    → Kept book (lentOf table words scratch run) k → Walked book words words₁ run run₁ a b → length run₁ ≡ length run
+    → HandedOver k a b (length run₁) table words₁ scratch table′ words′ scratch′ j
+    → JudgedBy (bookSystem book) (lentOf table words scratch run) (outcomeOf j (lentOf table′ words′ scratch′ run₁))
+handed-judged {b = b} kept told same (too-long few is L) =
+    short-judged is (kept .room) (kept-can kept) (told .steered) (told .long) (subst (λ n. n < b) same few) L
+handed-judged {book} {table} {words} {scratch} {run} {run₁ = run₁} {table′} {words′} {scratch′} {b = b} kept told same (in-room enough is L) =
+    subst (λ (j : Judgement). JudgedBy (bookSystem book) (lentOf table words scratch run) (outcomeOf j (lentOf table′ words′ scratch′ run₁))) (sym is)
+    (kept-judged (kept .room) (kept-can kept) (kept .lists) (kept-in-table kept) (told .steered) (told .long) (subst (λ n. b ≤ n) same enough) L)

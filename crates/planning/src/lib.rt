@@ -1,7 +1,7 @@
 // The planner for a good sheet: rules are dropped from the last to the first wherever the sheet still cannot be kept, the choice is tried with
 // each rule left out, and the slices are cleared.
 use choice::RULES;
-use dispute::STEPS;
+use choice::STEPS;
 use dispute::clear;
 use ground::State;
 ghost use mathlib.Core.Path.{_≡_};

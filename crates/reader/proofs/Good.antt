@@ -52,20 +52,20 @@ pub record Faulty (s : List ℕ) (f : F.Fault) : Type 0 where
   pub small : f .at ≤ 4096
 
 -- what an answer says of a sheet: it is good, or this is its first fault
-abbrev pub Told : List ℕ → Answer → Type 0
-Told s Good = firstFault s ≡ none
-Told s (Bad f) = Faulty s f
+abbrev pub Answered : List ℕ → Answer → Type 0
+Answered s Good = firstFault s ≡ none
+Answered s (Bad f) = Faulty s f
 
 -- The reader's answer r, known to be x, says so: good, or this fault.
-pub told : (s : List ℕ) {r x : Answer} → r ≡ answerOf (firstFault s) → r ≡ x → Told s x
-told s {r} e same = subst (Told s) (sym e ∙ same) (by (firstFault s) refl)
+pub told : (s : List ℕ) {r x : Answer} → r ≡ answerOf (firstFault s) → r ≡ x → Answered s x
+told s {r} e same = subst (Answered s) (sym e ∙ same) (by (firstFault s) refl)
   where
-    by : (o : Option Fault) → firstFault s ≡ o → Told s (answerOf (firstFault s))
-    by none q = subst (λ (o : Option Fault). Told s (answerOf o)) (sym q) q
+    by : (o : Option Fault) → firstFault s ≡ o → Answered s (answerOf (firstFault s))
+    by none q = subst (λ (o : Option Fault). Answered s (answerOf o)) (sym q) q
     by (some f) q =
         let small = place-within s q in
         let faulty : Faulty s (faultOf f) = record { fault = f; first = q; number = number-kept (f .why); place = refl; small = small } in
-        subst (λ (o : Option Fault). Told s (answerOf o)) (sym q) faulty
+        subst (λ (o : Option Fault). Answered s (answerOf o)) (sym q) faulty
 
 placed-good : (s : List ℕ) → firstFault s ≡ none → ReadPlaced s 0 0
 unfolding ReadPlaced ReadSays readNumber placeOf
@@ -80,7 +80,7 @@ placed-bad s bad =
 pub read-placed : (s : List ℕ) {r x : Answer} → r ≡ answerOf (firstFault s) → r ≡ x → ReadPlaced s (answerNumber x) (answerPlace x)
 read-placed s {r} {x} e same = by x (told s e same)
   where
-    by : (x : Answer) → Told s x → ReadPlaced s (answerNumber x) (answerPlace x)
+    by : (x : Answer) → Answered s x → ReadPlaced s (answerNumber x) (answerPlace x)
     by Good good = placed-good s good
     by (Bad f) bad = placed-bad s bad
 

@@ -17,9 +17,9 @@ pub const MOST_BYTES: usize = 4096;
 
 pub const MOST_LETTERS: u8 = 24;
 
-pub const MOST_LIMITS: u8 = 32;
+pub const MOST_LIMITS: u8 = ground::MOST_LIMITS as u8;
 
-pub const MOST_PROMISES: u8 = 16;
+pub const MOST_PROMISES: u8 = ground::MOST_PROMISES as u8;
 
 pub const RECORDS_AT: usize = LEAST_BYTES;
 

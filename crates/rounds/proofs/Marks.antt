@@ -11,7 +11,7 @@ use lib.Seq.{length-take-le, getD-take}
 use Rattle.meaning.specs.System.{System, Reachable, Lists, Livable}
 use Rattle.meaning.specs.Strike.{SavedBy, reasonOf, wordOf, Left, Struck}
 use Rattle.meaning.proofs.Rounds.{left-reachable, left-earlier, saved-map, phase-word-rises, left-livable}
-use Rattle.distances_start.specs.Far.{Live}
+use Rattle.distances_start.specs.Far.{UnstruckIn}
 use Rattle.distances_start.proofs.Totals.{total-less}
 use Rattle.deadends.specs.Phases.{Falls, was, stays, falls, Phased, Unphased}
 
@@ -60,13 +60,13 @@ module _ (S : System) (table : List ℕ) (r : ℕ) (inside : r ≤ length table)
 
   module _ (n : ℕ) (words : List ℕ) (M : Marks S table r n words) where
     -- What is unstruck in the table is what is left.
-    live-left : (s : ℕ) → Live table words r s → Left S n s
+    live-left : (s : ℕ) → UnstruckIn table words r s → Left S n s
     live-left s (i, h, e, z) = subst (Left S n) e (mark-left n (getD table i 0) (getD words i 0) (M i h) z)
 
-    left-live : (s : ℕ) → Left S n s → Live table words r s
+    left-live : (s : ℕ) → Left S n s → UnstruckIn table words r s
     left-live s l = by (reachable-place s (left-reachable n l))
       where
-        by : (i : ℕ) × (i < r) × (getD table i 0 ≡ s) → Live table words r s
+        by : (i : ℕ) × (i < r) × (getD table i 0 ≡ s) → UnstruckIn table words r s
         by (i, h, e) = (i, h, e, left-mark n (getD table i 0) (getD words i 0) (M i h) (subst (Left S n) (sym e) l))
 
     -- No place has the next phase's word yet.
@@ -82,15 +82,15 @@ module _ (S : System) (table : List ℕ) (r : ℕ) (inside : r ≤ length table)
         → Phased S table r reason v words new fallen → Marks S table r (suc n) new
     marks-phase reason v new fallen e f p i h = by (p .each i h) (M i h)
       where
-        saved : SavedBy S (Live table words r) reason (getD table i 0) → SavedBy S (Left S n) (reasonOf S n) (getD table i 0)
+        saved : SavedBy S (UnstruckIn table words r) reason (getD table i 0) → SavedBy S (Left S n) (reasonOf S n) (getD table i 0)
         saved x = subst (λ (q : ℕ). SavedBy S (Left S n) q (getD table i 0)) (sym e)
-            (saved-map S (Live table words r) (Left S n) live-left reason (getD table i 0) x)
+            (saved-map S (UnstruckIn table words r) (Left S n) live-left reason (getD table i 0) x)
 
-        back : SavedBy S (Left S n) (reasonOf S n) (getD table i 0) → SavedBy S (Live table words r) reason (getD table i 0)
-        back x = saved-map S (Left S n) (Live table words r) left-live reason (getD table i 0)
+        back : SavedBy S (Left S n) (reasonOf S n) (getD table i 0) → SavedBy S (UnstruckIn table words r) reason (getD table i 0)
+        back x = saved-map S (Left S n) (UnstruckIn table words r) left-live reason (getD table i 0)
             (subst (λ (q : ℕ). SavedBy S (Left S n) q (getD table i 0)) e x)
 
-        by : Falls (SavedBy S (Live table words r) reason (getD table i 0)) v (getD words i 0) (getD new i 0)
+        by : Falls (SavedBy S (UnstruckIn table words r) reason (getD table i 0)) v (getD words i 0) (getD new i 0)
             → Mark S n (getD table i 0) (getD words i 0) → Mark S (suc n) (getD table i 0) (getD new i 0)
         by (was a q) (inl (z, l)) = absurd (a z)
         by (was a q) (inr (m, k, x, w)) = inr (m, omega arith, x, q ∙ w)
@@ -105,7 +105,7 @@ module _ (S : System) (table : List ℕ) (r : ℕ) (inside : r ≤ length table)
         no-more : (i : ℕ) → i < r → freeAt new i ≤ freeAt words i
         no-more i h = at (p .each i h)
           where
-            at : Falls (SavedBy S (Live table words r) reason (getD table i 0)) v (getD words i 0) (getD new i 0) → freeAt new i ≤ freeAt words i
+            at : Falls (SavedBy S (UnstruckIn table words r) reason (getD table i 0)) v (getD words i 0) (getD new i 0) → freeAt new i ≤ freeAt words i
             at (was a q) = let b : freeAt new i ≡ freeAt words i = ap (λ (x : ℕ). 1 - x) q in omega arith
             at (stays z q x) = let b : freeAt words i ≡ 1 = ap (λ (x : ℕ). 1 - x) z in omega arith
             at (falls z q x) = let b : freeAt words i ≡ 1 = ap (λ (x : ℕ). 1 - x) z in omega arith
@@ -119,7 +119,7 @@ module _ (S : System) (table : List ℕ) (r : ℕ) (inside : r ≤ length table)
             let g = p .counted in
             absurd (omega arith)
 
-        by : Live table words r s → Left S (suc n) s
+        by : UnstruckIn table words r s → Left S (suc n) s
         by (i, h, q, z) =
             subst (Left S (suc n)) q (mark-left (suc n) (getD table i 0) (getD new i 0) (marks-phase reason v new 0 e f p i h)
             (still i h z (ℕ-discrete (getD new i 0) 0)))

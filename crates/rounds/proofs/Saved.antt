@@ -11,7 +11,7 @@ use Rattle.meaning.specs.System.{System}
 use Rattle.meaning.specs.Strike.{Way, SavedBy}
 use Rattle.rules.specs.Book.{bookSystem, bookKept}
 use Rattle.rules.specs.Table.{To}
-use Rattle.distances_start.specs.Far.{Live, far, gone}
+use Rattle.distances_start.specs.Far.{UnstruckIn, far, gone}
 use Rattle.distances_start.specs.Values.{keptIn}
 use Rattle.witness.specs.Witness.{HungIn, Log, freeIn}
 use Rattle.witness.specs.Turns.{FallsAt, was as was-so, keeps, falls as falls-so, Watched}
@@ -62,7 +62,7 @@ module _ {book table : List ℕ} {r : ℕ} {M : ℕ → ℕ → Type 0} (I : Mov
       inside : {i : ℕ} → i < length row′ → i < r
       inside h = omega (arith, h, long, W .long)
 
-      way : (n i : ℕ) → HungIn words row′ n i → Way (bookSystem book) (Live table words r) (bookSystem book .Kept k) n (getD table i 0)
+      way : (n i : ℕ) → HungIn words row′ n i → Way (bookSystem book) (UnstruckIn table words r) (bookSystem book .Kept k) n (getD table i 0)
       way zero i c =
           let h = inside (c .0) in
           ((i, h, refl, c .1), kept-so k (getD table i 0) (K i h .0 (W .own i (c .0) .0 (c .2))))
@@ -74,29 +74,29 @@ module _ {book table : List ℕ} {r : ℕ} {M : ℕ → ℕ → Type 0} (I : Mov
           )
 
       -- a place without a witness is on no path
-      none : (n i : ℕ) → i < r → getD words i 0 ≡ 0 → getD row′ i 0 ≡ far → Way (bookSystem book) (Live table words r) (bookSystem book .Kept k) n (getD table i 0) → ⊥
+      none : (n i : ℕ) → i < r → getD words i 0 ≡ 0 → getD row′ i 0 ≡ far → Way (bookSystem book) (UnstruckIn table words r) (bookSystem book .Kept k) n (getD table i 0) → ⊥
       none zero i h u e w =
           let x : getD row′ i 0 ≡ gone = W .own i (omega (arith, h, long, W .long)) .1 (K i h .1 (kept-is k (getD table i 0) (w .1))) in
           absurd (omega (arith, e, x))
       none (suc n) i h u e w = on (w .1 .0) (w .1 .1) (w .1 .2) (head n (w .1 .0) (w .1 .2)) (none n)
         where
-          head : (n t : ℕ) → Way (bookSystem book) (Live table words r) (bookSystem book .Kept k) n t → Live table words r t
+          head : (n t : ℕ) → Way (bookSystem book) (UnstruckIn table words r) (bookSystem book .Kept k) n t → UnstruckIn table words r t
           head zero t v = v .0
           head (suc n) t v = v .0
 
-          on : (t : ℕ) → bookSystem book .Move (getD table i 0) t → Way (bookSystem book) (Live table words r) (bookSystem book .Kept k) n t → Live table words r t
-              → ((j : ℕ) → j < r → getD words j 0 ≡ 0 → getD row′ j 0 ≡ far → Way (bookSystem book) (Live table words r) (bookSystem book .Kept k) n (getD table j 0) → ⊥) → ⊥
+          on : (t : ℕ) → bookSystem book .Move (getD table i 0) t → Way (bookSystem book) (UnstruckIn table words r) (bookSystem book .Kept k) n t → UnstruckIn table words r t
+              → ((j : ℕ) → j < r → getD words j 0 ≡ 0 → getD row′ j 0 ≡ far → Way (bookSystem book) (UnstruckIn table words r) (bookSystem book .Kept k) n (getD table j 0) → ⊥) → ⊥
           on t move v (j, l, same, z) rest = by (ℕ-discrete (getD row′ j 0) far)
             where
               lead : M i j
               lead = I .whole i j h l (subst (λ (y : ℕ). bookSystem book .Move (getD table i 0) y) (sym same) move)
 
               by : Dec (getD row′ j 0 ≡ far) → ⊥
-              by (yes q) = rest j l z q (subst (λ (y : ℕ). Way (bookSystem book) (Live table words r) (bookSystem book .Kept k) n y) (sym same) v)
+              by (yes q) = rest j l z q (subst (λ (y : ℕ). Way (bookSystem book) (UnstruckIn table words r) (bookSystem book .Kept k) n y) (sym same) v)
               by (no q) = W .closed i j (omega (arith, h, long, W .long)) (omega (arith, l, long, W .long)) u z lead e q
 
       at : (i : ℕ) → i < r → FallsAt word (getD words i 0) (getD words′ i 0) (getD row′ i 0)
-          → Falls (SavedBy (bookSystem book) (Live table words r) (suc k) (getD table i 0)) word (getD words i 0) (getD words′ i 0)
+          → Falls (SavedBy (bookSystem book) (UnstruckIn table words r) (suc k) (getD table i 0)) word (getD words i 0) (getD words′ i 0)
       at i h (was-so n e) = was n e
       at i h (keeps o e n) = let c = W .hung i (omega (arith, h, long, W .long)) o n in stays o e (c .0, way (c .0) i (c .1))
       at i h (falls-so o e x) = falls o e (λ s. none (s .0) i h o x (s .1))

@@ -17,7 +17,7 @@ use Rattle.witness.specs.Turns.{Watched}
 use Rattle.watch.specs.Along.{Watching}
 use Rattle.watch.specs.Ends.{Blank, Ahead, opening, going, Endable, Ended}
 use Rattle.rounds.specs.Rows.{rowOf, Beginnable, BegunRows}
-use Rattle.rounds_along.specs.Along.{Turnable, TurnDone, StrikableAlong}
+use Rattle.rounds_along.specs.Along.{RunnableAlong, TurnDone, StrikableAlong}
 use Rattle.rounds.proofs.Running.{strikable-lawful}
 use Rattle.rounds.proofs.Rows.{lentBack, lent-row, front-row, row-long, front-inside, PutBack, row-back, front-back}
 use Rattle.rounds.proofs.Moving.{
@@ -87,7 +87,7 @@ module _ {book table : List ℕ} {r : ℕ} {words₀ words old wit forth back lo
     (long : length wit ≡ length old) (within : reason ≤ promisesOf book) where
   -- The next phase may be run.
   pub along-turnable : {line′ : List ℕ} {word : ℕ} → Ahead words (rowOf r 0 wit) back log (getD news 0 0) m → length log ≡ length log₀
-      → length line′ ≡ length line → 0 < word → reason ≤ 16 → Turnable words wit forth back log line′ r reason word m (getD news reason 0)
+      → length line′ ≡ length line → 0 < word → reason ≤ 16 → RunnableAlong words wit forth back log line′ r reason word m (getD news reason 0)
   along-turnable ahead logs same some few = record {
     some = some;
     few = A .stored .asked .few;
@@ -147,7 +147,7 @@ since-own (inr x) e = absurd (x .0 e)
 
 -- ---- a phase on its row
 
-module _ {words wit forth back log line : List ℕ} {r reason word m from : ℕ} (ready : Turnable words wit forth back log line r reason word m from) where
+module _ {words wit forth back log line : List ℕ} {r reason word m from : ℕ} (ready : RunnableAlong words wit forth back log line r reason word m from) where
   front : r ≤ length wit
   front = front-inside reason r (length wit) (ready .room)
 

@@ -10,7 +10,7 @@ use Rattle.rules.specs.Book.{bookSystem}
 use Rattle.rules.specs.Table.{To}
 use Rattle.stored.specs.Moves.{Forth, Back}
 use Rattle.stored.proofs.Rows.{rows-has}
-use Rattle.distances_start.specs.Far.{Live}
+use Rattle.distances_start.specs.Far.{UnstruckIn}
 use Rattle.stored.specs.Layout.{Backed}
 use Rattle.witness.specs.Witness.{Log, freeIn}
 use Rattle.watch.specs.Along.{Leads, Woven}
@@ -53,7 +53,7 @@ module _ {book table : List ℕ} {r : ℕ} {forth back : List ℕ} (few : r ≤ 
   }
     where
       at : (i : ℕ) → i < r → FallsAt word (getD words i 0) (getD words′ i 0) (getD row′ i 0)
-          → Falls (SavedBy (bookSystem book) (Live table words r) 0 (getD table i 0)) word (getD words i 0) (getD words′ i 0)
+          → Falls (SavedBy (bookSystem book) (UnstruckIn table words r) 0 (getD table i 0)) word (getD words i 0) (getD words′ i 0)
       at i h (was-so n e) = was n e
       at i h (keeps o e n) =
           let s = E .saved i (omega (arith, h, long)) o n in
@@ -63,7 +63,7 @@ module _ {book table : List ℕ} {r : ℕ} {forth back : List ℕ} (few : r ≤ 
           stays o e (getD table (getD row′ i 0) 0, leads-to i (getD row′ i 0) h lead, (getD row′ i 0, below, refl, s .1))
       at i h (falls-so o e x) = falls o e (λ s. no-way (s .0) (s .1) (s .2))
         where
-          no-way : (t : ℕ) → bookSystem book .Move (getD table i 0) t → Live table words r t → ⊥
+          no-way : (t : ℕ) → bookSystem book .Move (getD table i 0) t → UnstruckIn table words r t → ⊥
           no-way t move (j, k, same, u) =
               E .stuck i (omega (arith, h, long)) o x j (to-leads i j h k (subst (λ (y : ℕ). bookSystem book .Move (getD table i 0) y) (sym same) move)) u
 

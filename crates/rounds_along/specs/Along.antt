@@ -13,7 +13,7 @@ use Rattle.rounds.specs.Phases.{Strikable}
 use Rattle.rounds.specs.Rows.{rowOf, RoomForRows}
 
 -- a phase of this reason may be run
-pub record Turnable (words wit forth back log line : List ℕ) (r reason word m from : ℕ) : Type 0 where
+pub record RunnableAlong (words wit forth back log line : List ℕ) (r reason word m from : ℕ) : Type 0 where
   pub some : 0 < word
   pub few : r ≤ mostStates
   pub few-reasons : reason ≤ 16

@@ -13,7 +13,7 @@ ghost use mathlib.Core.Logic.{_⊎_};
 ghost use lib.ListN.{length};
 ghost use Rattle.ground.specs.Wiping.{Zeros};
 ghost use Rattle.rounds.specs.Phases.{Stricken};
-ghost use Rattle.rounds_along.specs.Along.{Turnable, TurnDone, StrikableAlong};
+ghost use Rattle.rounds_along.specs.Along.{RunnableAlong, TurnDone, StrikableAlong};
 
 // One phase along stored moves: strikes together, for one reason, the places that it does not save; how long the log then is.
 fn turn_along(
@@ -26,7 +26,7 @@ fn turn_along(
     r: usize,
     turn: Turn,
 ) -> usize
-    requires { ⌜ Turnable (now words) (now wit) (now forth) (now back) (now log) (now line) r (turn .reason) (turn .word) (turn .m) (turn .from) ⌝ }
+    requires { ⌜ RunnableAlong (now words) (now wit) (now forth) (now back) (now log) (now line) r (turn .reason) (turn .word) (turn .m) (turn .from) ⌝ }
     ensures { λ end. ⌜ TurnDone (now (words .entry)) (now (words .exit)) (now (wit .entry)) (now (wit .exit)) (now (forth .entry)) (now (back .entry))
         (now (log .entry)) (now (log .exit)) r (turn .reason) (turn .word) (turn .m) end × (length (now (line .exit)) ≡ length (now (line .entry))) ⌝ }
 {

@@ -18,7 +18,7 @@ use Rattle.watch_tests.specs.Tests.{WatchingByTests}
 use Rattle.deadends.specs.Phases.{fresh, Pointers, Phased, Unphased, Striking, DeadDone}
 use Rattle.deadends.proofs.Fewer.{phased-free, pointers-fewer}
 use Rattle.rounds.specs.Rows.{rowOf, BegunRows}
-use Rattle.rounds_tests.specs.Tests.{Testable, TestsDone, StrikableByTests}
+use Rattle.rounds_tests.specs.Tests.{RunnableByTests, TestsDone, StrikableByTests}
 use Rattle.rounds.proofs.Rows.{lentBack, lent-row, front-row, row-long, front-inside, PutBack, row-back, front-back}
 use Rattle.rounds.proofs.Running.{strikable-rises}
 use Rattle.rounds.proofs.Saved.{Moves}
@@ -57,7 +57,7 @@ module _ {book table : List ℕ} {r : ℕ} {words₀ words old wit signs log₀ 
     (long : length wit ≡ length old) (within : reason ≤ promisesOf book) where
   -- The next phase may be run.
   pub tests-testable : {line′ : List ℕ} {word : ℕ} → Pointers book table words (rowOf r 0 wit) r → length log ≡ length log₀ → length line′ ≡ length line
-      → Unphased words r word → reason ≤ 16 → Testable book table words wit signs log line′ r reason word m (getD news reason 0)
+      → Unphased words r word → reason ≤ 16 → RunnableByTests book table words wit signs log line′ r reason word m (getD news reason 0)
   tests-testable pointers logs same unphased few = record {
     few-reasons = few;
     room = moving-inside (A .asked) (A .roomed) Mo long within reason within;
@@ -97,7 +97,7 @@ module _ {book table : List ℕ} {r : ℕ} {words₀ words old wit signs log₀ 
 -- ---- a phase on its row
 
 module _ {book table words wit signs log line : List ℕ} {r reason word m from : ℕ}
-    (ready : Testable book table words wit signs log line r reason word m from) where
+    (ready : RunnableByTests book table words wit signs log line r reason word m from) where
   front : r ≤ length wit
   front = front-inside reason r (length wit) (ready .room)
 

@@ -15,7 +15,7 @@ use Rattle.rounds.specs.Phases.{Strikable}
 use Rattle.rounds.specs.Rows.{rowOf, RoomForRows}
 
 -- a phase of this reason may be run
-pub record Testable (book table words wit signs log line : List ℕ) (r reason word m from : ℕ) : Type 0 where
+pub record RunnableByTests (book table words wit signs log line : List ℕ) (r reason word m from : ℕ) : Type 0 where
   pub few-reasons : reason ≤ 16
   pub room : suc reason * r ≤ length wit
   pub signed : Signed book table r signs

@@ -12,7 +12,7 @@ ghost use mathlib.Core.Path.{_≡_};
 ghost use lib.ListN.{length};
 ghost use Rattle.ground.specs.Wiping.{Zeros};
 ghost use Rattle.rounds.specs.Phases.{Stricken};
-ghost use Rattle.rounds_tests.specs.Tests.{Testable, TestsDone, StrikableByTests};
+ghost use Rattle.rounds_tests.specs.Tests.{RunnableByTests, TestsDone, StrikableByTests};
 
 // One phase by tests: strikes together, for one reason, the places that it does not save; how long the log then is.
 fn turn_by_tests(
@@ -26,7 +26,7 @@ fn turn_by_tests(
     r: usize,
     turn: Turn,
 ) -> usize
-    requires { ⌜ Testable (now book) (now table) (now words) (now wit) (now signs) (now log) (now line) r (turn .reason) (turn .word) (turn .m)
+    requires { ⌜ RunnableByTests (now book) (now table) (now words) (now wit) (now signs) (now log) (now line) r (turn .reason) (turn .word) (turn .m)
         (turn .from) ⌝ }
     ensures { λ end. ⌜ TestsDone (now (book .entry)) (now (table .entry)) (now (words .entry)) (now (words .exit)) (now (wit .entry)) (now (wit .exit))
         (now (log .entry)) (now (log .exit)) r (turn .reason) (turn .word) (turn .m) end × (length (now (line .exit)) ≡ length (now (line .entry))) ⌝ }

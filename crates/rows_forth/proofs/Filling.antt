@@ -9,7 +9,7 @@ use lib.ListN.{length, getD, set, take, drop, length-set}
 use lib.Seq.{getD-set-same, getD-set-other}
 use Rattle.rules.proofs.FreerLaws.{freer-moves}
 use Rattle.meaning.specs.Promises.{mostStates}
-use Rattle.stored.specs.Layout.{mostCells, movesSize, startsOf, endsOf, cellsOf, noLink, startAt, endAt, HasRow, CellsOnly, PlaceSet}
+use Rattle.stored.specs.Layout.{mostCells, movesSize, cellsFrom, linksFrom, startsOf, endsOf, cellsOf, noLink, startAt, endAt, HasRow, CellsOnly, PlaceSet}
 use Rattle.stored.specs.Moves.{Forth, Storable, SameMoves, Kindred}
 use Rattle.rows_forth.specs.Storing.{Row, Nexts, Filled}
 use Rattle.stored.proofs.Layouts.{starts-long, ends-long, cells-long, cells-part, cellsBack, cells-back, cells-only}
@@ -124,10 +124,6 @@ pub filling-over : (P Q : ℕ → Type 0) {at to : ℕ} {old new : List ℕ} (ov
     → Filled Q at old new over
 filling-over P Q over h w = record { long = w .long; keeps = w .keeps; row = λ l. absurd (omega arith) }
 
--- Where nothing was written for want of room, nothing is told.
-pub filled-over : (Q : ℕ → Type 0) (at over : ℕ) (cells : List ℕ) → length cells < over → Filled Q at cells cells over
-filled-over Q at over cells h = record { long = refl; keeps = λ e l. refl; row = λ l. absurd (omega arith) }
-
 -- A filled row of some places is one of the same places.
 pub filled-same : (P Q : ℕ → Type 0) {at to : ℕ} {old new : List ℕ} → ((j : ℕ) → P j → Q j) → ((j : ℕ) → Q j → P j) → Filled P at old new to
     → Filled Q at old new to
@@ -135,7 +131,7 @@ filled-same P Q there back w = record { long = w .long; keeps = w .keeps; row = 
 
 -- A row that was filled in the lent cells is filled in the list, where nothing else has changed.
 pub filled-back : (P : ℕ → Type 0) (at to : ℕ) (moves cells : List ℕ) → length moves ≡ movesSize
-    → Filled P at (take (49152 - 32768) (drop 32768 moves)) cells to
+    → Filled P at (take (linksFrom - cellsFrom) (drop cellsFrom moves)) cells to
     → Filled P at (cellsOf moves) (cellsOf (cellsBack moves cells)) to × CellsOnly moves (cellsBack moves cells)
 filled-back P at to moves cells long f = (
   subst (λ (l : List ℕ). Filled P at (cellsOf moves) l to) (sym (cells-back moves cells long same)) there,
@@ -147,6 +143,16 @@ filled-back P at to moves cells long f = (
 
     same : length cells ≡ mostCells
     same = there .long ∙ cells-long moves long
+
+-- Where nothing was written for want of room, nothing is told,
+pub filled-over : (Q : ℕ → Type 0) (at over : ℕ) (moves : List ℕ) → length moves ≡ movesSize → mostCells < over
+    → Filled Q at (cellsOf moves) (cellsOf moves) over
+filled-over Q at over moves long h =
+    record { long = refl; keeps = λ e l. refl; row = λ l. absurd (omega (arith, cells-long moves long)) }
+
+-- and nothing has changed.
+pub cells-kept : (moves : List ℕ) → CellsOnly moves moves
+cells-kept moves = record { starts = refl; ends = refl; links = refl; long = refl }
 
 -- ---- row after row
 

@@ -59,6 +59,18 @@ fn look_up(
     to
 }
 
+// The same in the cells of the slice that has them all. Nothing else is lent to be written here: a part lent beside another slice is proved at
+// four times the cost.
+fn fill(table: &[State], r: usize, list: &[State], n: usize, at: usize, moves: &mut [u16]) -> usize
+    requires { ⌜ Sorted (now table) r × (r ≤ mostStates) × Sorted (now list) n × (at ≤ mostCells) × (length (now moves) ≡ movesSize) ⌝ }
+    ensures { λ to. ⌜ Filled (Listed (now (list .entry)) n (now (table .entry)) r) at (cellsOf (now (moves .entry))) (cellsOf (now (moves .exit))) to
+        × CellsOnly (now (moves .entry)) (now (moves .exit)) ⌝ }
+{
+    let from = stored::CELLS;
+    let end = stored::LINKS;
+    look_up(table, r, list, n, at, &mut moves[from..end])
+}
+
 // The row of a place with state s: its next states are listed, and each is looked up. One with more than there is room for is not stored:
 // where states have many next states, a path to anywhere is short and testing pairs finds it soon.
 fn row(
@@ -68,18 +80,18 @@ fn row(
     r: usize,
     room: &mut [State],
     at: usize,
-    cells: &mut [u16],
+    moves: &mut [u16],
 ) -> usize
     requires { ⌜ Storable (now book) (now table) r × (bookLawful (now book) s ≡ true) × (length (now room) ≡ listSize)
-        × (at ≤ length (now cells)) × (length (now cells) ≤ mostCells) ⌝ }
-    ensures { λ to. ⌜ Filled (Nexts (now (book .entry)) (now (table .entry)) r s) at (now (cells .entry)) (now (cells .exit)) to
-        × (length (now (room .exit)) ≡ listSize) ⌝ }
+        × (at ≤ mostCells) × (length (now moves) ≡ movesSize) ⌝ }
+    ensures { λ to. ⌜ Filled (Nexts (now (book .entry)) (now (table .entry)) r s) at (cellsOf (now (moves .entry))) (cellsOf (now (moves .exit))) to
+        × CellsOnly (now (moves .entry)) (now (moves .exit)) × (length (now (room .exit)) ≡ listSize) ⌝ }
 {
     let n = listing::next_states(book, s, room);
     if n > room.len() {
-        return cells.len() + 1;
+        return stored::MOST_CELLS + 1;
     }
-    look_up(table, r, room, n, at, cells)
+    fill(table, r, room, n, at, moves)
 }
 
 // Whether place k stands before place i, and the states of both move to the same states.
@@ -95,26 +107,6 @@ fn same_moves(book: &[State], table: &[State], k: usize, i: usize) -> bool
         }
     }
     false
-}
-
-// The row of a place with state s, in the cells of the slice that has them all.
-fn fill(
-    book: &[State],
-    s: State,
-    table: &[State],
-    r: usize,
-    room: &mut [State],
-    at: usize,
-    moves: &mut [u16],
-) -> usize
-    requires { ⌜ Storable (now book) (now table) r × (bookLawful (now book) s ≡ true) × (length (now room) ≡ listSize)
-        × (at ≤ mostCells) × (length (now moves) ≡ movesSize) ⌝ }
-    ensures { λ to. ⌜ Filled (Nexts (now (book .entry)) (now (table .entry)) r s) at (cellsOf (now (moves .entry))) (cellsOf (now (moves .exit))) to
-        × CellsOnly (now (moves .entry)) (now (moves .exit)) × (length (now (room .exit)) ≡ listSize) ⌝ }
-{
-    let from = stored::CELLS;
-    let end = stored::LINKS;
-    row(book, s, table, r, room, at, &mut moves[from..end])
 }
 
 // Gives place i the row of place k, and links it to that place.
@@ -176,7 +168,7 @@ fn store_rows(
             luck = classes::LUCKY;
             i += 1;
         } else {
-            let to = fill(book, s, table, r, &mut room, at, moves);
+            let to = row(book, s, table, r, &mut room, at, moves);
             if to > stored::MOST_CELLS {
                 return false;
             }

@@ -1,5 +1,8 @@
 // A book's layout: where each number of a compiled sheet stands. Only this module knows where a row begins and where its numbers stand in it;
 // they are read and written here. specs/Book.antt says the same under the same names.
+use ground::MOST_LIMITS;
+use ground::MOST_PROMISES;
+use ground::MOST_RULES;
 ghost use mathlib.Core.Path.{_≡_};
 ghost use Prim.Native.Nat.{_+_, _≤_, _<_};
 ghost use lib.ListN.{length};
@@ -9,13 +12,6 @@ ghost use Rattle.rules.specs.Rows.{Put};
 
 // A book's numbers are as wide as a state.
 pub use ground::State;
-
-// The most limits, first or step rules, and promises of a sheet.
-const MOST_LIMITS: usize = 32;
-
-const MOST_RULES: usize = 255;
-
-const MOST_PROMISES: usize = 16;
 
 // How many numbers a row has: a list's are its two masks; a limit's its masks, the least and the most; a step rule's the masks of its sides.
 const LIST_WIDTH: usize = 2;

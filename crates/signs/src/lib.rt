@@ -24,6 +24,12 @@ pub const HEAD: usize = 2;
 // Room for the signs of any table: at least one word of either kind for each place.
 pub const MOST: usize = HEAD + 2 * ground::MOST_STATES;
 
+// How many slots there are for places that were spread from (`slot`); and where no more places wait than this the slots are not asked, since the
+// places are soon tested.
+pub const SLOTS: usize = 2048;
+
+pub const FEW_WAITING: usize = 32;
+
 // A slot's number is mixed below this prime number; the other spreads it.
 const MIXED: usize = 2147483647;
 
@@ -90,7 +96,7 @@ pub fn fill(book: &[State], table: &[State], r: usize, signs: &mut [u64])
     requires { ⌜ LawfulTable (now book) (now table) r × (headSize ≤ length (now signs)) ⌝ }
     ensures { λ _. ⌜ Signed (now (book .entry)) (now (table .entry)) r (now (signs .exit)) × (length (now (signs .exit)) ≡ length (now (signs .entry))) ⌝ }
 {
-    let mut list = [0u16; live::RULES];
+    let mut list = [0u16; ground::MOST_RULES];
     let n = live::list_live(book, table, r, &mut list);
     let w = width(signs.len(), r, n);
     signs[0] = w as u64;

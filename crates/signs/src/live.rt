@@ -8,9 +8,6 @@ ghost use Rattle.rules.specs.Book.{stepsOf, mostRules};
 ghost use Rattle.rules.specs.Table.{LawfulTable};
 ghost use Rattle.signs.specs.Live.{AsksAfter, Live};
 
-// The most step rules of a sheet.
-pub const RULES: usize = 255;
-
 // Whether step rule i asks something after one of the table's first r states.
 fn asks_somewhere(book: &[State], table: &[State], r: usize, i: usize) -> bool
     requires { ⌜ LawfulTable (now book) (now table) r × (i < stepsOf (now book)) ⌝ }

@@ -10,11 +10,3 @@ use Rattle.steer.specs.declared.Way.the-variants.{Along, NotStored}
 abbrev pub WalkedAlong : (book words words′ run run′ : List ℕ) → Way → Type 0
 WalkedAlong book words words′ run run′ (Along steps) = Walked book words words′ run run′ (steps .a) (steps .b)
 WalkedAlong book words words′ run run′ NotStored = (words′ ≡ words) × (run′ ≡ run)
-
--- up to so many states need next to no room
-abbrev pub tinyStates : ℕ
-tinyStates = 32
-
--- up to so many states whose moves are not stored need room of a middle size
-abbrev pub someStates : ℕ
-someStates = 2048

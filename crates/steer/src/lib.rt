@@ -1,40 +1,35 @@
 // Finds and writes the sample run, in room of its own. Where there are many states, the moves between them are stored once, if they have room,
-// and the distances and every step look at stored moves only; else pairs of states are tested by their signs. What room is lent to the walks
-// depends on how many states there are.
+// and the distances and every step look at stored moves only; else pairs of states are tested by their signs, which of few states the caller has.
+// What room is lent to the walks depends on how many states there are.
 
 use ground::State;
 pub use trail::Steps;
 use trail::walk;
-ghost use Prim.Native.Nat.{_*_, _≤_, _<_};
+ghost use Prim.Native.Nat.{_*_, _≤_};
 ghost use lib.ListN.{length};
 ghost use Rattle.rules.specs.Book.{bookSystem};
-ghost use Rattle.signs.specs.Signs.{headSize};
-ghost use Rattle.stored.specs.Moves.{fewStates};
+ghost use Rattle.signs.specs.Signs.{Signed};
+ghost use Rattle.stored.specs.Moves.{tinyStates, fewStates, someStates};
 ghost use Rattle.best.specs.Rows.{aimsOf};
 ghost use Rattle.trail.specs.Walk.{Steerable, Walked};
-ghost use Rattle.steer.specs.Ways.{WalkedAlong, tinyStates, someStates};
+ghost use Rattle.steer.specs.Ways.{WalkedAlong};
 
-// Up to so many states need next to no room.
-const TINY_STATES: usize = 32;
+// A sheet has at most so many aims, and so many rows of distances.
+const AIMS: usize = ground::MOST_PROMISES;
 
-// Up to so many states whose moves are not stored need room of a middle size.
-const SOME_STATES: usize = 2048;
+// Room for the distances of tiny, few, some and all states.
+const TINY_DISTANCES: usize = AIMS * stored::TINY_STATES;
 
-// Room for the distances of tiny, few, some and all states: 16 rows at most.
-const TINY_DISTANCES: usize = 512;
+const FEW_DISTANCES: usize = AIMS * stored::FEW_STATES;
 
-const FEW_DISTANCES: usize = 8192;
+const SOME_DISTANCES: usize = AIMS * stored::SOME_STATES;
 
-const SOME_DISTANCES: usize = 32768;
+const MOST_DISTANCES: usize = AIMS * ground::MOST_STATES;
 
-const MOST_DISTANCES: usize = 262144;
-
-// Room for the signs of tiny, few and some states: of 256 step rules for each state.
-const TINY_SIGNS: usize = signs::HEAD + TINY_STATES * 8;
-
+// Room for the signs of few and some states: of 256 step rules for each state.
 const FEW_SIGNS: usize = signs::HEAD + stored::FEW_STATES * 8;
 
-const SOME_SIGNS: usize = signs::HEAD + SOME_STATES * 8;
+const SOME_SIGNS: usize = signs::HEAD + stored::SOME_STATES * 8;
 
 // The run walked along stored moves; or that they have no room.
 pub enum Way {
@@ -44,7 +39,7 @@ pub enum Way {
 
 // ---- by tests of pairs
 
-// With no moves stored, in the room that is lent.
+// With no moves stored, by the signs, in the room that is lent.
 fn walk_by_tests(
     book: &[State],
     table: &[State],
@@ -53,15 +48,14 @@ fn walk_by_tests(
     r: usize,
     dist: &mut [u16],
     queue: &mut [u16],
-    signs: &mut [u64],
+    signs: &[u64],
 ) -> Steps
     requires { ⌜ Steerable (now book) (now table) (now words) r × (aimsOf (bookSystem (now book)) * r ≤ length (now dist))
-        × (r ≤ length (now queue)) × (headSize ≤ length (now signs)) ⌝ }
+        × (r ≤ length (now queue)) × Signed (now book) (now table) r (now signs) ⌝ }
     ensures { λ s. ⌜ Walked (now (book .entry)) (now (words .entry)) (now (words .exit)) (now (run .entry)) (now (run .exit)) (s .a) (s .b) ⌝ }
 {
     let none = [0u16; 1];
     let empty = &none[..0];
-    signs::fill(book, table, r, signs);
     walk(book, table, words, run, dist, r, empty, empty, queue, signs)
 }
 
@@ -72,23 +66,29 @@ fn walk_tiny(
     words: &mut [u32],
     run: &mut [State],
     r: usize,
+    signs: &[u64],
 ) -> Steps
-    requires { ⌜ Steerable (now book) (now table) (now words) r × (r ≤ tinyStates) ⌝ }
+    requires { ⌜ Steerable (now book) (now table) (now words) r × Signed (now book) (now table) r (now signs) × (r ≤ tinyStates) ⌝ }
     ensures { λ s. ⌜ Walked (now (book .entry)) (now (words .entry)) (now (words .exit)) (now (run .entry)) (now (run .exit)) (s .a) (s .b) ⌝ }
 {
     let mut dist = [0u16; TINY_DISTANCES];
-    let mut queue = [0u16; TINY_STATES];
-    let mut signs = [0u64; TINY_SIGNS];
-    walk_by_tests(
-        book,
-        table,
-        words,
-        run,
-        r,
-        &mut dist,
-        &mut queue,
-        &mut signs,
-    )
+    let mut queue = [0u16; stored::TINY_STATES];
+    walk_by_tests(book, table, words, run, r, &mut dist, &mut queue, signs)
+}
+
+// As `steer`, for few states, by their signs.
+pub fn steer_signed(
+    book: &[State],
+    table: &[State],
+    words: &mut [u32],
+    run: &mut [State],
+    r: usize,
+    signs: &[u64],
+) -> Steps
+    requires { ⌜ Steerable (now book) (now table) (now words) r × Signed (now book) (now table) r (now signs) × (r ≤ tinyStates) ⌝ }
+    ensures { λ s. ⌜ Walked (now (book .entry)) (now (words .entry)) (now (words .exit)) (now (run .entry)) (now (run .exit)) (s .a) (s .b) ⌝ }
+{
+    walk_tiny(book, table, words, run, r, signs)
 }
 
 // With room for few states.
@@ -99,22 +99,14 @@ fn walk_few(
     run: &mut [State],
     r: usize,
 ) -> Steps
-    requires { ⌜ Steerable (now book) (now table) (now words) r × (r < fewStates) ⌝ }
+    requires { ⌜ Steerable (now book) (now table) (now words) r × (r ≤ fewStates) ⌝ }
     ensures { λ s. ⌜ Walked (now (book .entry)) (now (words .entry)) (now (words .exit)) (now (run .entry)) (now (run .exit)) (s .a) (s .b) ⌝ }
 {
     let mut dist = [0u16; FEW_DISTANCES];
     let mut queue = [0u16; stored::FEW_STATES];
     let mut signs = [0u64; FEW_SIGNS];
-    walk_by_tests(
-        book,
-        table,
-        words,
-        run,
-        r,
-        &mut dist,
-        &mut queue,
-        &mut signs,
-    )
+    signs::fill(book, table, r, &mut signs);
+    walk_by_tests(book, table, words, run, r, &mut dist, &mut queue, &signs)
 }
 
 // With room of a middle size.
@@ -129,18 +121,10 @@ fn walk_some(
     ensures { λ s. ⌜ Walked (now (book .entry)) (now (words .entry)) (now (words .exit)) (now (run .entry)) (now (run .exit)) (s .a) (s .b) ⌝ }
 {
     let mut dist = [0u16; SOME_DISTANCES];
-    let mut queue = [0u16; SOME_STATES];
+    let mut queue = [0u16; stored::SOME_STATES];
     let mut signs = [0u64; SOME_SIGNS];
-    walk_by_tests(
-        book,
-        table,
-        words,
-        run,
-        r,
-        &mut dist,
-        &mut queue,
-        &mut signs,
-    )
+    signs::fill(book, table, r, &mut signs);
+    walk_by_tests(book, table, words, run, r, &mut dist, &mut queue, &signs)
 }
 
 // With room for as many states as there can be.
@@ -157,16 +141,8 @@ fn walk_many(
     let mut dist = [0u16; MOST_DISTANCES];
     let mut queue = [0u16; ground::MOST_STATES];
     let mut signs = [0u64; signs::MOST];
-    walk_by_tests(
-        book,
-        table,
-        words,
-        run,
-        r,
-        &mut dist,
-        &mut queue,
-        &mut signs,
-    )
+    signs::fill(book, table, r, &mut signs);
+    walk_by_tests(book, table, words, run, r, &mut dist, &mut queue, &signs)
 }
 
 // In as much room as they need.
@@ -180,7 +156,7 @@ fn walk_unstored(
     requires { ⌜ Steerable (now book) (now table) (now words) r ⌝ }
     ensures { λ s. ⌜ Walked (now (book .entry)) (now (words .entry)) (now (words .exit)) (now (run .entry)) (now (run .exit)) (s .a) (s .b) ⌝ }
 {
-    if r <= SOME_STATES {
+    if r <= stored::SOME_STATES {
         return walk_some(book, table, words, run, r);
     }
     walk_many(book, table, words, run, r)
@@ -237,10 +213,7 @@ pub fn steer(
     requires { ⌜ Steerable (now book) (now table) (now words) r ⌝ }
     ensures { λ s. ⌜ Walked (now (book .entry)) (now (words .entry)) (now (words .exit)) (now (run .entry)) (now (run .exit)) (s .a) (s .b) ⌝ }
 {
-    if r <= TINY_STATES {
-        return walk_tiny(book, table, words, run, r);
-    }
-    if r < stored::FEW_STATES {
+    if r <= stored::FEW_STATES {
         return walk_few(book, table, words, run, r);
     }
     match walk_stored(book, table, words, run, r) {

@@ -24,6 +24,8 @@ use Rattle.meaning.specs.Promises.{mostStates}
 use Rattle.stored.specs.Layout.{
   mostCells,
   movesSize,
+  cellsFrom,
+  linksFrom,
   startsOf,
   endsOf,
   cellsOf,
@@ -44,106 +46,106 @@ use Rattle.stored.specs.Layout.{
 
 pub starts-long : (moves : List ℕ) → length moves ≡ movesSize → length (startsOf moves) ≡ mostStates
 unfolding startsOf
-starts-long moves long = length-take-le 16384 moves (omega arith)
+starts-long moves long = length-take-le mostStates moves (omega arith)
 
 pub ends-long : (moves : List ℕ) → length moves ≡ movesSize → length (endsOf moves) ≡ mostStates
 unfolding endsOf
-ends-long moves long = length-take-le 16384 (drop 16384 moves) (omega (arith, length-drop 16384 moves))
+ends-long moves long = length-take-le mostStates (drop mostStates moves) (omega (arith, length-drop mostStates moves))
 
 pub cells-long : (moves : List ℕ) → length moves ≡ movesSize → length (cellsOf moves) ≡ mostCells
 unfolding cellsOf
-cells-long moves long = length-take-le 16384 (drop 32768 moves) (omega (arith, length-drop 32768 moves))
+cells-long moves long = length-take-le mostCells (drop cellsFrom moves) (omega (arith, length-drop cellsFrom moves))
 
 pub links-long : (moves : List ℕ) → length moves ≡ movesSize → length (linksOf moves) ≡ mostStates
 unfolding linksOf
-links-long moves long = omega (arith, length-drop 49152 moves)
+links-long moves long = omega (arith, length-drop linksFrom moves)
 
 pub start-read : (moves : List ℕ) (i : ℕ) → i < mostStates → getD moves i 0 ≡ startAt moves i
 unfolding startsOf
-start-read moves i h = sym (getD-take 16384 moves i 0 h)
+start-read moves i h = sym (getD-take mostStates moves i 0 h)
 
-pub end-read : (moves : List ℕ) (i : ℕ) → i < mostStates → getD moves (16384 + i) 0 ≡ endAt moves i
+pub end-read : (moves : List ℕ) (i : ℕ) → i < mostStates → getD moves (mostStates + i) 0 ≡ endAt moves i
 unfolding endsOf
-end-read moves i h = sym (getD-take 16384 (drop 16384 moves) i 0 h ∙ getD-drop 16384 moves i 0)
+end-read moves i h = sym (getD-take mostStates (drop mostStates moves) i 0 h ∙ getD-drop mostStates moves i 0)
 
-pub cell-read : (moves : List ℕ) (e : ℕ) → e < mostCells → getD moves (32768 + e) 0 ≡ cellAt moves e
+pub cell-read : (moves : List ℕ) (e : ℕ) → e < mostCells → getD moves (cellsFrom + e) 0 ≡ cellAt moves e
 unfolding cellsOf
-cell-read moves e h = sym (getD-take 16384 (drop 32768 moves) e 0 h ∙ getD-drop 32768 moves e 0)
+cell-read moves e h = sym (getD-take mostCells (drop cellsFrom moves) e 0 h ∙ getD-drop cellsFrom moves e 0)
 
-pub link-read : (moves : List ℕ) (i : ℕ) → getD moves (49152 + i) 0 ≡ linkAt moves i
+pub link-read : (moves : List ℕ) (i : ℕ) → getD moves (linksFrom + i) 0 ≡ linkAt moves i
 unfolding linksOf
-link-read moves i = sym (getD-drop 49152 moves i 0)
+link-read moves i = sym (getD-drop linksFrom moves i 0)
 
 -- ---- one number is written
 
 -- into the starts,
 starts-set : (moves : List ℕ) (i v : ℕ) → i < mostStates → startsOf (set moves i v) ≡ set (startsOf moves) i v
 unfolding startsOf
-starts-set moves i v h = take-set-lt 16384 moves i v h
+starts-set moves i v h = take-set-lt mostStates moves i v h
 
 ends-kept : (moves : List ℕ) (i v : ℕ) → i < mostStates → endsOf (set moves i v) ≡ endsOf moves
 unfolding endsOf
-ends-kept moves i v h = ap (λ (l : List ℕ). take 16384 l) (drop-set-lt 16384 moves i v h)
+ends-kept moves i v h = ap (λ (l : List ℕ). take mostStates l) (drop-set-lt mostStates moves i v h)
 
 -- into the ends,
-ends-set : (moves : List ℕ) (i v : ℕ) → i < mostStates → endsOf (set moves (16384 + i) v) ≡ set (endsOf moves) i v
+ends-set : (moves : List ℕ) (i v : ℕ) → i < mostStates → endsOf (set moves (mostStates + i) v) ≡ set (endsOf moves) i v
 unfolding endsOf
 ends-set moves i v h =
-    ap (λ (l : List ℕ). take 16384 l) (drop-set-add 16384 moves i v) ∙ take-set-lt 16384 (drop 16384 moves) i v h
+    ap (λ (l : List ℕ). take mostStates l) (drop-set-add mostStates moves i v) ∙ take-set-lt mostStates (drop mostStates moves) i v h
 
 -- before the cells,
-cells-kept : (moves : List ℕ) (i v : ℕ) → i < 32768 → cellsOf (set moves i v) ≡ cellsOf moves
+cells-kept : (moves : List ℕ) (i v : ℕ) → i < cellsFrom → cellsOf (set moves i v) ≡ cellsOf moves
 unfolding cellsOf
-cells-kept moves i v h = ap (λ (l : List ℕ). take 16384 l) (drop-set-lt 32768 moves i v h)
+cells-kept moves i v h = ap (λ (l : List ℕ). take mostCells l) (drop-set-lt cellsFrom moves i v h)
 
-links-kept : (moves : List ℕ) (i v : ℕ) → i < 49152 → linksOf (set moves i v) ≡ linksOf moves
+links-kept : (moves : List ℕ) (i v : ℕ) → i < linksFrom → linksOf (set moves i v) ≡ linksOf moves
 unfolding linksOf
-links-kept moves i v h = drop-set-lt 49152 moves i v h
+links-kept moves i v h = drop-set-lt linksFrom moves i v h
 
 -- behind the starts,
-starts-kept : (moves : List ℕ) (i v : ℕ) → 16384 ≤ i → startsOf (set moves i v) ≡ startsOf moves
+starts-kept : (moves : List ℕ) (i v : ℕ) → mostStates ≤ i → startsOf (set moves i v) ≡ startsOf moves
 unfolding startsOf
-starts-kept moves i v h = take-set-le 16384 moves i v h
+starts-kept moves i v h = take-set-le mostStates moves i v h
 
 -- into the cells,
-cells-set : (moves : List ℕ) (e v : ℕ) → e < mostCells → cellsOf (set moves (32768 + e) v) ≡ set (cellsOf moves) e v
+cells-set : (moves : List ℕ) (e v : ℕ) → e < mostCells → cellsOf (set moves (cellsFrom + e) v) ≡ set (cellsOf moves) e v
 unfolding cellsOf
-cells-set moves e v h = ap (λ (l : List ℕ). take 16384 l) (drop-set-add 32768 moves e v) ∙ take-set-lt 16384 (drop 32768 moves) e v h
+cells-set moves e v h = ap (λ (l : List ℕ). take mostCells l) (drop-set-add cellsFrom moves e v) ∙ take-set-lt mostCells (drop cellsFrom moves) e v h
 
-ends-under : (moves : List ℕ) (e v : ℕ) → endsOf (set moves (32768 + e) v) ≡ endsOf moves
+ends-under : (moves : List ℕ) (e v : ℕ) → endsOf (set moves (cellsFrom + e) v) ≡ endsOf moves
 unfolding endsOf
 ends-under moves e v =
-    let a : 32768 + e ≡ 16384 + (16384 + e) = omega arith in
-    ap (λ (k : ℕ). take 16384 (drop 16384 (set moves k v))) a
-    ∙ ap (λ (l : List ℕ). take 16384 l) (drop-set-add 16384 moves (16384 + e) v)
-    ∙ take-set-le 16384 (drop 16384 moves) (16384 + e) v (omega arith)
+    let a : cellsFrom + e ≡ mostStates + (mostStates + e) = omega arith in
+    ap (λ (k : ℕ). take mostStates (drop mostStates (set moves k v))) a
+    ∙ ap (λ (l : List ℕ). take mostStates l) (drop-set-add mostStates moves (mostStates + e) v)
+    ∙ take-set-le mostStates (drop mostStates moves) (mostStates + e) v (omega arith)
 
 -- or into the links.
-links-set : (moves : List ℕ) (i v : ℕ) → linksOf (set moves (49152 + i) v) ≡ set (linksOf moves) i v
+links-set : (moves : List ℕ) (i v : ℕ) → linksOf (set moves (linksFrom + i) v) ≡ set (linksOf moves) i v
 unfolding linksOf
-links-set moves i v = drop-set-add 49152 moves i v
+links-set moves i v = drop-set-add linksFrom moves i v
 
-cells-under : (moves : List ℕ) (i v : ℕ) → cellsOf (set moves (49152 + i) v) ≡ cellsOf moves
+cells-under : (moves : List ℕ) (i v : ℕ) → cellsOf (set moves (linksFrom + i) v) ≡ cellsOf moves
 unfolding cellsOf
 cells-under moves i v =
-    let a : 49152 + i ≡ 32768 + (16384 + i) = omega arith in
-    ap (λ (k : ℕ). take 16384 (drop 32768 (set moves k v))) a
-    ∙ ap (λ (l : List ℕ). take 16384 l) (drop-set-add 32768 moves (16384 + i) v)
-    ∙ take-set-le 16384 (drop 32768 moves) (16384 + i) v (omega arith)
+    let a : linksFrom + i ≡ cellsFrom + (mostStates + i) = omega arith in
+    ap (λ (k : ℕ). take mostCells (drop cellsFrom (set moves k v))) a
+    ∙ ap (λ (l : List ℕ). take mostCells l) (drop-set-add cellsFrom moves (mostStates + i) v)
+    ∙ take-set-le mostCells (drop cellsFrom moves) (mostStates + i) v (omega arith)
 
-ends-over : (moves : List ℕ) (i v : ℕ) → endsOf (set moves (49152 + i) v) ≡ endsOf moves
+ends-over : (moves : List ℕ) (i v : ℕ) → endsOf (set moves (linksFrom + i) v) ≡ endsOf moves
 ends-over moves i v =
-    let a : 49152 + i ≡ 32768 + (16384 + i) = omega arith in
-    ap (λ (k : ℕ). endsOf (set moves k v)) a ∙ ends-under moves (16384 + i) v
+    let a : linksFrom + i ≡ cellsFrom + (mostStates + i) = omega arith in
+    ap (λ (k : ℕ). endsOf (set moves k v)) a ∙ ends-under moves (mostStates + i) v
 
 -- A link is written.
-pub link-set : (moves : List ℕ) (i k : ℕ) → LinkSet i k moves (set moves (49152 + i) k)
+pub link-set : (moves : List ℕ) (i k : ℕ) → LinkSet i k moves (set moves (linksFrom + i) k)
 link-set moves i k = record {
   rest = record {
-    starts = starts-kept moves (49152 + i) k (omega arith);
+    starts = starts-kept moves (linksFrom + i) k (omega arith);
     ends = ends-over moves i k;
     cells = cells-under moves i k;
-    long = length-set moves (49152 + i) k;
+    long = length-set moves (linksFrom + i) k;
   };
   links = links-set moves i k;
 }
@@ -172,13 +174,13 @@ pub links-none : {moves : List ℕ} → LinksOnly moves moves
 links-none = record { starts = refl; ends = refl; cells = refl; long = refl }
 
 -- A start and an end are written.
-pub row-set : (moves : List ℕ) (i start end : ℕ) → i < mostStates → RowSet i start end moves (set (set moves i start) (16384 + i) end)
+pub row-set : (moves : List ℕ) (i start end : ℕ) → i < mostStates → RowSet i start end moves (set (set moves i start) (mostStates + i) end)
 row-set moves i start end h = record {
-  starts = starts-kept (set moves i start) (16384 + i) end (omega arith) ∙ starts-set moves i start h;
+  starts = starts-kept (set moves i start) (mostStates + i) end (omega arith) ∙ starts-set moves i start h;
   ends = ends-set (set moves i start) i end h ∙ ap (λ (l : List ℕ). set l i end) (ends-kept moves i start h);
-  cells = cells-kept (set moves i start) (16384 + i) end (omega arith) ∙ cells-kept moves i start (omega arith);
-  links = links-kept (set moves i start) (16384 + i) end (omega arith) ∙ links-kept moves i start (omega arith);
-  long = length-set (set moves i start) (16384 + i) end ∙ length-set moves i start;
+  cells = cells-kept (set moves i start) (mostStates + i) end (omega arith) ∙ cells-kept moves i start (omega arith);
+  links = links-kept (set moves i start) (mostStates + i) end (omega arith) ∙ links-kept moves i start (omega arith);
+  long = length-set (set moves i start) (mostStates + i) end ∙ length-set moves i start;
 }
 
 -- The same, where the numbers are known by equations.
@@ -189,19 +191,19 @@ place-set-as i start end k first last old new p q w =
 
 -- A cell and an end are written.
 pub appended : (moves : List ℕ) (i j e : ℕ) → i < mostStates → endAt moves i < mostCells → e ≡ endAt moves i
-    → Appended i j moves (set (set moves (32768 + e) j) (16384 + i) (e + 1))
+    → Appended i j moves (set (set moves (cellsFrom + e) j) (mostStates + i) (e + 1))
 appended moves i j e h room q =
-    subst (λ (x : ℕ). Appended i j moves (set (set moves (32768 + x) j) (16384 + i) (x + 1))) (sym q) (record {
-      starts = starts-kept (set moves to j) (16384 + i) (endAt moves i + 1) (omega arith) ∙ starts-kept moves to j (omega arith);
+    subst (λ (x : ℕ). Appended i j moves (set (set moves (cellsFrom + x) j) (mostStates + i) (x + 1))) (sym q) (record {
+      starts = starts-kept (set moves to j) (mostStates + i) (endAt moves i + 1) (omega arith) ∙ starts-kept moves to j (omega arith);
       ends =
           ends-set (set moves to j) i (endAt moves i + 1) h
           ∙ ap (λ (l : List ℕ). set l i (endAt moves i + 1)) (ends-under moves (endAt moves i) j);
-      cells = cells-kept (set moves to j) (16384 + i) (endAt moves i + 1) (omega arith) ∙ cells-set moves (endAt moves i) j room;
-      long = length-set (set moves to j) (16384 + i) (endAt moves i + 1) ∙ length-set moves to j;
+      cells = cells-kept (set moves to j) (mostStates + i) (endAt moves i + 1) (omega arith) ∙ cells-set moves (endAt moves i) j room;
+      long = length-set (set moves to j) (mostStates + i) (endAt moves i + 1) ∙ length-set moves to j;
     })
   where
     to : ℕ
-    to = 32768 + endAt moves i
+    to = cellsFrom + endAt moves i
 
 -- ---- a part is lent
 
@@ -214,43 +216,43 @@ lent-long moves part from to order within same =
 
 -- what the list is after its cells were lent and came back as new ones
 abbrev pub cellsBack : (moves cells : List ℕ) → List ℕ
-cellsBack moves cells = take 32768 moves ++ (cells ++ drop (49152 - 32768) (drop 32768 moves))
+cellsBack moves cells = take cellsFrom moves ++ (cells ++ drop (linksFrom - cellsFrom) (drop cellsFrom moves))
 
 module _ (moves cells : List ℕ) (long : length moves ≡ movesSize) (same : length cells ≡ mostCells) where
-  head : length (take 32768 moves) ≡ 32768
-  head = length-take-le 32768 moves (omega arith)
+  head : length (take cellsFrom moves) ≡ cellsFrom
+  head = length-take-le cellsFrom moves (omega arith)
 
-  rest : drop 32768 (cellsBack moves cells) ≡ cells ++ drop 16384 (drop 32768 moves)
-  rest = drop-at (take 32768 moves) _ 32768 head
+  rest : drop cellsFrom (cellsBack moves cells) ≡ cells ++ drop mostStates (drop cellsFrom moves)
+  rest = drop-at (take cellsFrom moves) _ cellsFrom head
 
   -- The new ones are its cells now,
   pub cells-back : cellsOf (cellsBack moves cells) ≡ cells
   unfolding cellsOf
   cells-back =
-      ap (λ (l : List ℕ). take 16384 l) rest ∙ take-append-le 16384 cells _ (omega (arith, same)) ∙ take-all 16384 cells (omega (arith, same))
+      ap (λ (l : List ℕ). take mostStates l) rest ∙ take-append-le mostStates cells _ (omega (arith, same)) ∙ take-all mostStates cells (omega (arith, same))
 
-  middle : drop 16384 (take 32768 moves) ≡ take 16384 (drop 16384 moves)
-  middle = ap (λ (l : List ℕ). drop 16384 l) (take-add 16384 16384 moves) ∙ drop-at (take 16384 moves) _ 16384 (length-take-le 16384 moves (omega arith))
+  middle : drop mostStates (take cellsFrom moves) ≡ take mostStates (drop mostStates moves)
+  middle = ap (λ (l : List ℕ). drop mostStates l) (take-add mostStates mostStates moves) ∙ drop-at (take mostStates moves) _ mostStates (length-take-le mostStates moves (omega arith))
 
   -- and nothing else has changed.
   pub cells-only : CellsOnly moves (cellsBack moves cells)
   unfolding startsOf endsOf cellsOf linksOf
   cells-only = record {
-    starts = take-append-le 16384 (take 32768 moves) _ (omega (arith, head)) ∙ take-take 16384 32768 moves (omega arith);
+    starts = take-append-le mostStates (take cellsFrom moves) _ (omega (arith, head)) ∙ take-take mostStates cellsFrom moves (omega arith);
     ends =
-        ap (λ (l : List ℕ). take 16384 l) (drop-append-le 16384 (take 32768 moves) _ (omega (arith, head)))
-        ∙ take-append-le 16384 (drop 16384 (take 32768 moves)) _ (omega (arith, head, length-drop 16384 (take 32768 moves)))
-        ∙ ap (λ (l : List ℕ). take 16384 l) middle ∙ take-take 16384 16384 (drop 16384 moves) (omega arith);
-    links = sym (drop-drop 16384 32768 (cellsBack moves cells)) ∙ ap (λ (l : List ℕ). drop 16384 l) rest
-        ∙ drop-at cells _ 16384 same ∙ drop-drop 16384 32768 moves;
-    long = lent-long moves cells 32768 49152 (omega arith) (omega (arith, long)) (omega (arith, same));
+        ap (λ (l : List ℕ). take mostStates l) (drop-append-le mostStates (take cellsFrom moves) _ (omega (arith, head)))
+        ∙ take-append-le mostStates (drop mostStates (take cellsFrom moves)) _ (omega (arith, head, length-drop mostStates (take cellsFrom moves)))
+        ∙ ap (λ (l : List ℕ). take mostStates l) middle ∙ take-take mostStates mostStates (drop mostStates moves) (omega arith);
+    links = sym (drop-drop mostStates cellsFrom (cellsBack moves cells)) ∙ ap (λ (l : List ℕ). drop mostStates l) rest
+        ∙ drop-at cells _ mostStates same ∙ drop-drop mostStates cellsFrom moves;
+    long = lent-long moves cells cellsFrom linksFrom (omega arith) (omega (arith, long)) (omega (arith, same));
   }
 
 -- The cells that are lent.
-pub cells-part : (moves : List ℕ) → take (49152 - 32768) (drop 32768 moves) ≡ cellsOf moves
+pub cells-part : (moves : List ℕ) → take (linksFrom - cellsFrom) (drop cellsFrom moves) ≡ cellsOf moves
 unfolding cellsOf
 cells-part moves = refl
 
 -- The ends, lent as room for counts, have a number for each place.
-pub ends-part : (moves : List ℕ) → length moves ≡ movesSize → length (take 16384 (drop 16384 moves)) ≡ mostStates
-ends-part moves long = length-take-le 16384 (drop 16384 moves) (omega (arith, length-drop 16384 moves))
+pub ends-part : (moves : List ℕ) → length moves ≡ movesSize → length (take mostStates (drop mostStates moves)) ≡ mostStates
+ends-part moves long = length-take-le mostStates (drop mostStates moves) (omega (arith, length-drop mostStates moves))

@@ -16,6 +16,13 @@ mostCells = 16384
 abbrev pub movesSize : ℕ
 movesSize = 65536
 
+-- where the cells stand from, and the links
+abbrev pub cellsFrom : ℕ
+cellsFrom = 32768
+
+abbrev pub linksFrom : ℕ
+linksFrom = 49152
+
 -- the link that leads nowhere
 abbrev pub noLink : ℕ
 noLink = 65535
@@ -28,10 +35,10 @@ unfoldable pub endsOf : List ℕ → List ℕ
 endsOf moves = take mostStates (drop mostStates moves)
 
 unfoldable pub cellsOf : List ℕ → List ℕ
-cellsOf moves = take mostCells (drop 32768 moves)
+cellsOf moves = take mostCells (drop cellsFrom moves)
 
 unfoldable pub linksOf : List ℕ → List ℕ
-linksOf moves = drop 49152 moves
+linksOf moves = drop linksFrom moves
 
 -- where place i's row starts, where it ends, the place that stands in cell e, and place i's link
 abbrev pub startAt : List ℕ → ℕ → ℕ

@@ -14,15 +14,21 @@ pub const MOST_CELLS: usize = 16384;
 // Where the ends stand from, the cells, and the links.
 pub const ENDS: usize = ground::MOST_STATES;
 
-pub const CELLS: usize = 32768;
+pub const CELLS: usize = ENDS + ground::MOST_STATES;
 
-pub const LINKS: usize = 49152;
+pub const LINKS: usize = CELLS + MOST_CELLS;
 
 // How long the slice is.
-pub const SIZE: usize = 65536;
+pub const SIZE: usize = LINKS + ground::MOST_STATES;
 
-// Below so many states storing their moves would cost more than it saves.
+// Up to so many states need next to no room.
+pub const TINY_STATES: usize = 32;
+
+// Up to so many states storing their moves would cost more than it saves.
 pub const FEW_STATES: usize = 512;
+
+// Up to so many states whose moves are not stored need room of a middle size.
+pub const SOME_STATES: usize = 2048;
 
 // The link that leads nowhere.
 pub const NONE: usize = 65535;

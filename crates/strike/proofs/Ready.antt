@@ -11,7 +11,7 @@ use Rattle.rules.specs.Book.{promisesOf}
 use Rattle.stored.specs.Moves.{Storable}
 use Rattle.stored.proofs.Rows.{storable}
 use Rattle.web.specs.Web.{StoredRows, none, both}
-use Rattle.signs.specs.Signs.{Signed}
+use Rattle.signs.specs.Signs.{headSize, Signed}
 use Rattle.rounds.specs.Phases.{Strikable}
 use Rattle.rounds.specs.Rows.{RoomForRows}
 use Rattle.rounds.proofs.Rows.{row-inside}
@@ -44,6 +44,10 @@ tests-strikable n A signed few small = record {
   roomed = rows-room n A few small;
   pointers = λ i h. getD-replicate (17 * n) i 0 0 (omega (arith, h, few));
 }
+
+-- An array of zeros has room for the signs' head: its length comes by the law, too.
+pub lent-signs : (n : ℕ) → headSize ≤ n → headSize ≤ length (replicate {A = ℕ} n 0)
+lent-signs n enough = subst (λ (x : ℕ). headSize ≤ x) (sym (length-replicate {A = ℕ} n 0)) enough
 
 -- ---- stored moves
 

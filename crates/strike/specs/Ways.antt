@@ -1,18 +1,10 @@
--- When little room is enough, and what the way along stored moves ensures where these may not be stored. Assumes nothing.
+-- What the way along stored moves ensures where these may not be stored. Assumes nothing.
 use mathlib.Core.Path.{_≡_}
 use mathlib.Core.List.{List}
 use Prim.Native.Nat.{ℕ}
 use Rattle.rounds.specs.Phases.{Stricken}
 use Rattle.strike.specs.declared.Struck.{Struck}
 use Rattle.strike.specs.declared.Struck.the-variants.{Left, NotStored}
-
--- up to so many states are struck with little room
-abbrev pub tinyStates : ℕ
-tinyStates = 32
-
--- up to so many states whose moves are not stored are struck with room of a middle size
-abbrev pub someStates : ℕ
-someStates = 2048
 
 -- what striking along stored moves ensures: the same; or the moves were not stored, and the words are still 0
 abbrev pub StrickenIfStored : (book table : List ℕ) (r : ℕ) (old words : List ℕ) → Struck → Type 0

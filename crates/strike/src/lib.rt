@@ -1,37 +1,31 @@
 // Striking: the words of the strike list's rounds and reasons, for every reachable state. Phase by phase, reason 0 and then each promise,
 // round after round, until as many phases as there are reasons have struck nothing. Where there are many states their moves are stored first,
-// forth and back, so that a phase follows them (crate rounds_along); else a phase tests pairs of places (crate rounds_tests). This crate lends the room.
+// forth and back, so that a phase follows them (crate rounds_along); else a phase tests pairs of places (crate rounds_tests). This crate lends the
+// room; the signs of few states are the caller's, who has more use for them.
 
 use ground::State;
 use rounds::REASONS;
-ghost use Prim.Native.Nat.{_<_, _≤_};
+ghost use Prim.Native.Nat.{_≤_};
 ghost use Rattle.ground.specs.Wiping.{Zeros};
-ghost use Rattle.stored.specs.Moves.{fewStates};
+ghost use Rattle.signs.specs.Signs.{Signed};
+ghost use Rattle.stored.specs.Moves.{tinyStates, fewStates, someStates};
 ghost use Rattle.rounds.specs.Phases.{Strikable, Stricken};
 ghost use Rattle.rounds_along.specs.Along.{AlongStored};
-ghost use Rattle.strike.specs.Ways.{tinyStates, someStates, StrickenIfStored};
-
-// Up to so many states little room is lent.
-const TINY_STATES: usize = 32;
-
-// Up to so many states whose moves are not stored need room of a middle size.
-const SOME_STATES: usize = 2048;
+ghost use Rattle.strike.specs.Ways.{StrickenIfStored};
 
 // Room for a row of each reason.
-const TINY_ROWS: usize = REASONS * TINY_STATES;
+const TINY_ROWS: usize = REASONS * stored::TINY_STATES;
 
 const FEW_ROWS: usize = REASONS * stored::FEW_STATES;
 
-const SOME_ROWS: usize = REASONS * SOME_STATES;
+const SOME_ROWS: usize = REASONS * stored::SOME_STATES;
 
 const MOST_ROWS: usize = REASONS * ground::MOST_STATES;
 
-// Room for the signs of tiny, few and some states: of 256 step rules for each state.
-const TINY_SIGNS: usize = signs::HEAD + TINY_STATES * 8;
-
+// Room for the signs of few and some states: of 256 step rules for each state.
 const FEW_SIGNS: usize = signs::HEAD + stored::FEW_STATES * 8;
 
-const SOME_SIGNS: usize = signs::HEAD + SOME_STATES * 8;
+const SOME_SIGNS: usize = signs::HEAD + stored::SOME_STATES * 8;
 
 // What striking along stored moves came to: how many states are left; or that there was no room for the moves.
 pub enum Struck {
@@ -39,22 +33,37 @@ pub enum Struck {
     NotStored,
 }
 
-// Strikes very few states, from words that are all 0, by tests of pairs.
-fn strike_tiny(book: &[State], table: &[State], words: &mut [u32], r: usize) -> usize
-    requires { ⌜ Strikable (now book) (now table) (now words) r × Zeros (now words) r × (r ≤ tinyStates) ⌝ }
+// Strikes very few states, from words that are all 0, by their signs.
+fn strike_tiny(book: &[State], table: &[State], words: &mut [u32], r: usize, signs: &[u64]) -> usize
+    requires { ⌜ Strikable (now book) (now table) (now words) r × Zeros (now words) r × Signed (now book) (now table) r (now signs)
+        × (r ≤ tinyStates) ⌝ }
     ensures { λ left. ⌜ Stricken (now (book .entry)) (now (table .entry)) r (now (words .entry)) (now (words .exit)) left ⌝ }
 {
-    let mut pairs = [0u64; TINY_SIGNS];
-    signs::fill(book, table, r, &mut pairs);
     let mut wit = [0u16; TINY_ROWS];
-    let mut log = [0u16; TINY_STATES];
-    let mut line = [0u16; TINY_STATES];
-    rounds_tests::rounds_by_tests(book, table, words, r, &pairs, &mut wit, &mut log, &mut line)
+    let mut log = [0u16; stored::TINY_STATES];
+    let mut line = [0u16; stored::TINY_STATES];
+    rounds_tests::rounds_by_tests(book, table, words, r, signs, &mut wit, &mut log, &mut line)
+}
+
+// Gives each of the table's first r states, which are all reachable states and very few, its word, as `strike` does, by the signs of these
+// states; how many are left.
+pub fn strike_signed(
+    book: &[State],
+    table: &[State],
+    words: &mut [u32],
+    r: usize,
+    signs: &[u64],
+) -> usize
+    requires { ⌜ Strikable (now book) (now table) (now words) r × Signed (now book) (now table) r (now signs) × (r ≤ tinyStates) ⌝ }
+    ensures { λ left. ⌜ Stricken (now (book .entry)) (now (table .entry)) r (now (words .entry)) (now (words .exit)) left ⌝ }
+{
+    ground::wipe_front(words, r);
+    strike_tiny(book, table, words, r, signs)
 }
 
 // Strikes few states, from words that are all 0, by tests of pairs.
 fn strike_few(book: &[State], table: &[State], words: &mut [u32], r: usize) -> usize
-    requires { ⌜ Strikable (now book) (now table) (now words) r × Zeros (now words) r × (r < fewStates) ⌝ }
+    requires { ⌜ Strikable (now book) (now table) (now words) r × Zeros (now words) r × (r ≤ fewStates) ⌝ }
     ensures { λ left. ⌜ Stricken (now (book .entry)) (now (table .entry)) r (now (words .entry)) (now (words .exit)) left ⌝ }
 {
     let mut pairs = [0u64; FEW_SIGNS];
@@ -73,8 +82,8 @@ fn strike_some(book: &[State], table: &[State], words: &mut [u32], r: usize) -> 
     let mut pairs = [0u64; SOME_SIGNS];
     signs::fill(book, table, r, &mut pairs);
     let mut wit = [0u16; SOME_ROWS];
-    let mut log = [0u16; SOME_STATES];
-    let mut line = [0u16; SOME_STATES];
+    let mut log = [0u16; stored::SOME_STATES];
+    let mut line = [0u16; stored::SOME_STATES];
     rounds_tests::rounds_by_tests(book, table, words, r, &pairs, &mut wit, &mut log, &mut line)
 }
 
@@ -96,7 +105,7 @@ fn strike_by_tests(book: &[State], table: &[State], words: &mut [u32], r: usize)
     requires { ⌜ Strikable (now book) (now table) (now words) r × Zeros (now words) r ⌝ }
     ensures { λ left. ⌜ Stricken (now (book .entry)) (now (table .entry)) r (now (words .entry)) (now (words .exit)) left ⌝ }
 {
-    if r <= SOME_STATES {
+    if r <= stored::SOME_STATES {
         return strike_some(book, table, words, r);
     }
     strike_most(book, table, words, r)
@@ -169,10 +178,7 @@ pub fn strike(book: &[State], table: &[State], words: &mut [u32], r: usize) -> u
     ensures { λ left. ⌜ Stricken (now (book .entry)) (now (table .entry)) r (now (words .entry)) (now (words .exit)) left ⌝ }
 {
     ground::wipe_front(words, r);
-    if r <= TINY_STATES {
-        return strike_tiny(book, table, words, r);
-    }
-    if r < stored::FEW_STATES {
+    if r <= stored::FEW_STATES {
         return strike_few(book, table, words, r);
     }
     strike_many(book, table, words, r)

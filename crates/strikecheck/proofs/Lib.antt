@@ -1,3 +1,3 @@
-pub mod Entries
+pub mod Conditions
 pub mod Answers
 pub mod Exactly

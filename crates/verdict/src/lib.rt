@@ -1,15 +1,16 @@
 // The judge over a sheet's book: lists the reachable states (answer 11 where there is no room for them), strikes those that nobody could keep,
-// and hands over the strike list (answer 13) or what `keeping` finds.
+// and hands over the strike list (answer 13) or what `keeping` finds. Where few states can be reached `few` does it.
 use ending::Judgement;
 use ending::leave;
 use ending::refusal;
 use ending::room;
-use ending::write_strikes;
 use ground::State;
 use keeping::judge_kept;
+use tiny::judge_struck;
+use tiny::judge_tiny;
 ghost use Rattle.rules.specs.Book.{Shaped, bookSystem};
 ghost use Rattle.ending.specs.Judging.{lentOf, outcomeOf, JudgedBy};
-ghost use Rattle.verdict.specs.Reached.{Reached};
+ghost use Rattle.tiny.specs.Reached.{Reached};
 
 // With the r reachable states listed in the table.
 fn judge_reached(
@@ -25,17 +26,12 @@ fn judge_reached(
         (lentOf (now (table .entry)) (now (words .entry)) (now (scratch .entry)) (now (run .entry)))
         (outcomeOf j (lentOf (now (table .exit)) (now (words .exit)) (now (scratch .exit)) (now (run .exit)))) ⌝ }
 {
+    if r <= stored::TINY_STATES {
+        return judge_tiny(book, table, words, scratch, run, r);
+    }
     let left = strike::strike(book, table, words, r);
     if left == 0 {
-        write_strikes(table, words, scratch, r);
-        let reached = r as u32;
-        return Judgement {
-            answer: 13,
-            count: reached,
-            a: 0,
-            b: 0,
-            place: 0,
-        };
+        return judge_struck(table, words, scratch, r);
     }
     let k = arrange::keep(table, words, r);
     judge_kept(book, table, words, scratch, run, k)

@@ -1,3 +1,4 @@
+pub mod Dividing
 pub mod Ranking
 pub mod Sifting
 pub mod Testing

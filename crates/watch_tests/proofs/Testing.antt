@@ -9,15 +9,17 @@ use native.Mathlib.Omega.{arith}
 use lib.ListN.{length, getD, set}
 use Rattle.ground.specs.Says.{Says}
 use Rattle.meaning.specs.Promises.{mostStates}
+use Rattle.rules.specs.Table.{To}
 use Rattle.signs.specs.Signs.{Signed}
 use Rattle.distances_start.specs.Far.{far}
 use Rattle.witness.specs.Witness.{Rested, Hangs, Hangable}
-use Rattle.witness.specs.Turns.{IsSo, Helps, HelperIn, someone, no-one, Turnable, Redirected, Loosened, Line, Before, first, again}
-use Rattle.watch_tests.specs.Tests.{Anywhere, Gathered, Copied, Parted, Spreading, Testable, HelpsIt, JoinsIt}
+use Rattle.witness.specs.Turns.{IsSo, Helps, HelperIn, someone, no-one, Turnable, Redirected, Loosened, Line, Before, first}
+use Rattle.watch_tests.specs.Tests.{Anywhere, Fronted, Copied, Spreading, Testable, HelpsIt, JoinsIt, WatchingByTests}
 use Rattle.witness.proofs.Beginning.{no-both}
 use Rattle.witness.proofs.Turning.{redirects-same, redirected-by, turned-none, place-past, place-room, place-more}
-use Rattle.witness.proofs.Phasing.{before-log}
-use Rattle.watch_tests.proofs.Ranking.{parted-ranked, parted-pending}
+use Rattle.witness.proofs.Phasing.{before-fresh, before-log, lost-hangable}
+use Rattle.watch_tests.proofs.Ranking.{copied-ranked, fronted-pending}
+use Rattle.watch_tests.proofs.Sifting.{testable-same}
 
 -- ---- tests of pairs
 
@@ -106,42 +108,15 @@ rested-anywhere R = record {
   noted = R .noted;
 }
 
-pub before-anywhere : {words row log : List ℕ} {M : ℕ → ℕ → Type 0} {from m : ℕ} → Before words row M log from m → Before words row Anywhere log from m
-before-anywhere (first h F) = first h F
-before-anywhere (again R) = again (rested-anywhere R)
-
 -- Who may hang anew hangs, as far as it has a witness.
 pub hangable-hangs : {words row log : List ℕ} {M : ℕ → ℕ → Type 0} {m tail : ℕ} → Hangable words row M log m tail → Hangs words row row M
 hangable-hangs H = record { long = refl; pointed = H .pointed; hung = H .hung; own = λ i h. (λ e. e, λ e. e); only = λ i h e. e }
 
--- All unstruck places, those with a witness in front, may be spread from.
-module _ {book table words row signs line line′ : List ℕ} {k : ℕ} (T : Testable book table words row signs line (length row))
-    (G : Gathered words (length row) line line′ k) where
-  pub all-part : (k ≤ length line′) × (length line′ ≤ mostStates) × ((s : ℕ) → s < k → getD line′ s 0 < length row) × (length row ≤ mostStates)
-  all-part =
-      let a = G .room in
-      let b = T .room in
-      let c = G .long in
-      let d = T .line-few in
-      (omega arith, omega arith, λ s h. G .places s h .0, T .signed .states .few)
-
-  module _ {line″ : List ℕ} {n : ℕ} (P : Parted row line′ line″ n k) where
-    pub all-testable : Testable book table words row signs line″ k
-    all-testable = record {
-      signed = T .signed;
-      in-words = T .in-words;
-      room = let a = G .room in let b = T .room in let c = G .long in let d = P .long in omega arith;
-      line-few = let c = G .long in let d = P .long in let e = T .line-few in omega arith;
-    }
-
-    pub all-spreading : {M : ℕ → ℕ → Type 0} → Hangs words row row M → Spreading words row row M line″ 0 n k
-    all-spreading {M = M} H = record { hangs = H; ranked = parted-ranked G P; pending = parted-pending G P M }
-
--- The places cut off may be asked.
-module _ {book table words row signs line line′ log : List ℕ} {m tail k : ℕ} (T : Testable book table words row signs line (length row))
-    (within : tail ≤ length row) (C : Copied log m tail line line′ k) where
-  pub lost-testable : Testable book table words row signs line′ k
-  lost-testable = record {
+-- Behind the front the line has room for all who stand alone, so that it may be spread from there.
+module _ {book table words row signs line line′ log : List ℕ} {m tail n k : ℕ} (T : Testable book table words row signs line (length row))
+    (within : n + tail ≤ m + length row) (C : Copied log m tail line line′ n k) where
+  pub copied-testable : Testable book table words row signs line′ k
+  copied-testable = record {
     signed = T .signed;
     in-words = T .in-words;
     room = let a = C .count in let b = C .long in let c = T .room in omega arith;
@@ -158,3 +133,42 @@ cut-testable {book = book} {table = table} {signs = signs} B L S K = record {
   room = let a = K .in-line in let b = L .long in omega arith;
   line-few = K .line-few;
 }
+
+-- ---- the first phase
+
+-- A row before its promise's first phase, wherever `from` is.
+pub watching-first : {book table words row signs log line : List ℕ} {m from word : ℕ} → m < from
+    → WatchingByTests book table words row signs log line m from word → WatchingByTests book table words row signs log line m (m + 1) word
+watching-first h W = record {
+  some = W .some;
+  signed = W .signed;
+  line-is = W .line-is;
+  log-few = W .log-few;
+  before = first (omega arith) (before-fresh h (W .before));
+}
+
+module _ {book table words row signs log log′ old line : List ℕ} {m from word tail n : ℕ} (W : WatchingByTests book table words row signs log old m from word)
+    (L : Loosened words row row log log′ m tail) (F : Fronted words row (length row) old line n) (within : n + tail ≤ m + length row) where
+  -- Who stands alone may be copied behind those that have a witness.
+  pub first-copy : (m ≤ tail) × (tail ≤ length log′) × (n + tail ≤ m + length line) × (length log′ ≤ mostStates) × (length line ≤ mostStates)
+  first-copy =
+      let a = before-log (W .before) .in-log in
+      let b = L .log-long in
+      let c = F .long in
+      let d = W .line-is .in-line in
+      let e = W .log-few in
+      let f = W .line-is .line-few in
+      let g = L .within in
+      (L .grows, omega arith, omega arith, omega arith, omega arith)
+
+  -- Then the line may be spread from.
+  module _ {line′ : List ℕ} {k : ℕ} (C : Copied log′ m tail line line′ n k) where
+    pub first-testable : Testable book table words row signs line′ k
+    first-testable = copied-testable (testable-same (cut-testable (W .before) L (W .signed) (W .line-is)) refl (F .long)) within C
+
+    pub first-spreading : Spreading words row row (To book table) line′ 0 n k
+    first-spreading = let H = lost-hangable (W .before) L in record {
+      hangs = hangable-hangs H;
+      ranked = copied-ranked H (F .places) C;
+      pending = fronted-pending (To book table) F C;
+    }

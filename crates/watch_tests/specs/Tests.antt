@@ -51,27 +51,20 @@ pub record Brought (before line : List ℕ) (n g : ℕ) : Type 0 where
   pub there : getD line g 0 ≡ getD before n 0
   pub other : (s : ℕ) → (s ≡ n → ⊥) → (s ≡ g → ⊥) → getD line s 0 ≡ getD before s 0
 
--- the line's first k are the unstruck places
-pub record Gathered (words : List ℕ) (r : ℕ) (before line : List ℕ) (k : ℕ) : Type 0 where
+-- the line's first k are those of the first i places that are unstruck and have a witness
+pub record Fronted (words row : List ℕ) (i : ℕ) (before line : List ℕ) (k : ℕ) : Type 0 where
   pub long : length line ≡ length before
-  pub room : k ≤ r
-  pub places : (s : ℕ) → s < k → (getD line s 0 < r) × (getD words (getD line s 0) 0 ≡ 0)
-  pub whole : (i : ℕ) → i < r → getD words i 0 ≡ 0 → Between line 0 k i
+  pub room : k ≤ i
+  pub places : (s : ℕ) → s < k → (getD line s 0 < i) × (getD words (getD line s 0) 0 ≡ 0) × (getD row (getD line s 0) 0 ≡ far → ⊥)
+  pub whole : (j : ℕ) → j < i → getD words j 0 ≡ 0 → (getD row j 0 ≡ far → ⊥) → Between line 0 k j
 
--- the line's first k are the log's places from m up to `tail`
-pub record Copied (log : List ℕ) (m tail : ℕ) (before line : List ℕ) (k : ℕ) : Type 0 where
+-- behind the line's first n, up to k, are the log's places from m up to `tail`
+pub record Copied (log : List ℕ) (m tail : ℕ) (before line : List ℕ) (n k : ℕ) : Type 0 where
   pub long : length line ≡ length before
-  pub count : m + k ≡ tail
-  pub same : (s : ℕ) → s < k → getD line s 0 ≡ getD log (m + s) 0
-
--- the line's first k are put in another order: the first n have a witness, and the others have none
-pub record Parted (row before line : List ℕ) (n k : ℕ) : Type 0 where
-  pub long : length line ≡ length before
-  pub ordered : n ≤ k
-  pub places : (s : ℕ) → s < k → Between before 0 k (getD line s 0)
-  pub whole : (i : ℕ) → Between before 0 k i → Between line 0 k i
-  pub helped : (s : ℕ) → s < n → getD row (getD line s 0) 0 ≡ far → ⊥
-  pub alone : (s : ℕ) → n ≤ s → s < k → getD row (getD line s 0) 0 ≡ far
+  pub kept : (s : ℕ) → s < n → getD line s 0 ≡ getD before s 0
+  pub grows : n ≤ k
+  pub count : n + tail ≡ m + k
+  pub same : (s : ℕ) → n + s < k → getD line (n + s) 0 ≡ getD log (m + s) 0
 
 -- the line's first n have a witness, and who stands alone stands behind them, up to k
 pub record Ranked (words row line : List ℕ) (n k : ℕ) : Type 0 where

@@ -5,27 +5,27 @@ use witness::NOBODY;
 use witness::fall;
 use witness::is_helped;
 use witness::is_so;
-use witness::list_alone;
 ghost use mathlib.Core.Path.{_≡_};
 ghost use mathlib.Core.Bool.{true};
 ghost use mathlib.Core.List.{List};
-ghost use Prim.Native.Nat.{ℕ, _<_, _≤_};
+ghost use Prim.Native.Nat.{ℕ, _+_, _<_, _≤_};
 ghost use lib.ListN.{length, getD};
 ghost use Rattle.meaning.specs.Promises.{mostStates};
 ghost use Rattle.rules.specs.Table.{To};
 ghost use Rattle.signs.specs.Signs.{Roomed, Signed};
-ghost use Rattle.witness.specs.Witness.{Rested, Hangs, Hangable, Rehung};
-ghost use Rattle.witness.specs.Turns.{Turnable, Redirected, Loosened, HelperIn, HelperFor, Before, Watched};
-ghost use Rattle.watch_tests.specs.Tests.{Anywhere, IsCut, Cuttable, CutBelow, Brought, Gathered, Copied, Parted, Ranked, Shut, Seen, Noted};
+ghost use Rattle.witness.specs.Witness.{Fresh, Rested, Hangs, Hangable, Rehung};
+ghost use Rattle.witness.specs.Turns.{Turnable, Redirected, Loosened, HelperIn, HelperFor, Line, Watched};
+ghost use Rattle.watch_tests.specs.Tests.{Anywhere, IsCut, Cuttable, CutBelow, Brought, Fronted, Copied, Ranked, Shut, Seen, Noted};
 ghost use Rattle.watch_tests.specs.Tests.{Spreading, Testable, HelpsIt, JoinsIt, WatchingByTests};
-
-// How many slots there are for places that were spread from; and how many places that stand alone are too few for looking there.
-pub const SLOTS: usize = 2048;
-
-pub const FEW: usize = 32;
 
 // Who hangs on so many places or more is looked for in one pass over all places, who hangs on fewer in a pass for each.
 const MANY: usize = 4;
+
+// How many places of the line have a witness, and where the log then ends.
+struct Divided {
+    helped: usize,
+    tail: usize,
+}
 
 // Gives `to` to the unstruck places whose number is `was`, and puts them into the line behind its first n; how long the line then is.
 fn turn(words: &[u32], row: &mut [u16], was: u16, to: u16, line: &mut [u16], n: usize) -> usize
@@ -107,17 +107,6 @@ fn loosen(words: &[u32], row: &mut [u16], log: &mut [u16], from: usize, m: usize
     tail
 }
 
-// The places that need a witness, behind the log's first m: before the first phase, when `from` is above m, all without one; else those cut off.
-fn lost(words: &[u32], row: &mut [u16], log: &mut [u16], from: usize, m: usize) -> usize
-    requires { ⌜ Before (now words) (now row) Anywhere (now log) from m × (length (now log) ≤ mostStates) ⌝ }
-    ensures { λ tail. ⌜ Loosened (now (words .entry)) (now (row .entry)) (now (row .exit)) (now (log .entry)) (now (log .exit)) m tail ⌝ }
-{
-    if m < from {
-        return list_alone(words, row, log, m);
-    }
-    loosen(words, row, log, from, m)
-}
-
 // Lets the line's places n and g change their numbers.
 fn bring(line: &mut [u16], n: usize, g: usize)
     requires { ⌜ (n < length (now line)) × (g < length (now line)) × (length (now line) ≤ mostStates) ⌝ }
@@ -128,52 +117,42 @@ fn bring(line: &mut [u16], n: usize, g: usize)
     line[n] = x;
 }
 
-// Puts the unstruck ones of the first r places into the line; how many those are.
-fn gather(words: &[u32], r: usize, line: &mut [u16]) -> usize
-    requires { ⌜ (r ≤ length (now words)) × (r ≤ length (now line)) × (r ≤ mostStates) ⌝ }
-    ensures { λ k. ⌜ Gathered (now (words .entry)) r (now (line .entry)) (now (line .exit)) k ⌝ }
+// Before the promise's first phase: the unstruck places that have a witness stand in the line's front, those that nobody helps in the log behind its
+// first m.
+fn divide(words: &[u32], row: &[u16], log: &mut [u16], m: usize, line: &mut [u16]) -> Divided
+    requires { ⌜ Fresh (now words) (now row) (now log) m × (length (now log) ≤ mostStates) × Line (now row) (now line) ⌝ }
+    ensures { λ d. ⌜ Loosened (now (words .entry)) (now (row .entry)) (now (row .entry)) (now (log .entry)) (now (log .exit)) m (d .tail)
+        × Fronted (now (words .entry)) (now (row .entry)) (length (now (row .entry))) (now (line .entry)) (now (line .exit)) (d .helped)
+        × (d .helped + d .tail ≤ m + length (now (row .entry))) ⌝ }
 {
-    let mut k: usize = 0;
+    let mut helped: usize = 0;
+    let mut tail = m;
     let mut i: usize = 0;
-    while i < r {
+    while i < row.len() {
         if words[i] == 0 {
-            line[k] = i as u16;
-            k += 1;
-            i += 1;
+            if row[i] == NOBODY {
+                log[tail] = i as u16;
+                tail += 1;
+                i += 1;
+            } else {
+                line[helped] = i as u16;
+                helped += 1;
+                i += 1;
+            }
         } else {
             i += 1;
         }
     }
-    k
+    Divided { helped, tail }
 }
 
-// Brings those of the line's first k places that have a witness to its front; how many those are.
-fn part(row: &[u16], line: &mut [u16], k: usize) -> usize
-    requires { ⌜ (k ≤ length (now line)) × (length (now line) ≤ mostStates) × ((s : ℕ) → s < k → getD (now line) s 0 < length (now row))
-        × (length (now row) ≤ mostStates) ⌝ }
-    ensures { λ n. ⌜ Parted (now (row .entry)) (now (line .entry)) (now (line .exit)) n k ⌝ }
+// Copies the log's places from m up to `tail` into the line behind its first n; how long the line then is.
+fn copy(log: &[u16], m: usize, tail: usize, line: &mut [u16], n: usize) -> usize
+    requires { ⌜ (m ≤ tail) × (tail ≤ length (now log)) × (n + tail ≤ m + length (now line)) × (length (now log) ≤ mostStates)
+        × (length (now line) ≤ mostStates) ⌝ }
+    ensures { λ k. ⌜ Copied (now (log .entry)) m tail (now (line .entry)) (now (line .exit)) n k ⌝ }
 {
-    let mut n: usize = 0;
-    let mut g: usize = 0;
-    while g < k {
-        let i = line[g] as usize;
-        if row[i] == NOBODY {
-            g += 1;
-        } else {
-            bring(line, n, g);
-            n += 1;
-            g += 1;
-        }
-    }
-    n
-}
-
-// Copies the log's places from m up to `tail` into the line; how many those are.
-fn copy(log: &[u16], m: usize, tail: usize, line: &mut [u16]) -> usize
-    requires { ⌜ (m ≤ tail) × (tail ≤ length (now log)) × (tail ≤ length (now line)) × (length (now log) ≤ mostStates) ⌝ }
-    ensures { λ k. ⌜ Copied (now (log .entry)) m tail (now (line .entry)) (now (line .exit)) k ⌝ }
-{
-    let mut k: usize = 0;
+    let mut k = n;
     let mut g = m;
     while g < tail {
         line[k] = log[g];
@@ -354,7 +333,7 @@ fn is_shut(
     ensures { λ b. ⌜ (b ≡ true → (words : List ℕ) → Seen words (now (row .entry)) (To (now (book .entry)) (now (table .entry))) (now (seen .entry))
         → Shut words (now (row .entry)) (To (now (book .entry)) (now (table .entry))) t) ⌝ }
 {
-    if left <= FEW {
+    if left <= signs::FEW_WAITING {
         return false;
     }
     let r = row.len();
@@ -369,12 +348,13 @@ fn is_shut(
     false
 }
 
-// Notes that place t was spread from: its slot has t plus one, and 0 says that none is noted. Not where few are left: then it is not asked, and they only get fewer.
+// Notes that place t was spread from: its slot has t plus one, and 0 says that none is noted. Not where few are left: then it is not asked, and they
+// only get fewer.
 fn note(signs: &[u64], r: usize, seen: &mut [u16], t: usize, left: usize)
     requires { ⌜ Roomed r (now signs) × (t < r) × (r ≤ mostStates) × (0 < length (now seen)) ⌝ }
     ensures { λ _. ⌜ Noted (now (seen .entry)) (now (seen .exit)) t ⌝ }
 {
-    if left <= FEW {
+    if left <= signs::FEW_WAITING {
         return;
     }
     let q = signs::slot(signs, r, t, seen.len());
@@ -437,33 +417,13 @@ fn spread(
         × (length (now (line .exit)) ≡ length (now (line .entry))) ⌝ }
 {
     let left = k - n;
-    if left <= FEW {
+    if left <= signs::FEW_WAITING {
         let mut slot = [0u16; 1];
         spread_noting(book, table, words, row, signs, line, n, k, &mut slot);
         return;
     }
-    let mut slots = [0u16; SLOTS];
+    let mut slots = [0u16; signs::SLOTS];
     spread_noting(book, table, words, row, signs, line, n, k, &mut slots);
-}
-
-// Gives places a witness, where there is one, from all places that have one: for the first phase, when nobody but those that keep the promise has.
-fn rehang_all(
-    book: &[State],
-    table: &[State],
-    words: &[u32],
-    row: &mut [u16],
-    signs: &[u64],
-    line: &mut [u16],
-)
-    requires { ⌜ Testable (now book) (now table) (now words) (now row) (now signs) (now line) (length (now row))
-        × Hangs (now words) (now row) (now row) (To (now book) (now table)) ⌝ }
-    ensures { λ _. ⌜ Rehung (now (words .entry)) (now (row .entry)) (now (row .exit)) (To (now (book .entry)) (now (table .entry)))
-        × (length (now (line .exit)) ≡ length (now (line .entry))) ⌝ }
-{
-    let r = row.len();
-    let k = gather(words, r, line);
-    let n = part(row, line, k);
-    spread(book, table, words, row, signs, line, n, k);
 }
 
 // Gives the places in the log from m up to `tail` a witness, where there is one.
@@ -483,37 +443,36 @@ fn rehang_lost(
     ensures { λ _. ⌜ Rehung (now (words .entry)) (now (row .entry)) (now (row .exit)) (To (now (book .entry)) (now (table .entry)))
         × (length (now (line .exit)) ≡ length (now (line .entry))) ⌝ }
 {
-    let k = copy(log, m, tail, line);
+    let k = copy(log, m, tail, line, 0);
     let n = ask(book, table, words, row, signs, line, k);
     spread(book, table, words, row, signs, line, n, k);
 }
 
-// The one or the other: before the first phase `from` is above m.
-fn rehang(
+// The promise's first phase: witnesses spread from all places that keep it.
+fn first_phase(
     book: &[State],
     table: &[State],
-    words: &[u32],
+    words: &mut [u32],
     row: &mut [u16],
     signs: &[u64],
-    log: &[u16],
+    log: &mut [u16],
     m: usize,
-    from: usize,
-    tail: usize,
     line: &mut [u16],
-)
-    requires { ⌜ Testable (now book) (now table) (now words) (now row) (now signs) (now line) (length (now row))
-        × Hangable (now words) (now row) (To (now book) (now table)) (now log) m tail × (tail ≤ length (now row)) × (length (now log) ≤ mostStates) ⌝ }
-    ensures { λ _. ⌜ Rehung (now (words .entry)) (now (row .entry)) (now (row .exit)) (To (now (book .entry)) (now (table .entry)))
+    word: u32,
+) -> usize
+    requires { ⌜ WatchingByTests (now book) (now table) (now words) (now row) (now signs) (now log) (now line) m (m + 1) word ⌝ }
+    ensures { λ end. ⌜ Watched (now (words .entry)) (now (words .exit)) (now (row .entry)) (now (row .exit))
+        (To (now (book .entry)) (now (table .entry))) (now (log .entry)) (now (log .exit)) m end word
         × (length (now (line .exit)) ≡ length (now (line .entry))) ⌝ }
 {
-    if m < from {
-        rehang_all(book, table, words, row, signs, line);
-        return;
-    }
-    rehang_lost(book, table, words, row, signs, log, m, tail, line);
+    let d = divide(words, row, log, m, line);
+    let k = copy(log, m, d.tail, line, d.helped);
+    spread(book, table, words, row, signs, line, d.helped, k);
+    fall(words, row, log, m, d.tail, word)
 }
 
-// One phase of a promise: strikes together the places from which no witnesses lead on to it; how long the log then is.
+// One phase of a promise: strikes together the places from which no witnesses lead on to it; how long the log then is. Before the first one, `from` is
+// above m.
 pub fn phase(
     book: &[State],
     table: &[State],
@@ -531,7 +490,10 @@ pub fn phase(
         (To (now (book .entry)) (now (table .entry))) (now (log .entry)) (now (log .exit)) m end word
         × (length (now (line .exit)) ≡ length (now (line .entry))) ⌝ }
 {
-    let tail = lost(words, row, log, from, m);
-    rehang(book, table, words, row, signs, log, m, from, tail, line);
+    if m < from {
+        return first_phase(book, table, words, row, signs, log, m, line, word);
+    }
+    let tail = loosen(words, row, log, from, m);
+    rehang_lost(book, table, words, row, signs, log, m, tail, line);
     fall(words, row, log, m, tail, word)
 }

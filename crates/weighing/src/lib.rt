@@ -1,7 +1,7 @@
 // The check of a proposal for a good sheet: the numbers are tested, the choice is tried whole and with each rule left out, and the slices are
 // cleared.
 use choice::RULES;
-use dispute::STEPS;
+use choice::STEPS;
 use dispute::clear;
 use ground::State;
 ghost use mathlib.Core.Path.{_≡_};

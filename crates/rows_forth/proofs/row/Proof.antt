@@ -3,7 +3,7 @@ use mathlib.Core.Path.{_∙_}
 use Prim.Native.Nat.{_≤_}
 use lib.ListN.{length}
 use Rattle.listing.proofs.Front.{front-long}
-use Rattle.rows_forth.proofs.Filling.{filled-over}
+use Rattle.rows_forth.proofs.Filling.{filled-over, cells-kept}
 use Rattle.rows_forth.proofs.Lookups.{storable-sorted, listing-sorted, listing-nexts}
 use native.Mathlib.Omega.{arith}
 use borrow.Author.Needs.{needs}
@@ -13,8 +13,11 @@ use Rattle.rows_forth.proofs.row.Tie as tie
 returns : tie.Need-returns
 returns c =
     let at-next-states = c .before .before .before in
-    let entry = at-next-states .before .before .before .before .before .before in
-    (filled-over _ _ _ _ (omega arith), front-long _ _ _ (at-next-states .next-states .ensures) ∙ entry .pre .2)
+    let entry = at-next-states .before .before .before .before .before .before in (
+      filled-over _ _ _ (entry .args .moves .now) (entry .pre .4) (omega arith),
+      cells-kept _,
+      front-long _ _ _ (at-next-states .next-states .ensures) ∙ entry .pre .2,
+    )
 
 -- All next states are listed.
 fits : (c : tie.Else1)
@@ -22,8 +25,8 @@ fits : (c : tie.Else1)
     ≤ length (c .before .before .before .before .before .before .before .before .before .args .room .now)
 fits c = omega (arith, c .if1 .left, front-long _ _ _ (c .before .before .before .next-states .ensures))
 
-look-up-requires : tie.Need-look-up-requires
-look-up-requires c κs =
+fill-requires : tie.Need-fill-requires
+fill-requires c κs =
     let at-if1 = c .before .before in
     let at-next-states = at-if1 .before .before .before in
     let entry = at-next-states .before .before .before .before .before .before in (
@@ -37,12 +40,13 @@ look-up-requires c κs =
 
 returns-2 : tie.Need-returns-2
 returns-2 c =
-    let at-look-up = c .before .before in
-    let at-if1 = at-look-up .before .before .before in
+    let at-fill = c .before .before in
+    let at-if1 = at-fill .before .before .before in
     let at-next-states = at-if1 .before .before .before in
     let entry = at-next-states .before .before .before .before .before .before in (
       listing-nexts (entry .args .book .now) (entry .args .s) _ _ _ (at-next-states .next-states .ensures)
-          (fits at-if1) (entry .args .table .now) _ _ (at-look-up .look-up .ensures),
+          (fits at-if1) (entry .args .table .now) _ _ (at-fill .fill .ensures .0),
+      at-fill .fill .ensures .1,
       front-long _ _ _ (at-next-states .next-states .ensures) ∙ entry .pre .2,
     )
 
@@ -54,7 +58,7 @@ row-spec =
     (λ c. search needs)
     (λ c. search needs)
     returns
-    look-up-requires
+    fill-requires
     (λ c. search needs)
     (λ c. search needs)
     returns-2)

@@ -40,7 +40,7 @@ turn c = c .before .before .before
 abbrev shared : tie.After-share-row Inv-loop μ-loop → tie.Then2 Inv-loop μ-loop
 shared c = c .before .before
 
-abbrev filled : tie.After-fill Inv-loop μ-loop → tie.After-same-moves Inv-loop μ-loop
+abbrev filled : tie.After-row Inv-loop μ-loop → tie.After-same-moves Inv-loop μ-loop
 filled c = c .before .before .before .before
 
 -- the place is one of the first r, and there are few
@@ -76,8 +76,8 @@ loop-again c =
       omega (arith, l .loop .inv .7),
     )
 
-fill-requires : tie.Need-fill-requires Inv-loop μ-loop
-fill-requires c κs =
+row-requires : tie.Need-row-requires Inv-loop μ-loop
+row-requires c κs =
     let e = within (c .before .before .before) in
     let l = turn e in
     let able = entry l .pre .0 in
@@ -85,9 +85,9 @@ fill-requires c κs =
 
 same-length-3 : tie.Need-same-length-3 Inv-loop μ-loop
 same-length-3 c =
-    let at-fill = c .before .before .before .before in
-    let l = turn (within (filled at-fill)) in
-    at-fill .fill .ensures .1 .long ∙ l .loop .inv .3 ∙ sym (entry l .pre .2)
+    let at-row = c .before .before .before .before in
+    let l = turn (within (filled at-row)) in
+    at-row .row .ensures .1 .long ∙ l .loop .inv .3 ∙ sym (entry l .pre .2)
 
 -- the room for places, after a place was found
 long-places : (c : tie.After-same-moves Inv-loop μ-loop) → length (c .before .before .before .found .last .1 .1 .1 .1 .0) ≡ movesSize
@@ -95,15 +95,15 @@ long-places c = c .before .before .before .found .ensures ∙ turn (within c) .l
 
 returns-2 : tie.Need-returns-2 Inv-loop μ-loop
 returns-2 c =
-    let at-fill = c .before .before .before .before in
-    (λ e. absurd (true≢false (sym e)), at-fill .fill .ensures .1 .long ∙ turn (within (filled at-fill)) .loop .inv .3, long-places (filled at-fill))
+    let at-row = c .before .before .before .before in
+    (λ e. absurd (true≢false (sym e)), at-row .row .ensures .1 .long ∙ turn (within (filled at-row)) .loop .inv .3, long-places (filled at-row))
 
 set-place-requires : tie.Need-set-place-requires Inv-loop μ-loop
 set-place-requires c κs =
-    let at-fill = c .before .before .before .before .before in
-    let e = within (filled at-fill) in
+    let at-row = c .before .before .before .before .before in
+    let e = within (filled at-row) in
     let l = turn e in (
-      at-fill .fill .ensures .1 .long ∙ l .loop .inv .3,
+      at-row .row .ensures .1 .long ∙ l .loop .inv .3,
       inside e .1,
       l .loop .inv .1,
       omega (arith, c .before .if3 .left),
@@ -113,19 +113,19 @@ set-place-requires c κs =
 loop-again-2 : tie.Need-loop-again-2 Inv-loop μ-loop
 loop-again-2 c =
     let at-set = c .before .before .before in
-    let at-fill = at-set .before .before .before .before .before .before in
-    let at-same = filled at-fill in
+    let at-row = at-set .before .before .before .before .before .before in
+    let at-same = filled at-row in
     let e = within at-same in
     let l = turn e in (
       omega (arith, inside e .0),
       omega (arith, at-set .before .before .if3 .left),
       set-more _ _ _ _ _ _ _ _ _ (l .loop .inv .3) (inside e .1) (omega (arith, at-set .before .before .if3 .left)) (l .loop .inv .2)
-          (at-fill .fill .ensures .0) (at-fill .fill .ensures .1) (at-set .set-place .ensures),
-      at-set .set-place .ensures .long ∙ at-fill .fill .ensures .1 .long ∙ l .loop .inv .3,
-      at-fill .fill .ensures .2,
+          (at-row .row .ensures .0) (at-row .row .ensures .1) (at-set .set-place .ensures),
+      at-set .set-place .ensures .long ∙ at-row .row .ensures .1 .long ∙ l .loop .inv .3,
+      at-row .row .ensures .2,
       at-same .before .before .before .found .ensures ∙ l .loop .inv .5,
       kin-more _ _ (entry l .args .r) _ _ _ _ (omega (arith, links-long (l .loop .moves) (l .loop .inv .3), inside e .1))
-          (at-set .set-place .ensures .links ∙ ap (λ (x : List ℕ). set x (l .loop .i) noLink) (at-fill .fill .ensures .1 .links)) (inl refl) (l .loop .inv .6),
+          (at-set .set-place .ensures .links ∙ ap (λ (x : List ℕ). set x (l .loop .i) noLink) (at-row .row .ensures .1 .links)) (inl refl) (l .loop .inv .6),
       omega (arith, l .loop .inv .7),
     )
 
@@ -169,7 +169,7 @@ store-rows-spec =
     (λ c. omega (arith, inside (within (shared (c .before .before) .before)) .0))
     loop-again
     (λ c. sym (turn (within (c .before .before)) .loop .inv .4))
-    fill-requires
+    row-requires
     same-length-3
     (λ c.
     let at-same = filled (c .before .before .before .before) in

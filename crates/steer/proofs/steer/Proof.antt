@@ -8,14 +8,14 @@ use Rattle.steer.proofs.steer.Statement.{statement}
 use Rattle.steer.proofs.steer.Tie as tie
 
 -- the run was walked along stored moves
-returns-3 : tie.Need-returns-3
-returns-3 c =
+returns-2 : tie.Need-returns-2
+returns-2 c =
     let at = c .before in
     subst (WalkedAlong _ _ _ _ _) (at .steps .given .1) (at .before .before .before .before .before .before .walk-stored .ensures)
 
 -- they had no room, and nothing was touched
-returns-4 : tie.Need-returns-4
-returns-4 c =
+returns-3 : tie.Need-returns-3
+returns-3 c =
     let walked = c .before .before .before .before in
     let told = walked .before .before .before in
     let at = told .before .before .before .before .before .before in
@@ -33,13 +33,9 @@ steer-spec =
     (λ c. search needs)
     (λ c. search needs)
     (λ c. search needs)
-    (λ c κs. search needs)
-    (λ c. search needs)
-    (λ c. search needs)
-    (λ c. search needs)
-    returns-3
+    returns-2
     (λ c. search needs)
     (λ c κs. search needs)
     (λ c. search needs)
     (λ c. search needs)
-    returns-4)
+    returns-3)

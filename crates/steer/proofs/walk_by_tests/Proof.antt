@@ -1,19 +1,14 @@
--- `steer::walk_by_tests` meets its contract: no moves are stored, and the signs are written first. Assumes nothing.
+-- `steer::walk_by_tests` meets its contract: no moves are stored, and the signs are given. Assumes nothing.
 use mathlib.Core.Path.{refl}
 use borrow.Author.Needs.{needs}
 use Rattle.steer.proofs.Ways.{tested-ways}
 use Rattle.steer.proofs.walk_by_tests.Statement.{statement}
 use Rattle.steer.proofs.walk_by_tests.Tie as tie
 
--- the entry, from where the signs are written
-abbrev start : tie.After-fill → tie.Start
-start c = c .before .before .before .before .before .before .before .before .before .before
-
 walk-requires : tie.Need-walk-requires
 walk-requires c κs =
-    let signed = c .before .before .before .before .before .before .before in
-    let pre = start signed .pre in
-    let ways = tested-ways _ _ refl (signed .fill .ensures .0) (pre .2) in
+    let pre = c .before .before .before .before .before .before .before .before .before .before .before .before .pre in
+    let ways = tested-ways _ _ refl (pre .3) (pre .2) in
     (pre .0, pre .1, ways .0, ways .1)
 
 pub walk-by-tests-spec : {M : Type 1} → statement M
@@ -22,9 +17,7 @@ walk-by-tests-spec =
     (tie.spec
     (λ c. search needs)
     (λ c. search needs)
-    (λ c κs. search needs)
     walk-requires
-    (λ c. search needs)
     (λ c. search needs)
     (λ c. search needs)
     (λ c. search needs)

@@ -5,16 +5,24 @@ use Rattle.steer.proofs.Ways.{lent-rows, lent-signs}
 use Rattle.steer.proofs.walk_few.Statement.{statement}
 use Rattle.steer.proofs.walk_few.Tie as tie
 
+fill-requires : tie.Need-fill-requires
+fill-requires c κs =
+    let pre = c .before .before .before .before .before .pre in
+    (pre .0 .states .states, lent-signs 4098 (omega arith))
+
 walk-by-tests-requires : tie.Need-walk-by-tests-requires
 walk-by-tests-requires c κs =
-    let pre = c .before .before .before .before .before .before .before .before .before .pre in
-    let room = lent-rows (pre .0 .states) 512 (omega (arith, pre .1)) in
-    (pre .0, room .0, room .1, lent-signs 4098 (omega arith))
+    let signed = c .before .before .before .before .before .before in
+    let pre = signed .before .before .before .before .before .before .pre in
+    let room = lent-rows (pre .0 .states) 512 (pre .1) in
+    (pre .0, room .0, room .1, signed .fill .ensures .0)
 
 pub walk-few-spec : {M : Type 1} → statement M
 walk-few-spec =
     tie.close
     (tie.spec
+    (λ c. search needs)
+    fill-requires
     (λ c. search needs)
     (λ c. search needs)
     (λ c. search needs)

@@ -5,16 +5,24 @@ use Rattle.steer.proofs.Ways.{lent-rows, lent-signs}
 use Rattle.steer.proofs.walk_many.Statement.{statement}
 use Rattle.steer.proofs.walk_many.Tie as tie
 
+fill-requires : tie.Need-fill-requires
+fill-requires c κs =
+    let pre = c .before .before .before .before .before .pre in
+    (pre .states .states, lent-signs 32770 (omega arith))
+
 walk-by-tests-requires : tie.Need-walk-by-tests-requires
 walk-by-tests-requires c κs =
-    let pre = c .before .before .before .before .before .before .before .before .before .pre in
+    let signed = c .before .before .before .before .before .before in
+    let pre = signed .before .before .before .before .before .before .pre in
     let room = lent-rows (pre .states) 16384 (pre .states .states .few) in
-    (pre, room .0, room .1, lent-signs 32770 (omega arith))
+    (pre, room .0, room .1, signed .fill .ensures .0)
 
 pub walk-many-spec : {M : Type 1} → statement M
 walk-many-spec =
     tie.close
     (tie.spec
+    (λ c. search needs)
+    fill-requires
     (λ c. search needs)
     (λ c. search needs)
     (λ c. search needs)

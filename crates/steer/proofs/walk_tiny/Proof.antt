@@ -1,21 +1,19 @@
 -- `steer::walk_tiny` meets its contract: the lent arrays have next to no room. Assumes nothing.
 use borrow.Author.Needs.{needs}
-use native.Mathlib.Omega.{arith}
-use Rattle.steer.proofs.Ways.{lent-rows, lent-signs}
+use Rattle.steer.proofs.Ways.{lent-rows}
 use Rattle.steer.proofs.walk_tiny.Statement.{statement}
 use Rattle.steer.proofs.walk_tiny.Tie as tie
 
 walk-by-tests-requires : tie.Need-walk-by-tests-requires
 walk-by-tests-requires c κs =
     let pre = c .before .before .before .before .before .before .before .before .before .pre in
-    let room = lent-rows (pre .0 .states) 32 (pre .1) in
-    (pre .0, room .0, room .1, lent-signs 258 (omega arith))
+    let room = lent-rows (pre .0 .states) 32 (pre .2) in
+    (pre .0, room .0, room .1, pre .1)
 
 pub walk-tiny-spec : {M : Type 1} → statement M
 walk-tiny-spec =
     tie.close
     (tie.spec
-    (λ c. search needs)
     (λ c. search needs)
     (λ c. search needs)
     walk-by-tests-requires

@@ -3,6 +3,7 @@ use Prim.Native.Nat.{_+_}
 use borrow.Author.Needs.{needs}
 use native.Mathlib.Omega.{arith}
 use lib.ListN.{length-set}
+use Rattle.stored.specs.Layout.{cellsFrom}
 use Rattle.stored.proofs.Layouts.{appended}
 use Rattle.stored.proofs.append.Statement.{statement}
 use Rattle.stored.proofs.append.Tie as tie
@@ -10,7 +11,7 @@ use Rattle.stored.proofs.append.Tie as tie
 slice-write-moves-2 : tie.Need-slice-write-moves-2
 slice-write-moves-2 c =
     let entry = c .before .before .before in
-    omega (arith, length-set (entry .args .moves .now) (32768 + c .row-end .result) (entry .args .j))
+    omega (arith, length-set (entry .args .moves .now) (cellsFrom + c .row-end .result) (entry .args .j))
 
 pub append-spec : {M : Type 1} → statement M
 append-spec =

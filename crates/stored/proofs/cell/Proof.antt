@@ -2,12 +2,13 @@
 use Prim.Native.Nat.{_+_}
 use borrow.Author.Needs.{needs}
 use native.Mathlib.Omega.{arith}
+use Rattle.stored.specs.Layout.{cellsFrom}
 use Rattle.stored.proofs.Layouts.{cell-read}
 use Rattle.stored.proofs.cell.Statement.{statement}
 use Rattle.stored.proofs.cell.Tie as tie
 
 cast-result : tie.Need-cast-result
-cast-result c = omega (arith, c .shared-slice-known .given (32768 + c .before .args .e))
+cast-result c = omega (arith, c .shared-slice-known .given (cellsFrom + c .before .args .e))
 
 returns : tie.Need-returns
 returns c = cell-read _ _ (c .before .pre .1)

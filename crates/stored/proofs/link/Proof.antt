@@ -2,15 +2,16 @@
 use Prim.Native.Nat.{_+_}
 use borrow.Author.Needs.{needs}
 use native.Mathlib.Omega.{arith}
+use Rattle.stored.specs.Layout.{linksFrom}
 use Rattle.stored.proofs.Layouts.{link-read}
 use Rattle.stored.proofs.link.Statement.{statement}
 use Rattle.stored.proofs.link.Tie as tie
 
 cast-result : tie.Need-cast-result
-cast-result c = omega (arith, c .shared-slice-known .given (49152 + c .before .args .i))
+cast-result c = omega (arith, c .shared-slice-known .given (linksFrom + c .before .args .i))
 
 returns : tie.Need-returns
-returns c = (link-read _ _, omega (arith, c .shared-slice-known .given (49152 + c .before .args .i)))
+returns c = (link-read _ _, omega (arith, c .shared-slice-known .given (linksFrom + c .before .args .i)))
 
 pub link-spec : {M : Type 1} → statement M
 link-spec = tie.close (tie.spec (λ c. search needs) (λ c. search needs) (λ c. search needs) cast-result returns)

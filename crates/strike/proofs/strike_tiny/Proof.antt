@@ -1,24 +1,19 @@
 -- `strike::strike_tiny` meets its contract: there is room for 32 places. Assumes nothing.
 use borrow.Author.Needs.{needs}
 use native.Mathlib.Omega.{arith}
-use Rattle.rounds.proofs.Running.{strikable-lawful}
 use Rattle.strike.proofs.Ready.{tests-strikable}
 use Rattle.strike.proofs.strike_tiny.Statement.{statement}
 use Rattle.strike.proofs.strike_tiny.Tie as tie
 
 rounds-by-tests-requires : tie.Need-rounds-by-tests-requires
 rounds-by-tests-requires c κs =
-    let pre = c .before .before .before .before .before .before .before .before .before .before .before .pre in
-    let signed = c .before .before .before .before .before .before .fill .ensures .0 in
-    (tests-strikable 32 (pre .0) signed (pre .2) (omega arith), pre .1)
+    let pre = c .before .before .before .before .before .before .before .before .pre in
+    (tests-strikable 32 (pre .0) (pre .2) (pre .3) (omega arith), pre .1)
 
 pub strike-tiny-spec : {M : Type 1} → statement M
 strike-tiny-spec =
     tie.close
     (tie.spec
-    (λ c. search needs)
-    (λ c κs. (strikable-lawful _ _ _ _ (c .before .before .before .before .pre .0), omega arith))
-    (λ c. search needs)
     (λ c. search needs)
     (λ c. search needs)
     (λ c. search needs)

@@ -6,8 +6,8 @@ use lib.ListN.{length}
 use Rattle.ground.proofs.Saying.{says-no}
 use Rattle.papers.specs.Paper.{statesOf, wordsOf}
 use Rattle.covers.specs.Asks.{StatesAsk}
-use Rattle.strikecheck.specs.Strikes.{Rising}
-use Rattle.strikecheck.proofs.Entries.{states-asked, entries-decide, accepted-rising, accepted-fit}
+use Rattle.entries.specs.Entries.{Rising}
+use Rattle.strikecheck.proofs.Conditions.{states-asked, entries-decide, accepted-rising, accepted-fit}
 use Rattle.strikecheck.proofs.accepted.Statement.{statement}
 use Rattle.strikecheck.proofs.accepted.Tie as tie
 

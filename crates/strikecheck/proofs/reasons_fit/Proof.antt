@@ -7,7 +7,7 @@ use Rattle.ground.proofs.Saying.{says-no}
 use Rattle.rules.specs.Book.{bookSystem}
 use Rattle.papers.proofs.Loops.{Passed, passed-none, passed-more, all-passed, failed-not-all}
 use Rattle.papers.specs.Paper.{wordsOf}
-use Rattle.strikecheck.proofs.Entries.{reason-fits, reason-above}
+use Rattle.strikecheck.proofs.Conditions.{reason-fits, reason-above}
 use Rattle.strikecheck.proofs.reasons_fit.Statement.{statement}
 use Rattle.strikecheck.proofs.reasons_fit.Tie as tie
 

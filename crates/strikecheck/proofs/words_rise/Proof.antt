@@ -4,7 +4,7 @@ use native.Mathlib.Omega.{arith}
 use borrow.Author.Needs.{needs}
 use Rattle.ground.proofs.Saying.{says-yes, says-no}
 use Rattle.papers.specs.Paper.{wordsOf}
-use Rattle.strikecheck.proofs.Entries.{Risen, risen-begins, risen-more, risen-all, fall-not-rising}
+use Rattle.strikecheck.proofs.Conditions.{Risen, risen-begins, risen-more, risen-all, fall-not-rising}
 use Rattle.strikecheck.proofs.words_rise.Statement.{statement}
 use Rattle.strikecheck.proofs.words_rise.Tie as tie
 

@@ -32,7 +32,8 @@ returns-2 : tie.Need-returns-2
 returns-2 c =
     let judged = c .before .before .before .before .before .before .before .before in
     let explored = judged .before .before .before .before .before .before .before .before .before .before in
-    judged-alike (returned-alike (start explored .args .words .now) (start explored .args .run .now) (explored .explore .ensures)) (judged .judge-reached .ensures)
+    let alike = returned-alike (start explored .args .words .now) (start explored .args .run .now) (explored .explore .ensures) in
+    judged-alike alike (judged .judge-reached .ensures)
 
 pub judge-book-spec : {M : Type 1} → statement M
 judge-book-spec =

@@ -9,10 +9,10 @@ use Rattle.watch_tests.proofs.copy.Statement.{statement}
 use Rattle.watch_tests.proofs.copy.Tie as tie
 
 abbrev Inv-loop : tie.InvT-loop
-Inv-loop log m tail line₀ k₀ g₀ line k g = (g ≤ tail) × Copied log m g line₀ line k
+Inv-loop log m tail line₀ n k₀ g₀ line k g = (g ≤ tail) × Copied log m g line₀ line n k
 
 abbrev μ-loop : tie.MeasureT-loop
-μ-loop log m tail line₀ k₀ g₀ line k g = tail - g
+μ-loop log m tail line₀ n k₀ g₀ line k g = tail - g
 
 abbrev start : tie.At-loop Inv-loop μ-loop → tie.Start Inv-loop μ-loop
 start c = c .before
@@ -27,7 +27,7 @@ room c =
       omega (arith, c .loop-test .taken, pre .1),
       omega (arith, c .loop-test .taken, pre .1, pre .3),
       omega (arith, c .loop-test .taken, pre .2, inv .long, inv .count),
-      omega (arith, c .loop-test .taken, pre .1, pre .3, inv .count),
+      omega (arith, c .loop-test .taken, pre .2, pre .4, inv .count),
     )
 
 loop-again : tie.Need-loop-again Inv-loop μ-loop
@@ -41,7 +41,7 @@ copy-spec =
     (tie.spec
     Inv-loop
     μ-loop
-    (λ c. (c .pre .0, copied-none _ _ _))
+    (λ c. (c .pre .0, copied-none _ _ _ _))
     (λ c. omega (arith, room c .1))
     (λ c. room (c .before) .0)
     (λ c. omega (arith, room (c .before) .3))

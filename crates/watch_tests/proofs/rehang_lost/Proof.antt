@@ -3,7 +3,7 @@ use mathlib.Core.Path.{_∙_}
 use native.Mathlib.Omega.{arith}
 use Rattle.watch_tests.proofs.Ranking.{copied-ranked}
 use Rattle.watch_tests.proofs.Sifting.{spreading-self, rehung-then, testable-same}
-use Rattle.watch_tests.proofs.Testing.{hangable-hangs, lost-testable}
+use Rattle.watch_tests.proofs.Testing.{hangable-hangs, copied-testable}
 use Rattle.watch_tests.proofs.rehang_lost.Statement.{statement}
 use Rattle.watch_tests.proofs.rehang_lost.Tie as tie
 
@@ -11,7 +11,7 @@ ask-requires : tie.Need-ask-requires
 ask-requires c κs =
     let C = c .before .before .before .before .copy .ensures in
     let pre = c .before .before .before .before .before .before .before .before .before .before .before .before .before .pre in
-    (lost-testable (pre .0) (pre .2) C, hangable-hangs (pre .1), copied-ranked (pre .1) C)
+    (copied-testable (pre .0) (omega (arith, pre .2)) C, hangable-hangs (pre .1), copied-ranked (pre .1) (λ s h. absurd (omega arith)) C)
 
 spread-requires : tie.Need-spread-requires
 spread-requires c κs =
@@ -20,7 +20,7 @@ spread-requires c κs =
     let A = asked .ask .ensures in
     let C = copied .copy .ensures in
     let pre = copied .before .before .before .before .before .before .before .before .before .pre in
-    (testable-same (lost-testable (pre .0) (pre .2) C) (A .0 .hangs .long) (A .1), spreading-self (A .0))
+    (testable-same (copied-testable (pre .0) (omega (arith, pre .2)) C) (A .0 .hangs .long) (A .1), spreading-self (A .0))
 
 same-length : tie.Need-same-length
 same-length c = c .before .before .before .before .spread .ensures .0 .long
@@ -36,7 +36,7 @@ rehang-lost-spec =
     tie.close
     (tie.spec
     (λ c κs. let pre = c .before .before .before .before .before .before .before .before .pre in
-    (pre .1 .grows, pre .1 .in-log, omega (arith, pre .2, pre .0 .room), pre .3))
+    (pre .1 .grows, pre .1 .in-log, omega (arith, pre .2, pre .0 .room), pre .3, pre .0 .line-few))
     ask-requires
     spread-requires
     same-length

@@ -1,0 +1,3 @@
+pub mod Livables
+pub mod Findings
+pub mod Steps
