@@ -51,8 +51,8 @@
  * Stack, in pages of 4,096 bytes: 256 for the judge, for a class and for the two calls about rules that fight, 4 for the strike checker, 4 for
  * the audit, 2 for the run checker, 1 for the reader; what the caller and signal handlers take comes on top. host/c/stack.c runs each call on
  * a fenced stack of just this size, on sheets of 24 letters that are judged to the end and on a bad one, and prints what they take: the judge,
- * a class, the strike checker, the audit, the run checker and the reader at most 1,033,768, 1,033,912, 16,244, 12,200, 7,192 and 280 bytes,
- * naxxurbi_clash and naxxurbi_check_clash 1,038,536 and 1,038,264. Of the audit's, 3,056 are the loader's, the first time that memcpy is called.
+ * a class, the strike checker, the audit, the run checker and the reader at most 1,033,784, 1,033,928, 16,244, 12,200, 7,192 and 280 bytes,
+ * naxxurbi_clash and naxxurbi_check_clash 1,038,568 and 1,038,296. Of the audit's, 3,056 are the loader's, the first time that memcpy is called.
  *
  * The judge takes nearly as much for a bad sheet (1,022,952 bytes), since its rooms have a fixed size.
  *
