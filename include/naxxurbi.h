@@ -3,8 +3,8 @@
  *
  * A rule sheet is a string of bytes (docs/FORMAT.md). The calls take any bytes and any numbers: none has a precondition, each
  * returns, and each is proved to keep the promise that is stated for it in crates/meaning/specs/Promises.antt (the audit:
- * crates/accounts/specs/Carry.antt; the serial lead: crates/serial/specs/Serial.antt; a class: crates/joined/specs/Class.antt; which rules
- * fight: crates/dispute/specs/Clash.antt). Of the pointers themselves C callers owe what is listed below.
+ * crates/audit_account/specs/Carry.antt; the serial lead: crates/serial/specs/Serial.antt; a class: crates/class_ends/specs/Class.antt; which rules
+ * fight: crates/clash/specs/Clash.antt). Of the pointers themselves C callers owe what is listed below.
  *
  * Numbers returned:
  *    0        good sheet / paper or proposal accepted / the sheet can be kept / rules that fight are marked

@@ -1,5 +1,5 @@
 -- An account as the code hands it over. Assumes nothing.
-use Rattle.accounts.specs.Account.{Account}
+use Rattle.audit_account.specs.Account.{Account}
 use Rattle.audit.specs.declared.Account as Given
 
 -- an account as the code hands it over

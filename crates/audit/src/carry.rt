@@ -1,13 +1,13 @@
 // An account carried on by a piece of a log: its five numbers and its tallies apart, and joined again.
 use super::Account;
-use follow::Head;
-use follow::TALLIES;
+use audit_follow::Head;
+use audit_follow::TALLIES;
 use ground::State;
 ghost use mathlib.Core.Path.{_≡_};
 ghost use lib.ListN.{length};
 ghost use Rattle.rules.specs.Book.{Shaped};
-ghost use Rattle.accounts.specs.Book.{bookCarried, Carriable};
-ghost use Rattle.follow.specs.Heads.{withTallies};
+ghost use Rattle.audit_account.specs.Book.{bookCarried, Carriable};
+ghost use Rattle.audit_follow.specs.Heads.{withTallies};
 ghost use Rattle.audit.specs.Given.{accountOf};
 
 // An account's five numbers.
@@ -46,6 +46,6 @@ pub fn carry(book: &[State], account: Account, states: &[State]) -> Account
     let mut kept = account.kept;
     let mut broken = account.broken;
     let head = head_of(account);
-    let last = follow::follow(book, states, head, &mut kept, &mut broken);
+    let last = audit_follow::follow(book, states, head, &mut kept, &mut broken);
     joined(last, kept, broken)
 }

@@ -1,5 +1,5 @@
 // The audit of a log: a monitor's recorded states held against a sheet, piece by piece. What an account tells of a whole log is said in
-// crates/accounts/specs/Account.antt, what the call promises in Carry.antt there, and that cutting a log does not show in crates/accounts/proofs. It
+// crates/audit_account/specs/Account.antt, what the call promises in Carry.antt there, and that cutting a log does not show in crates/audit_account/proofs. It
 // stands on the sheet reader and the compiled rules alone.
 use ground::State;
 use reader::Answer;
@@ -8,14 +8,14 @@ ghost use mathlib.Core.Option.{none};
 ghost use lib.ListN.{length};
 ghost use Rattle.meaning.specs.Sheet.{firstFault};
 ghost use Rattle.ground.specs.Says.{Says};
-ghost use Rattle.accounts.specs.Carry.{empty, SomePast, PastCount, PastBy, Audited, AuditedOut};
+ghost use Rattle.audit_account.specs.Carry.{empty, SomePast, PastCount, PastBy, Audited, AuditedOut};
 ghost use Rattle.audit.specs.Given.{accountOf};
 
 mod carry;
 mod numbers;
 
 // How many tallies an account has.
-pub use follow::TALLIES;
+pub use audit_follow::TALLIES;
 
 // The most moments that an account may count.
 pub const MOMENTS: u32 = 1000000;

@@ -1,11 +1,11 @@
 // An account as 515 numbers, for callers in C.
 use super::Account;
-use follow::TALLIES;
+use audit_follow::TALLIES;
 ghost use mathlib.Core.Path.{_≡_};
 ghost use Prim.Native.Nat.{_+_, _≤_};
 ghost use lib.ListN.{length};
-ghost use Rattle.accounts.specs.Carry.{numbersAt, readAccount, writeAccount};
-ghost use Rattle.accounts.specs.Book.{Copied};
+ghost use Rattle.audit_account.specs.Carry.{numbersAt, readAccount, writeAccount};
+ghost use Rattle.audit_account.specs.Book.{Copied};
 ghost use Rattle.audit.specs.Given.{accountOf};
 
 // How many numbers an account is, and where the tallies of kept and of broken moves begin.

@@ -1,16 +1,20 @@
 // Which rules fight (document 02, order 5): a check that anyone's proposal may be put to, and a planner of our own. Both ask the judge about
 // sheets with a choice of the step rules, with no room for a run. The promises are `ClashChecked` and `Planned` of
-// crates/dispute/specs/Clash.antt; they ask nothing of their callers.
-use choice::RULES;
+// crates/clash/specs/Clash.antt; they ask nothing of their callers.
+use checker::check_good;
+use clash_choice::RULES;
 use ground::State;
 use papers::answer::Verdict;
-pub use planning::Plan;
-use planning::plan_good;
+pub use planner::Plan;
+use planner::plan_good;
 use reader::Answer;
-use weighing::check_good;
-ghost use Rattle.trials.specs.Trials.{lentThree};
-ghost use Rattle.dispute.specs.Clash.{ClashChecked, Planned};
-ghost use Rattle.dispute.specs.Parts.{ClashCheckedC, PlannedC};
+ghost use Rattle.clash_trials.specs.Trials.{lentThree};
+ghost use Rattle.clash.specs.Clash.{ClashChecked, Planned};
+ghost use Rattle.clash.specs.Parts.{ClashCheckedC, PlannedC};
+
+pub mod checker;
+pub mod planner;
+pub mod slices;
 
 // Checks a proposal: do these step rules fight? The answer is 0 if the sheet with these rules alone (and its limits, first rules and promises)
 // cannot be kept, and can be kept as soon as any single one of them is left out; 17 if one of these sheets has more reachable states than there

@@ -10,10 +10,10 @@ use native.Mathlib.Omega.{arith}
 use lib.ListN.{length, getD}
 use Rattle.meaning.specs.Promises.{Lent, Outcome, Judged}
 use Rattle.meaning.proofs.Meetable.{AsLong}
-use Rattle.joined.specs.Class.{numbersEach, refusal, sheetAt, Refused, no-room, Desk, InTurn, ClassJudged, turned-away, in-turn}
-use Rattle.joined.specs.Ends.{Fair}
-use Rattle.joined.proofs.Ends.{fair-not-refused, fair-or-refused}
-use Rattle.joined.proofs.Turns.{as-long-then, in-turn-unique, in-turn-met, in-turn-got, in-turn-past, Stand, Got}
+use Rattle.class_ends.specs.Class.{numbersEach, refusal, sheetAt, Refused, no-room, Desk, InTurn, ClassJudged, turned-away, in-turn}
+use Rattle.class_ends.specs.Ends.{Fair}
+use Rattle.class_ends.proofs.Ends.{fair-not-refused, fair-or-refused}
+use Rattle.class_ends.proofs.Turns.{as-long-then, in-turn-unique, in-turn-met, in-turn-got, in-turn-past, Stand, Got}
 use Rattle.judge.proofs.Neighbours.{SameNumbers, judged-same-numbers}
 
 -- The promise leaves one outcome: the number, the four slices and the numbers.

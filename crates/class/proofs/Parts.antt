@@ -5,11 +5,11 @@ use Prim.Native.Nat.{ℕ, suc, _+_, _-_, _*_, _≤_, _<_}
 use native.Mathlib.Omega.{arith}
 use lib.ListN.{length, getD, take, drop}
 use Rattle.meaning.specs.Promises.{Lent, Judged}
-use Rattle.ending.specs.Judging.{outcomeOf}
-use Rattle.ending.specs.declared.Judgement.{Judgement}
-use Rattle.joined.specs.Class.{numbersEach, startOf, sheetAt, Desk, stored, noted, OneJudged, InTurn}
-use Rattle.joined.specs.Ends.{Fair}
-use Rattle.joined.proofs.Turns.{SameRoom, in-turn-room}
+use Rattle.judge_answer.specs.Judging.{outcomeOf}
+use Rattle.judge_answer.specs.declared.Judgement.{Judgement}
+use Rattle.class_ends.specs.Class.{numbersEach, startOf, sheetAt, Desk, stored, noted, OneJudged, InTurn}
+use Rattle.class_ends.specs.Ends.{Fair}
+use Rattle.class_ends.proofs.Turns.{SameRoom, in-turn-room}
 
 -- One sheet judged, then its numbers noted.
 pub judged-noted : {sheet : List ℕ} {at : ℕ} {lent leaves : Lent} {numbers numbers′ : List ℕ} (r : Judgement)

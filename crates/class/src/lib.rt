@@ -1,14 +1,14 @@
 // The whole class in one call: up to 32 sheets, joined, are judged in turn with the same lent slices, and four numbers of each are noted.
-// The promise is `ClassJudged` of crates/joined/specs/Class.antt; it asks nothing.
+// The promise is `ClassJudged` of crates/class_ends/specs/Class.antt; it asks nothing.
+pub use class_ends::EACH;
+pub use class_ends::SHEETS;
+use class_ends::fair;
+use class_ends::note;
 use ground::State;
-pub use joined::EACH;
-pub use joined::SHEETS;
-use joined::fair;
-use joined::note;
 ghost use Prim.Native.Nat.{_≤_, _+_};
 ghost use lib.ListN.{length};
-ghost use Rattle.joined.specs.Class.{OneJudged, InTurn, ClassJudged};
-ghost use Rattle.joined.specs.Ends.{Fair};
+ghost use Rattle.class_ends.specs.Class.{OneJudged, InTurn, ClassJudged};
+ghost use Rattle.class_ends.specs.Ends.{Fair};
 ghost use Rattle.class.specs.Desks.{deskOf};
 
 // The answer to a class that is refused.

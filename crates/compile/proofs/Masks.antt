@@ -120,10 +120,6 @@ agrees-is true b e = sym e
 agrees-is false true e = e
 agrees-is false false e = refl
 
-agrees-self : (b : Bool) → agrees b b ≡ true
-agrees-self true = refl
-agrees-self false = refl
-
 rank-of : (p b : Bool) (m k : ℕ) → p ≡ b → m ≡ k → rank p m ≡ rank b k
 rank-of p b m k e q = ap₂ rank e q
 

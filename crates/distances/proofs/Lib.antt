@@ -1,1 +1,5 @@
-pub mod Lent
+pub mod Totals
+pub mod Spreads
+pub mod Shut
+pub mod Lining
+pub mod Parts

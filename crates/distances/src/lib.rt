@@ -1,37 +1,61 @@
-// Distances to a promise: for every unstruck state of a table the fewest moves, through unstruck states only, to one where the promise is
-// kept. Found backwards from the states that keep it, in one of two ways: along stored moves, or by tests of pairs.
+// What distances to a promise are, and where both ways of finding them start: struck places are gone, the goal's are at 0, all others are not
+// reached yet, and the places with one value can be listed.
 
 use ground::State;
 ghost use mathlib.Core.Path.{_≡_};
-ghost use Prim.Native.Nat.{_+_, _≤_};
+ghost use Prim.Native.Nat.{_≤_};
 ghost use lib.ListN.{length};
-ghost use Rattle.rules.specs.Book.{bookSystem};
-ghost use Rattle.distances_start.specs.Far.{Measured};
-ghost use Rattle.distances_start.specs.Values.{Measurable};
-ghost use Rattle.distances.specs.Follow.{Followable};
+ghost use Rattle.meaning.specs.Promises.{mostStates};
+ghost use Rattle.rules.specs.Book.{Shaped};
+ghost use Rattle.distances.specs.Values.{Measurable, Begun, Opening, LinedUp, keptIn};
 
-// The distances to promise k, counted from 0, of the table's first r places, written from `from` on: GONE for a struck place, FAR where no path of
-// unstruck states leads to the promise. By the stored moves back where they are stored, else (`back` is empty) by tests of pairs.
-pub fn distances(
-    book: &[State],
-    k: usize,
-    table: &[State],
-    words: &[u32],
-    r: usize,
-    back: &[u16],
-    queue: &mut [u16],
-    dist: &mut [u16],
-    from: usize,
-    signs: &[u64],
-)
-    requires { ⌜ Measurable (now book) k (now table) (now words) r × (from + r ≤ length (now dist))
-        × Followable (now book) (now table) r (now back) (now queue) (now signs) ⌝ }
-    ensures { λ _. ⌜ Measured (bookSystem (now (book .entry))) (bookSystem (now (book .entry)) .Kept k) (now (table .entry)) (now (words .entry)) r from
-        (now (dist .entry)) (now (dist .exit)) × (length (now (queue .exit)) ≡ length (now (queue .entry))) ⌝ }
+// No path of unstruck states leads to the promise; or a place is struck, and looked at no more. Every distance is less.
+pub const FAR: u16 = 65535;
+
+pub const GONE: u16 = 65534;
+
+// What a place begins with: struck, at the goal, or not reached yet.
+fn start(book: &[State], k: usize, s: State, word: u32) -> u16
+    requires { ⌜ Shaped (now book) ⌝ }
+    ensures { λ v. ⌜ Begun (keptIn (now (book .entry)) k s) word v ⌝ }
 {
-    if back.len() == 0 {
-        distances_tests::by_tests(book, k, table, words, r, queue, dist, from, signs);
-    } else {
-        distances_along::follow(book, k, table, words, r, back, queue, dist, from);
+    if word != 0 {
+        return GONE;
     }
+    if rules::kept(book, k, s) {
+        return 0;
+    }
+    FAR
+}
+
+// Puts the goal's states at 0.
+pub fn begin(book: &[State], k: usize, table: &[State], words: &[u32], r: usize, near: &mut [u16])
+    requires { ⌜ Measurable (now book) k (now table) (now words) r × (length (now near) ≡ r) ⌝ }
+    ensures { λ _. ⌜ Opening (now (book .entry)) k (now (table .entry)) (now (words .entry)) r (now (near .exit)) ⌝ }
+{
+    let mut i: usize = 0;
+    while i < r {
+        let v = start(book, k, table[i], words[i]);
+        near[i] = v;
+        i += 1;
+    }
+}
+
+// Puts the places with value v into the list, ascending; how many those are.
+pub fn line_up(near: &[u16], r: usize, v: u16, list: &mut [u16]) -> usize
+    requires { ⌜ (r ≤ length (now near)) × (r ≤ length (now list)) × (r ≤ mostStates) ⌝ }
+    ensures { λ n. ⌜ LinedUp v (now (near .entry)) r n (now (list .exit)) × (length (now (list .exit)) ≡ length (now (list .entry))) ⌝ }
+{
+    let mut tail: usize = 0;
+    let mut i: usize = 0;
+    while i < r {
+        if near[i] == v {
+            list[tail] = i as u16;
+            tail += 1;
+            i += 1;
+        } else {
+            i += 1;
+        }
+    }
+    tail
 }

@@ -11,12 +11,12 @@ use Rattle.meaning.specs.System.{System}
 use Rattle.ground.specs.Listed.{Between}
 use Rattle.meaning.specs.Promises.{mostStates}
 use Rattle.rules.specs.Book.{bookSystem}
-use Rattle.stored.specs.Moves.{Back}
-use Rattle.stored.specs.Layout.{movesSize, mostCells, startAt, endAt, cellAt, Backed, Ascending}
-use Rattle.distances_start.specs.Far.{gone}
-use Rattle.distances_start.specs.Values.{fars, LinedUp, Reaches, as-was, reached, Sure, Opened, Near}
+use Rattle.moves.specs.Moves.{Back}
+use Rattle.moves.specs.Layout.{movesSize, mostCells, startAt, endAt, cellAt, Backed, Ascending}
+use Rattle.distances.specs.Far.{gone}
+use Rattle.distances.specs.Values.{fars, LinedUp, Reaches, as-was, reached, Sure, Opened, Near}
 use Rattle.distances_along.specs.Follow.{RowReady, Followed}
-use Rattle.distances_start.proofs.Shut.{reaches-keeps, sure-spread, spread-here, shut-near}
+use Rattle.distances.proofs.Shut.{reaches-keeps, sure-spread, spread-here, shut-near}
 
 -- the rows back of a system's moves over the first r places
 pub record MovesBack (S : System) (table : List ℕ) (r : ℕ) (back : List ℕ) : Type 0 where

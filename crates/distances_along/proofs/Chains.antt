@@ -6,8 +6,8 @@ use Prim.Native.Nat.{ℕ, zero, suc, _≤_, _<_}
 use native.Mathlib.Decide.{ℕ-discrete}
 use native.Mathlib.Omega.{arith}
 use Rattle.meaning.specs.Promises.{mostStates}
-use Rattle.stored.specs.Layout.{noLink, linksOf, linkAt, LinkedIn, Linked, Ascending}
-use Rattle.stored.proofs.Chains.{linked-more, linked-below}
+use Rattle.moves.specs.Layout.{noLink, linksOf, linkAt, LinkedIn, Linked, Ascending}
+use Rattle.moves.proofs.Chains.{linked-more, linked-below}
 
 -- Of two places on a chain, the second is no later, or stands on the chain that begins behind the first.
 chain-order : (r : ℕ) (back : List ℕ) → Ascending r back → (n m c i j : ℕ) → c < r → LinkedIn (linksOf back) n c i → LinkedIn (linksOf back) m c j

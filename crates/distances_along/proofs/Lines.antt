@@ -8,11 +8,11 @@ use native.Mathlib.Omega.{arith}
 use lib.ListN.{length, getD, set, length-set}
 use lib.Seq.{getD-set-same, getD-set-other}
 use Rattle.ground.specs.Listed.{Between}
-use Rattle.stored.specs.Layout.{startAt, endAt, cellAt, linkAt, Linked, Backed}
-use Rattle.distances_start.specs.Far.{far, gone}
-use Rattle.distances_start.specs.Values.{Reaches, as-was, reached}
+use Rattle.moves.specs.Layout.{startAt, endAt, cellAt, linkAt, Linked, Backed}
+use Rattle.distances.specs.Far.{far, gone}
+use Rattle.distances.specs.Values.{Reaches, as-was, reached}
 use Rattle.distances_along.specs.Follow.{Ready, RowReady, Followed}
-use Rattle.distances_start.proofs.Spreads.{spread-none, spread-same, far-counts, spread-one}
+use Rattle.distances.proofs.Spreads.{spread-none, spread-same, far-counts, spread-one}
 use Rattle.distances_along.proofs.Chains.{OnChain, chain-begins, chain-ends, chain-on, chain-next, chain-widens, chain-narrows}
 
 -- ---- following places: none, one, those of two reasons one after the other

@@ -6,9 +6,9 @@ use Prim.Native.Nat.{ℕ, _+_, _≤_, _<_}
 use lib.ListN.{length, getD}
 use Rattle.ground.specs.Listed.{Between}
 use Rattle.meaning.specs.Promises.{mostStates}
-use Rattle.stored.specs.Layout.{movesSize, startAt, endAt, cellAt, HasRow, Ascending}
-use Rattle.distances_start.specs.Far.{far, gone}
-use Rattle.distances_start.specs.Values.{fars, Spread}
+use Rattle.moves.specs.Layout.{movesSize, startAt, endAt, cellAt, HasRow, Ascending}
+use Rattle.distances.specs.Far.{far, gone}
+use Rattle.distances.specs.Values.{fars, Spread}
 
 -- places may be followed along chains: the queue has room for those not reached yet
 pub record Ready (moves : List ℕ) (d r : ℕ) (near queue : List ℕ) (tail : ℕ) : Type 0 where

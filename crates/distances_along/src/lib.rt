@@ -5,10 +5,10 @@ ghost use mathlib.Core.Path.{_≡_};
 ghost use Prim.Native.Nat.{_+_, _<_, _≤_};
 ghost use lib.ListN.{length};
 ghost use Rattle.rules.specs.Book.{bookSystem};
-ghost use Rattle.stored.specs.Layout.{Linked, Backed};
-ghost use Rattle.stored.specs.Moves.{Back};
-ghost use Rattle.distances_start.specs.Far.{Measured};
-ghost use Rattle.distances_start.specs.Values.{Measurable, Near};
+ghost use Rattle.moves.specs.Layout.{Linked, Backed};
+ghost use Rattle.moves.specs.Moves.{Back};
+ghost use Rattle.distances.specs.Far.{Measured};
+ghost use Rattle.distances.specs.Values.{Measurable, Near};
 ghost use Rattle.distances_along.specs.Follow.{Ready, RowReady, Followed};
 
 // Gives d to the places on the chain that begins with place c that are not reached yet, and puts them into the queue behind its first `tail`; how
@@ -28,14 +28,14 @@ fn follow_chain(
     let mut got: usize = 0;
     let mut i = c;
     while i < near.len() {
-        if near[i] == distances_start::FAR {
+        if near[i] == distances::FAR {
             let at = tail + got;
             near[i] = d;
             queue[at] = i as u16;
             got += 1;
-            i = stored::link(moves, i);
+            i = moves::link(moves, i);
         } else {
-            i = stored::link(moves, i);
+            i = moves::link(moves, i);
         }
     }
     got
@@ -54,11 +54,11 @@ fn follow_row(
     ensures { λ got. ⌜ Followed (λ i. Backed (now (moves .entry)) i j) d (length (now (near .entry))) (now (near .entry)) (now (near .exit)) tail
         (now (queue .entry)) (now (queue .exit)) got ⌝ }
 {
-    let end = stored::row_end(moves, j);
+    let end = moves::row_end(moves, j);
     let mut got: usize = 0;
-    let mut e = stored::row_start(moves, j);
+    let mut e = moves::row_start(moves, j);
     while e < end {
-        let c = stored::cell(moves, e);
+        let c = moves::cell(moves, e);
         let at = tail + got;
         let more = follow_chain(moves, c, d, near, at, queue);
         got += more;
@@ -84,8 +84,8 @@ fn measure_back(
     ensures { λ _. ⌜ Near (bookSystem (now (book .entry))) (bookSystem (now (book .entry)) .Kept k) (now (table .entry)) (now (words .entry)) r
         (now (near .exit)) × (length (now (queue .exit)) ≡ length (now (queue .entry))) ⌝ }
 {
-    distances_start::begin(book, k, table, words, r, near);
-    let mut tail = distances_start::line_up(near, r, 0, queue);
+    distances::begin(book, k, table, words, r, near);
+    let mut tail = distances::line_up(near, r, 0, queue);
     let mut head: usize = 0;
     while head < tail {
         let j = queue[head] as usize;

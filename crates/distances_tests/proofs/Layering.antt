@@ -8,9 +8,9 @@ use native.Mathlib.Decide.{decLt, ℕ-discrete}
 use native.Mathlib.Omega.{arith}
 use lib.ListN.{getD}
 use Rattle.meaning.specs.System.{System}
-use Rattle.distances_start.specs.Far.{gone}
-use Rattle.distances_start.specs.Values.{fars, Reaches, as-was, reached, Spread, Opened, Near}
-use Rattle.distances_start.proofs.Shut.{Shut, reaches-keeps, spread-counts, none-far, reached-near, near-live, sure-spread, spread-here, shut-near}
+use Rattle.distances.specs.Far.{gone}
+use Rattle.distances.specs.Values.{fars, Reaches, as-was, reached, Spread, Opened, Near}
+use Rattle.distances.proofs.Shut.{Shut, reaches-keeps, spread-counts, none-far, reached-near, near-live, sure-spread, spread-here, shut-near}
 use Rattle.distances_tests.specs.Layers.{Done, Layered}
 
 module _ (S : System) (G : ℕ → Type 0) (table words : List ℕ) (r : ℕ) where

@@ -8,10 +8,10 @@ use lib.ListN.{length, getD, set, length-set}
 use lib.Seq.{getD-set-same, getD-set-other}
 use Rattle.ground.specs.Listed.{Between}
 use Rattle.meaning.specs.Promises.{mostStates}
-use Rattle.distances_start.specs.Far.{far, gone}
-use Rattle.distances_start.specs.Values.{Reaches, as-was, reached, Spread}
+use Rattle.distances.specs.Far.{far, gone}
+use Rattle.distances.specs.Values.{Reaches, as-was, reached, Spread}
 use Rattle.distances_tests.specs.Layers.{Listed, Sifted}
-use Rattle.distances_start.proofs.Spreads.{spread-none, spread-same, spread-was, spread-one}
+use Rattle.distances.proofs.Spreads.{spread-none, spread-same, spread-was, spread-one}
 
 -- a reason that holds at a place before the list's place i
 abbrev pub Looked : (P : ℕ → Type 0) (list : List ℕ) (i m : ℕ) → Type 0

@@ -7,9 +7,9 @@ use native.Mathlib.Omega.{arith}
 use lib.ListN.{length, getD}
 use Rattle.rules.specs.Book.{bookSystem}
 use Rattle.rules.specs.Table.{To}
-use Rattle.signs.specs.Signs.{Signed}
-use Rattle.distances_start.specs.Far.{far}
-use Rattle.distances_start.specs.Values.{Measurable, LinedUp, Spread, Opening}
+use Rattle.rules_signs.specs.Signs.{Signed}
+use Rattle.distances.specs.Far.{far}
+use Rattle.distances.specs.Values.{Measurable, LinedUp, Spread, Opening}
 use Rattle.distances_tests.specs.Layers.{Listed, Sifted, Layered, Served, Spreadable, LayerSifted, LayersDone}
 use Rattle.distances_tests.proofs.Layering.{
   layered-none,

@@ -9,9 +9,9 @@ use Rattle.meaning.specs.System.{System}
 use Rattle.meaning.specs.Promises.{mostStates}
 use Rattle.rules.specs.Book.{bookSystem}
 use Rattle.rules.specs.Table.{To}
-use Rattle.signs.specs.Signs.{Signed}
-use Rattle.distances_start.specs.Far.{far, gone}
-use Rattle.distances_start.specs.Values.{fars, LinedUp, Spread, Sure, Opening, Near}
+use Rattle.rules_signs.specs.Signs.{Signed}
+use Rattle.distances.specs.Far.{far, gone}
+use Rattle.distances.specs.Values.{fars, LinedUp, Spread, Sure, Opening, Near}
 
 -- the places not reached yet, and no other, are the first `left` of the list
 pub record Listed (r left : ℕ) (list near : List ℕ) : Type 0 where

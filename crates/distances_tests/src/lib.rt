@@ -9,9 +9,9 @@ ghost use lib.ListN.{length, getD};
 ghost use Rattle.ground.specs.Says.{Says};
 ghost use Rattle.rules.specs.Book.{bookSystem};
 ghost use Rattle.rules.specs.Table.{To};
-ghost use Rattle.signs.specs.Signs.{Signed};
-ghost use Rattle.distances_start.specs.Far.{Measured, gone};
-ghost use Rattle.distances_start.specs.Values.{Measurable, Near};
+ghost use Rattle.rules_signs.specs.Signs.{Signed};
+ghost use Rattle.distances.specs.Far.{Measured, gone};
+ghost use Rattle.distances.specs.Values.{Measurable, Near};
 ghost use Rattle.distances_tests.specs.Layers.{Listed, Sifted, Spreadable, LayerSifted, LayersDone, Done, Serves, Served};
 
 // Gives d to the listed places that move to place j, and closes the gaps that they leave in the list; how many places are left there.
@@ -35,7 +35,7 @@ fn spread(
     let mut i: usize = 0;
     while i < left {
         let x = list[i] as usize;
-        if signs::meets(book, table, r, signs, x, j) {
+        if rules_signs::meets(book, table, r, signs, x, j) {
             near[x] = d;
             i += 1;
         } else {
@@ -77,7 +77,7 @@ fn serves(
         return false;
     }
     if known(near, d, j, k) {
-        return signs::stricter(book, table, r, signs, k, j);
+        return rules_signs::stricter(book, table, r, signs, k, j);
     }
     false
 }
@@ -99,10 +99,10 @@ fn served(
     ensures { λ b. ⌜ (b ≡ true → Served (now (book .entry)) (now (table .entry)) r d j (now (near .entry)))
         × (length (now (places .exit)) ≡ length (now (places .entry))) ⌝ }
 {
-    if left <= signs::FEW_WAITING {
+    if left <= rules_signs::FEW_WAITING {
         return false;
     }
-    let q = signs::slot(signs, r, j, places.len());
+    let q = rules_signs::slot(signs, r, j, places.len());
     let k = places[q] as usize;
     if serves(book, table, r, d, j, k, near, signs) {
         return true;
@@ -194,13 +194,13 @@ fn measure(
     ensures { λ _. ⌜ Near (bookSystem (now (book .entry))) (bookSystem (now (book .entry)) .Kept k) (now (table .entry)) (now (words .entry)) r
         (now (near .exit)) × (length (now (list .exit)) ≡ length (now (list .entry))) ⌝ }
 {
-    distances_start::begin(book, k, table, words, r, near);
-    let left = distances_start::line_up(near, r, distances_start::FAR, list);
-    if left <= signs::FEW_WAITING {
+    distances::begin(book, k, table, words, r, near);
+    let left = distances::line_up(near, r, distances::FAR, list);
+    if left <= rules_signs::FEW_WAITING {
         let mut unused = [0u16; 1];
         layers(book, table, r, left, list, near, &mut unused, signs);
     } else {
-        let mut places = [0u16; signs::SLOTS];
+        let mut places = [0u16; rules_signs::SLOTS];
         layers(book, table, r, left, list, near, &mut places, signs);
     }
 }

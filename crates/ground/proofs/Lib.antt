@@ -5,3 +5,5 @@ pub mod Storing
 pub mod Wiping
 pub mod Bits
 pub mod Ones
+pub mod Writing
+pub mod Marking

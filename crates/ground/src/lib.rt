@@ -6,6 +6,9 @@ ghost use lib.ListN.{length, take};
 ghost use Rattle.meaning.specs.Promises.{over, zeros};
 ghost use Rattle.ground.specs.Wiping.{Wiped};
 
+pub mod marks;
+pub mod pieces;
+
 // A state, and a mask: a bit for each letter.
 pub type State = u32;
 

@@ -14,8 +14,8 @@ use Rattle.meaning.proofs.Sizes.{b-at-most}
 use Rattle.meaning.proofs.Written.{run-paper-bytes, strike-paper-bytes}
 use Rattle.runcheck.proofs.Exactly.{run-obeys-exactly, run-bytes-obey-exactly}
 use Rattle.strikecheck.proofs.Exactly.{strikes-accepted-exactly, strikes-bytes-accepted-exactly}
-use Rattle.ending.specs.declared.Judgement.{Judgement}
-use Rattle.ending.specs.Judging.{outcomeOf}
+use Rattle.judge_answer.specs.declared.Judgement.{Judgement}
+use Rattle.judge_answer.specs.Judging.{outcomeOf}
 use Rattle.judge.proofs.Corollaries.{run-left-accepted, strikes-left-are-list, strikes-left-accepted}
 
 module _ {sheet : List ℕ} {lent leaves : Lent} {r : Judgement} (judged : Judged sheet lent (outcomeOf r leaves)) where

@@ -12,8 +12,8 @@ use Rattle.meaning.specs.Sample.{RunPaper}
 use Rattle.meaning.specs.Papers.{RunAccepted, StrikesAccepted}
 use Rattle.meaning.specs.Promises.{systemIn, Lent, Outcome, Roomy, outcome, Judged}
 use Rattle.meaning.proofs.Demands.{RunFits, KeepsInTime, kept-hands-over, kept-run-accepted, cannot-hands-over, demand-2, demand-3, short-run-leaves}
-use Rattle.ending.specs.declared.Judgement.{Judgement}
-use Rattle.ending.specs.Judging.{outcomeOf}
+use Rattle.judge_answer.specs.declared.Judgement.{Judgement}
+use Rattle.judge_answer.specs.Judging.{outcomeOf}
 
 module _ {sheet : List ℕ} {lent leaves : Lent} {r : Judgement} (judged : Judged sheet lent (outcomeOf r leaves)) where
   -- Demand 2: with room for the states and the run, 0 exactly if an endless run obeys the sheet, 13 exactly if none does, and one of the two.

@@ -14,8 +14,8 @@ use Rattle.reader.proofs.Good.{Faulty}
 use Rattle.rules.specs.Book.{bookSystem}
 use Rattle.compile.specs.Promise.{BookOf}
 use Rattle.compile.proofs.Same.{book-system}
-use Rattle.ending.specs.declared.Judgement.{Judgement}
-use Rattle.ending.specs.Judging.{outcomeOf, refused, RoomFor, FoundBy, JudgedBy}
+use Rattle.judge_answer.specs.declared.Judgement.{Judgement}
+use Rattle.judge_answer.specs.Judging.{outcomeOf, refused, RoomFor, FoundBy, JudgedBy}
 
 -- A bad sheet gets the number and the place of its first fault, and nothing is changed.
 pub bad-judged : {sheet : List ℕ} {f : F.Fault} {n : ℕ} {j : Judgement} (lent : Lent) → Faulty sheet f → n ≡ whyNumber (f .why)

@@ -1,15 +1,15 @@
-// The judge: reads a sheet, compiles it into its book, and answers what `verdict` finds over that, in the slices that it was lent. Its promise is
+// The judge: reads a sheet, compiles it into its book, and answers what `judge_book` finds over that, in the slices that it was lent. Its promise is
 // `Judged` of the meaning; it asks nothing.
-pub use ending::Judgement;
-use ending::refusal;
 use ground::State;
+pub use judge_answer::Judgement;
+use judge_answer::refusal;
+use judge_book::judge_book;
 use reader::Answer;
-use verdict::judge_book;
 ghost use mathlib.Core.Path.{_≡_};
 ghost use mathlib.Core.Option.{none};
 ghost use Rattle.meaning.specs.Sheet.{firstFault};
 ghost use Rattle.meaning.specs.Promises.{Judged, JudgedOut};
-ghost use Rattle.ending.specs.Judging.{lentOf, outcomeOf};
+ghost use Rattle.judge_answer.specs.Judging.{lentOf, outcomeOf};
 
 // For a good sheet.
 fn judge_good(

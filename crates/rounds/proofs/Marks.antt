@@ -11,9 +11,9 @@ use lib.Seq.{length-take-le, getD-take}
 use Rattle.meaning.specs.System.{System, Reachable, Lists, Livable}
 use Rattle.meaning.specs.Strike.{SavedBy, reasonOf, wordOf, Left, Struck}
 use Rattle.meaning.proofs.Rounds.{left-reachable, left-earlier, saved-map, phase-word-rises, left-livable}
-use Rattle.distances_start.specs.Far.{UnstruckIn}
-use Rattle.distances_start.proofs.Totals.{total-less}
-use Rattle.deadends.specs.Phases.{Falls, was, stays, falls, Phased, Unphased}
+use Rattle.distances.specs.Far.{UnstruckIn}
+use Rattle.distances.proofs.Totals.{total-less}
+use Rattle.ends_tests.specs.Phases.{Falls, was, stays, falls, Phased, Unphased}
 
 -- 1 for an unstruck place
 abbrev freeAt : List ℕ → ℕ → ℕ

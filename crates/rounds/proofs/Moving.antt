@@ -12,11 +12,11 @@ use Rattle.ground.specs.Listed.{Between}
 use Rattle.ground.specs.Wiping.{Zeros}
 use Rattle.meaning.specs.Promises.{mostStates}
 use Rattle.rules.specs.Book.{bookSystem, promisesOf, bookKept}
-use Rattle.distances_start.specs.Far.{far, gone}
-use Rattle.distances_start.specs.Values.{keptIn}
-use Rattle.witness.specs.Witness.{Log, BegunRow}
-use Rattle.witness.specs.Turns.{FallsAt, was, keeps, falls, FellTo, Before, first, again, Watched}
-use Rattle.deadends.specs.Phases.{Phased}
+use Rattle.distances.specs.Far.{far, gone}
+use Rattle.distances.specs.Values.{keptIn}
+use Rattle.watch.specs.Witness.{Log, BegunRow}
+use Rattle.watch.specs.Turns.{FallsAt, was, keeps, falls, FellTo, Before, first, again, Watched}
+use Rattle.ends_tests.specs.Phases.{Phased}
 use Rattle.rounds.specs.Phases.{Strikable}
 use Rattle.rounds.specs.Rows.{rowOf, RoomForRows, Beginnable, BegunRows}
 use Rattle.rounds.proofs.Running.{free-all, strikable-lawful}

@@ -8,7 +8,7 @@ use native.Mathlib.Decide.{decLt}
 use lib.ListN.{length, getD, take, drop, length-drop, length-append, List·getD-append}
 use lib.Seq.{ext-getD, length-take-le, length-front, take-at, drop-at, getD-take, getD-drop, getD-append-add}
 use Rattle.rules.specs.Book.{promisesOf}
-use Rattle.witness.specs.Witness.{BegunRow}
+use Rattle.watch.specs.Witness.{BegunRow}
 use Rattle.rounds.specs.Rows.{rowOf, Beginnable, BegunRows}
 
 -- ---- where rows stand

@@ -18,8 +18,8 @@ use Rattle.meaning.specs.Strike.{reasonOf, wordOf, Left}
 use Rattle.rules.specs.Book.{bookSystem, promisesOf}
 use Rattle.rules.specs.Table.{LawfulTable}
 use Rattle.rules.proofs.Facts.{promises-are, reached-lawful}
-use Rattle.witness.specs.Witness.{freeIn}
-use Rattle.deadends.specs.Phases.{Phased, Unphased}
+use Rattle.watch.specs.Witness.{freeIn}
+use Rattle.ends_tests.specs.Phases.{Phased, Unphased}
 use Rattle.rounds.specs.Marked.{Word, unstruck, Marked}
 use Rattle.rounds.specs.Phases.{Strikable}
 use Rattle.rounds.proofs.Marks.{Mark, Standing, place-reachable, marks-unphased, standing-more, standing-livable}

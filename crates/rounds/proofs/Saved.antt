@@ -11,11 +11,11 @@ use Rattle.meaning.specs.System.{System}
 use Rattle.meaning.specs.Strike.{Way, SavedBy}
 use Rattle.rules.specs.Book.{bookSystem, bookKept}
 use Rattle.rules.specs.Table.{To}
-use Rattle.distances_start.specs.Far.{UnstruckIn, far, gone}
-use Rattle.distances_start.specs.Values.{keptIn}
-use Rattle.witness.specs.Witness.{HungIn, Log, freeIn}
-use Rattle.witness.specs.Turns.{FallsAt, was as was-so, keeps, falls as falls-so, Watched}
-use Rattle.deadends.specs.Phases.{Falls, was, stays, falls, Phased}
+use Rattle.distances.specs.Far.{UnstruckIn, far, gone}
+use Rattle.distances.specs.Values.{keptIn}
+use Rattle.watch.specs.Witness.{HungIn, Log, freeIn}
+use Rattle.watch.specs.Turns.{FallsAt, was as was-so, keeps, falls as falls-so, Watched}
+use Rattle.ends_tests.specs.Phases.{Falls, was, stays, falls, Phased}
 
 -- ---- the table's moves
 

@@ -1,3 +1,5 @@
 pub mod Marked
 pub mod Phases
 pub mod Rows
+pub mod Along
+pub mod Tests

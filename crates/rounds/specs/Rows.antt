@@ -6,7 +6,7 @@ use lib.ListN.{length, take, drop}
 use Rattle.meaning.specs.Promises.{mostStates}
 use Rattle.rules.specs.Book.{promisesOf}
 use Rattle.rules.specs.Table.{LawfulTable}
-use Rattle.witness.specs.Witness.{BegunRow}
+use Rattle.watch.specs.Witness.{BegunRow}
 
 -- the row of reason q
 abbrev pub rowOf : (r q : ℕ) → List ℕ → List ℕ

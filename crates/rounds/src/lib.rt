@@ -6,6 +6,9 @@ ghost use mathlib.Core.Logic.{_⊎_};
 ghost use Prim.Native.Nat.{_+_, _<_, _≤_, suc};
 ghost use Rattle.rounds.specs.Rows.{Beginnable, BegunRows};
 
+pub mod along;
+pub mod tests;
+
 // How many reasons there are at most, a dead end and each promise; and where the log is news from for one that had no phase yet: above every place.
 pub const REASONS: usize = 1 + ground::MOST_PROMISES;
 
@@ -30,7 +33,7 @@ pub fn begin_rows(book: &[State], table: &[State], r: usize, wit: &mut [u16])
     while k < p {
         let from = (k + 1) * r;
         let end = from + r;
-        witness::begin(book, k, table, &mut wit[from..end]);
+        watch::begin(book, k, table, &mut wit[from..end]);
         k += 1;
     }
 }

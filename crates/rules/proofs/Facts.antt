@@ -17,11 +17,6 @@ pub promises-are : (book : List ℕ) → bookSystem book .promises ≡ promisesO
 unfolding bookSystem
 promises-are book = refl
 
--- What the book's test takes for lawful is lawful.
-pub lawful-is : (book : List ℕ) (s : ℕ) → bookLawful book s ≡ true → bookSystem book .Lawful s
-unfolding bookSystem
-lawful-is book s e = passes (bookLawful book s) e
-
 -- A lawful state passes the book's test.
 pub lawful-true : (book : List ℕ) (s : ℕ) → bookSystem book .Lawful s → bookLawful book s ≡ true
 unfolding bookSystem

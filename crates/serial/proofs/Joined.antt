@@ -18,7 +18,7 @@ use Rattle.meaning.proofs.Writing.{sets-append, sets-past}
 use Rattle.serial.specs.declared.Lead.{Lead}
 use Rattle.serial.specs.Serial.{Open, fresh, counted, ended, Takes, added, late, Answers, read, over, Closes, ends, again}
 use Rattle.serial.specs.Serial.{joined, Feeds, FedFresh}
-use Rattle.pieces.proofs.Writing.{front-written}
+use Rattle.ground.proofs.Writing.{front-written}
 use Rattle.serial.proofs.Outcomes.{answers-met, takes-met}
 
 -- ---- what has come over a lead

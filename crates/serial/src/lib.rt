@@ -96,7 +96,7 @@ pub fn take(lead: Lead, sheet: &mut [u8; MOST_BYTES], piece: &[u8]) -> Taken
     }
     let taken = lead.taken;
     let at = taken as usize;
-    pieces::write(sheet, at, piece);
+    ground::pieces::write(sheet, at, piece);
     let after = count(taken, piece.len());
     Taken {
         answer: 0,

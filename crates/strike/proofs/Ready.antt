@@ -8,16 +8,16 @@ use Rattle.ground.specs.Wiping.{Zeros}
 use Rattle.meaning.specs.Promises.{mostStates}
 use Rattle.meaning.proofs.Lists.{rising-apart}
 use Rattle.rules.specs.Book.{promisesOf}
-use Rattle.stored.specs.Moves.{Storable}
-use Rattle.stored.proofs.Rows.{storable}
-use Rattle.web.specs.Web.{StoredRows, none, both}
-use Rattle.signs.specs.Signs.{headSize, Signed}
+use Rattle.moves.specs.Moves.{Storable}
+use Rattle.moves.proofs.Rows.{storable}
+use Rattle.moves_both.specs.Web.{StoredRows, none, both}
+use Rattle.rules_signs.specs.Signs.{Signed}
 use Rattle.rounds.specs.Phases.{Strikable}
 use Rattle.rounds.specs.Rows.{RoomForRows}
 use Rattle.rounds.proofs.Rows.{row-inside}
 use Rattle.rounds.proofs.Running.{strikable-lawful, strikable-rises}
-use Rattle.rounds_along.specs.Along.{AlongStored}
-use Rattle.rounds_tests.specs.Tests.{StrikableByTests}
+use Rattle.rounds.specs.Along.{AlongStored}
+use Rattle.rounds.specs.Tests.{StrikableByTests}
 
 -- ---- room
 
@@ -44,10 +44,6 @@ tests-strikable n A signed few small = record {
   roomed = rows-room n A few small;
   pointers = λ i h. getD-replicate (17 * n) i 0 0 (omega (arith, h, few));
 }
-
--- An array of zeros has room for the signs' head: its length comes by the law, too.
-pub lent-signs : (n : ℕ) → headSize ≤ n → headSize ≤ length (replicate {A = ℕ} n 0)
-lent-signs n enough = subst (λ (x : ℕ). headSize ≤ x) (sym (length-replicate {A = ℕ} n 0)) enough
 
 -- ---- stored moves
 

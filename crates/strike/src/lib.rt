@@ -7,42 +7,30 @@ use ground::State;
 use rounds::REASONS;
 ghost use Prim.Native.Nat.{_≤_};
 ghost use Rattle.ground.specs.Wiping.{Zeros};
-ghost use Rattle.signs.specs.Signs.{Signed};
-ghost use Rattle.stored.specs.Moves.{tinyStates, fewStates, someStates};
+ghost use Rattle.rules_signs.specs.Signs.{Signed};
+ghost use Rattle.moves.specs.Moves.{tinyStates, fewStates, someStates};
 ghost use Rattle.rounds.specs.Phases.{Strikable, Stricken};
-ghost use Rattle.rounds_along.specs.Along.{AlongStored};
+ghost use Rattle.rounds.specs.Along.{AlongStored};
 ghost use Rattle.strike.specs.Ways.{StrickenIfStored};
 
 // Room for a row of each reason.
-const TINY_ROWS: usize = REASONS * stored::TINY_STATES;
+const TINY_ROWS: usize = REASONS * moves::TINY_STATES;
 
-const FEW_ROWS: usize = REASONS * stored::FEW_STATES;
+const FEW_ROWS: usize = REASONS * moves::FEW_STATES;
 
-const SOME_ROWS: usize = REASONS * stored::SOME_STATES;
+const SOME_ROWS: usize = REASONS * moves::SOME_STATES;
 
 const MOST_ROWS: usize = REASONS * ground::MOST_STATES;
 
 // Room for the signs of few and some states: of 256 step rules for each state.
-const FEW_SIGNS: usize = signs::HEAD + stored::FEW_STATES * 8;
+const FEW_SIGNS: usize = rules_signs::HEAD + moves::FEW_STATES * 8;
 
-const SOME_SIGNS: usize = signs::HEAD + stored::SOME_STATES * 8;
+const SOME_SIGNS: usize = rules_signs::HEAD + moves::SOME_STATES * 8;
 
 // What striking along stored moves came to: how many states are left; or that there was no room for the moves.
 pub enum Struck {
     Left(usize),
     NotStored,
-}
-
-// Strikes very few states, from words that are all 0, by their signs.
-fn strike_tiny(book: &[State], table: &[State], words: &mut [u32], r: usize, signs: &[u64]) -> usize
-    requires { ⌜ Strikable (now book) (now table) (now words) r × Zeros (now words) r × Signed (now book) (now table) r (now signs)
-        × (r ≤ tinyStates) ⌝ }
-    ensures { λ left. ⌜ Stricken (now (book .entry)) (now (table .entry)) r (now (words .entry)) (now (words .exit)) left ⌝ }
-{
-    let mut wit = [0u16; TINY_ROWS];
-    let mut log = [0u16; stored::TINY_STATES];
-    let mut line = [0u16; stored::TINY_STATES];
-    rounds_tests::rounds_by_tests(book, table, words, r, signs, &mut wit, &mut log, &mut line)
 }
 
 // Gives each of the table's first r states, which are all reachable states and very few, its word, as `strike` does, by the signs of these
@@ -58,7 +46,10 @@ pub fn strike_signed(
     ensures { λ left. ⌜ Stricken (now (book .entry)) (now (table .entry)) r (now (words .entry)) (now (words .exit)) left ⌝ }
 {
     ground::wipe_front(words, r);
-    strike_tiny(book, table, words, r, signs)
+    let mut wit = [0u16; TINY_ROWS];
+    let mut log = [0u16; moves::TINY_STATES];
+    let mut line = [0u16; moves::TINY_STATES];
+    rounds::tests::rounds_by_tests(book, table, words, r, signs, &mut wit, &mut log, &mut line)
 }
 
 // Strikes few states, from words that are all 0, by tests of pairs.
@@ -67,11 +58,11 @@ fn strike_few(book: &[State], table: &[State], words: &mut [u32], r: usize) -> u
     ensures { λ left. ⌜ Stricken (now (book .entry)) (now (table .entry)) r (now (words .entry)) (now (words .exit)) left ⌝ }
 {
     let mut pairs = [0u64; FEW_SIGNS];
-    signs::fill(book, table, r, &mut pairs);
+    rules_signs::fill(book, table, r, &mut pairs);
     let mut wit = [0u16; FEW_ROWS];
-    let mut log = [0u16; stored::FEW_STATES];
-    let mut line = [0u16; stored::FEW_STATES];
-    rounds_tests::rounds_by_tests(book, table, words, r, &pairs, &mut wit, &mut log, &mut line)
+    let mut log = [0u16; moves::FEW_STATES];
+    let mut line = [0u16; moves::FEW_STATES];
+    rounds::tests::rounds_by_tests(book, table, words, r, &pairs, &mut wit, &mut log, &mut line)
 }
 
 // Strikes some states whose moves are not stored, from words that are all 0, by tests of pairs.
@@ -80,11 +71,11 @@ fn strike_some(book: &[State], table: &[State], words: &mut [u32], r: usize) -> 
     ensures { λ left. ⌜ Stricken (now (book .entry)) (now (table .entry)) r (now (words .entry)) (now (words .exit)) left ⌝ }
 {
     let mut pairs = [0u64; SOME_SIGNS];
-    signs::fill(book, table, r, &mut pairs);
+    rules_signs::fill(book, table, r, &mut pairs);
     let mut wit = [0u16; SOME_ROWS];
-    let mut log = [0u16; stored::SOME_STATES];
-    let mut line = [0u16; stored::SOME_STATES];
-    rounds_tests::rounds_by_tests(book, table, words, r, &pairs, &mut wit, &mut log, &mut line)
+    let mut log = [0u16; moves::SOME_STATES];
+    let mut line = [0u16; moves::SOME_STATES];
+    rounds::tests::rounds_by_tests(book, table, words, r, &pairs, &mut wit, &mut log, &mut line)
 }
 
 // Strikes any number of states whose moves are not stored, from words that are all 0, by tests of pairs.
@@ -92,12 +83,12 @@ fn strike_most(book: &[State], table: &[State], words: &mut [u32], r: usize) -> 
     requires { ⌜ Strikable (now book) (now table) (now words) r × Zeros (now words) r ⌝ }
     ensures { λ left. ⌜ Stricken (now (book .entry)) (now (table .entry)) r (now (words .entry)) (now (words .exit)) left ⌝ }
 {
-    let mut pairs = [0u64; signs::MOST];
-    signs::fill(book, table, r, &mut pairs);
+    let mut pairs = [0u64; rules_signs::MOST];
+    rules_signs::fill(book, table, r, &mut pairs);
     let mut wit = [0u16; MOST_ROWS];
     let mut log = [0u16; ground::MOST_STATES];
     let mut line = [0u16; ground::MOST_STATES];
-    rounds_tests::rounds_by_tests(book, table, words, r, &pairs, &mut wit, &mut log, &mut line)
+    rounds::tests::rounds_by_tests(book, table, words, r, &pairs, &mut wit, &mut log, &mut line)
 }
 
 // Strikes states whose moves are not stored, from words that are all 0, in as much room as they need.
@@ -105,7 +96,7 @@ fn strike_by_tests(book: &[State], table: &[State], words: &mut [u32], r: usize)
     requires { ⌜ Strikable (now book) (now table) (now words) r × Zeros (now words) r ⌝ }
     ensures { λ left. ⌜ Stricken (now (book .entry)) (now (table .entry)) r (now (words .entry)) (now (words .exit)) left ⌝ }
 {
-    if r <= stored::SOME_STATES {
+    if r <= moves::SOME_STATES {
         return strike_some(book, table, words, r);
     }
     strike_most(book, table, words, r)
@@ -126,7 +117,7 @@ fn strike_along(
     let mut wit = [0u16; MOST_ROWS];
     let mut log = [0u16; ground::MOST_STATES];
     let mut line = [0u16; ground::MOST_STATES];
-    rounds_along::rounds_along(
+    rounds::along::rounds_along(
         book,
         table,
         words,
@@ -145,9 +136,9 @@ fn strike_stored(book: &[State], table: &[State], words: &mut [u32], r: usize) -
     requires { ⌜ Strikable (now book) (now table) (now words) r × Zeros (now words) r ⌝ }
     ensures { λ s. ⌜ StrickenIfStored (now (book .entry)) (now (table .entry)) r (now (words .entry)) (now (words .exit)) s ⌝ }
 {
-    let mut forth = [0u16; stored::SIZE];
-    let mut back = [0u16; stored::SIZE];
-    let filled = web::store(book, table, r, &mut forth, &mut back);
+    let mut forth = [0u16; moves::SIZE];
+    let mut back = [0u16; moves::SIZE];
+    let filled = moves_both::store(book, table, r, &mut forth, &mut back);
     if filled == 0 {
         return Struck::NotStored;
     }
@@ -178,7 +169,7 @@ pub fn strike(book: &[State], table: &[State], words: &mut [u32], r: usize) -> u
     ensures { λ left. ⌜ Stricken (now (book .entry)) (now (table .entry)) r (now (words .entry)) (now (words .exit)) left ⌝ }
 {
     ground::wipe_front(words, r);
-    if r <= stored::FEW_STATES {
+    if r <= moves::FEW_STATES {
         return strike_few(book, table, words, r);
     }
     strike_many(book, table, words, r)

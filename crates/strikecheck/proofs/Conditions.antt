@@ -12,9 +12,9 @@ use Rattle.meaning.specs.Papers.{StrikesAccepted}
 use Rattle.ground.proofs.Saying.{says-as}
 use Rattle.ground.specs.Says.{Says}
 use Rattle.rules.specs.Book.{Shaped, bookSystem, promisesOf}
-use Rattle.apart.specs.Apart.{Different}
-use Rattle.covers.specs.Asks.{AllLawful, FirstsListed, StatesAsk}
-use Rattle.entries.specs.Entries.{Rising, EntriesOk}
+use Rattle.strikes_apart.specs.Apart.{Different}
+use Rattle.strikes_covers.specs.Asks.{AllLawful, FirstsListed, StatesAsk}
+use Rattle.strikes_entries.specs.Entries.{Rising, EntriesOk}
 use Rattle.strikecheck.specs.Strikes.{ReasonsFit}
 
 -- ---- words that never fall

@@ -4,9 +4,6 @@
 // The theorem: each call returns the fault's number, 1 to 10, of a bad sheet; else 0 exactly if document 01 accepts the paper, else 14.
 // On numbers it returns the fault's place as well, 0 on the other answers. (`check_strikes` and `check_strikes_bytes` below;
 // that 0 leaves no obeying run is said in proofs/Exactly.antt.)
-use apart::all_different;
-use covers::firsts_listed;
-use entries::entries_right;
 use papers::STATE_BYTES;
 use papers::State;
 use papers::WORD_BYTES;
@@ -16,6 +13,9 @@ use papers::states_in;
 use papers::word_at;
 use papers::words_in;
 use reader::Answer;
+use strikes_apart::all_different;
+use strikes_covers::firsts_listed;
+use strikes_entries::entries_right;
 ghost use mathlib.Core.Path.{_≡_};
 ghost use mathlib.Core.Option.{none};
 ghost use Rattle.meaning.specs.Sheet.{firstFault};
@@ -23,8 +23,8 @@ ghost use Rattle.meaning.specs.Promises.{Placed, StrikesPlaced, StrikesBytesChe
 ghost use Rattle.ground.specs.Says.{Says};
 ghost use Rattle.papers.specs.Paper.{statesOf, wordsOf};
 ghost use Rattle.rules.specs.Book.{Shaped, bookSystem};
-ghost use Rattle.covers.specs.Asks.{AllLawful};
-ghost use Rattle.entries.specs.Entries.{Rising};
+ghost use Rattle.strikes_covers.specs.Asks.{AllLawful};
+ghost use Rattle.strikes_entries.specs.Entries.{Rising};
 ghost use Rattle.strikecheck.specs.Strikes.{ReasonsFit, Accepted, PaperChecked};
 
 // Checks a strike list. 0 exactly if document 01 accepts it (then no run obeys the sheet), 1 to 10 for a bad sheet and the place of its fault,

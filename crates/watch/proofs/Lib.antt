@@ -1,6 +1,9 @@
-pub mod Redirecting
-pub mod Seeking
-pub mod Asking
-pub mod Spreading
-pub mod Rehanging
-pub mod Ending
+pub mod Sums
+pub mod Weights
+pub mod Beginning
+pub mod Turning
+pub mod Loosening
+pub mod Helped
+pub mod Hooked
+pub mod Falling
+pub mod Phasing

@@ -1,2 +1,2 @@
-pub mod Along
-pub mod Ends
+pub mod Witness
+pub mod Turns

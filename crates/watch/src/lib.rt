@@ -1,240 +1,103 @@
-// Watching a promise along stored moves. A phase looks again only at places whose witnesses were cut by a strike since the promise's last phase, and
-// at those that hang on them; who finds no new witness falls.
-use witness::NOBODY;
-use witness::fall;
-use witness::is_helped;
-use witness::is_so;
-use witness::list_alone;
-ghost use mathlib.Core.Path.{_≡_};
-ghost use mathlib.Core.List.{List};
-ghost use Prim.Native.Nat.{ℕ, _+_, _<_, _≤_};
+// Witnesses, whichever way moves are known. Each unstruck place has a witness: it keeps the promise itself, or it names a next place whose witnesses
+// lead on to one that does. Here is what watching along stored moves (crate watch) and watching by tests (crate watch_tests) share: how a row of
+// witnesses begins, the tests of one place, who stands alone before the first phase, and who falls. The struck places stand in a log, in the order
+// in which they fell.
+use ground::State;
+ghost use Prim.Native.Nat.{_<_, _≤_};
 ghost use lib.ListN.{length};
 ghost use Rattle.meaning.specs.Promises.{mostStates};
-ghost use Rattle.stored.specs.Layout.{Linked, Backed};
-ghost use Rattle.distances_start.specs.Far.{far};
-ghost use Rattle.witness.specs.Witness.{Rested, Hangable, Rehung};
-ghost use Rattle.witness.specs.Turns.{countAt, Redirected, Loosened, HelperIn, HelperFor, Line, Before, Watched};
-ghost use Rattle.watch.specs.Along.{Leads, Readable, Walkable, Woven, Redirectable, Passable, InLine, Hanging, Askable, Asked, Watching};
+ghost use Rattle.rules.specs.Book.{Shaped, promisesOf};
+ghost use Rattle.watch.specs.Witness.{BegunRow, Fresh};
+ghost use Rattle.watch.specs.Turns.{IsSo, Helps, Loosened, Fallable, FellTo};
 
-pub mod ends;
+// Nobody helps a place; or it keeps the promise itself. Every place's number is less.
+pub const NOBODY: u16 = 65535;
 
-// Of the places on the chain that begins with place c, gives `to` to the unstruck ones whose number is `was`, and puts them into the line behind
-// its first n; how long the line then is.
-fn redirect_chain(
-    words: &[u32],
-    row: &mut [u16],
-    back: &[u16],
-    c: usize,
-    was: u16,
-    to: u16,
-    line: &mut [u16],
-    n: usize,
-) -> usize
-    requires { ⌜ Passable (now words) (now row) (now back) was to (now line) n × (c < length (now row)) ⌝ }
-    ensures { λ m. ⌜ Redirected (λ i. Linked (now (back .entry)) c i) (now (words .entry)) was to (now (row .entry)) (now (row .exit)) n
-        (now (line .entry)) (now (line .exit)) m ⌝ }
+pub const ITSELF: u16 = 65534;
+
+// What each place begins with: it keeps promise k, counted from 0, or nobody helps it yet.
+pub fn begin(book: &[State], k: usize, table: &[State], row: &mut [u16])
+    requires { ⌜ Shaped (now book) × (k < promisesOf (now book)) × (length (now row) ≤ length (now table)) ⌝ }
+    ensures { λ _. ⌜ BegunRow (now (book .entry)) k (now (table .entry)) (now (row .entry)) (now (row .exit)) ⌝ }
 {
-    let r = row.len();
-    let mut tail = n;
-    let mut i = c;
-    while i < r {
-        if is_so(words, row, i, was) {
-            row[i] = to;
-            line[tail] = i as u16;
-            tail += 1;
-            i = stored::link(back, i);
+    let mut i: usize = 0;
+    while i < row.len() {
+        if rules::kept(book, k, table[i]) {
+            row[i] = ITSELF;
+            i += 1;
         } else {
-            i = stored::link(back, i);
+            row[i] = NOBODY;
+            i += 1;
         }
     }
-    tail
 }
 
-// Of the places that move to place t, gives `to` to the unstruck ones whose number is `was`, and puts them into the line behind its first n; how
-// long the line then is.
-fn redirect(
-    words: &[u32],
-    row: &mut [u16],
-    back: &[u16],
-    t: usize,
-    was: u16,
-    to: u16,
-    line: &mut [u16],
-    n: usize,
-) -> usize
-    requires { ⌜ Redirectable (now words) (now row) (now back) t was to (now line) n ⌝ }
-    ensures { λ m. ⌜ Redirected (λ i. Backed (now (back .entry)) i t) (now (words .entry)) was to (now (row .entry)) (now (row .exit)) n
-        (now (line .entry)) (now (line .exit)) m ⌝ }
+// Whether place i is unstruck and its number is `was`.
+pub fn is_so(words: &[u32], row: &[u16], i: usize, was: u16) -> bool
+    requires { ⌜ (i < length (now words)) × (i < length (now row)) ⌝ }
+    ensures { λ b. ⌜ IsSo (now (words .entry)) (now (row .entry)) i was b ⌝ }
 {
-    let end = stored::row_end(back, t);
-    let mut tail = n;
-    let mut e = stored::row_start(back, t);
-    while e < end {
-        let c = stored::cell(back, e);
-        tail = redirect_chain(words, row, back, c, was, to, line, tail);
-        e += 1;
+    if row[i] == was {
+        return words[i] == 0;
     }
-    tail
+    false
 }
 
-// Cuts off who hangs on a place that was struck since, or on one that is cut off: these stand in the log behind its first m, up to the place
-// returned.
-fn loosen(
-    words: &[u32],
-    row: &mut [u16],
-    back: &[u16],
-    log: &mut [u16],
-    from: usize,
-    m: usize,
-) -> usize
-    requires { ⌜ Rested (now words) (now row) (Backed (now back)) (now log) from m × Walkable (now back) (length (now row))
-        × (length (now log) ≤ mostStates) ⌝ }
-    ensures { λ tail. ⌜ Loosened (now (words .entry)) (now (row .entry)) (now (row .exit)) (now (log .entry)) (now (log .exit)) m tail ⌝ }
+// Whether place j is unstruck and has a witness.
+pub fn is_helped(words: &[u32], row: &[u16], j: usize) -> bool
+    requires { ⌜ (j < length (now words)) × (j < length (now row)) ⌝ }
+    ensures { λ b. ⌜ Helps (now (words .entry)) (now (row .entry)) j b ⌝ }
+{
+    if words[j] == 0 {
+        return row[j] != NOBODY;
+    }
+    false
+}
+
+// Before the promise's first phase: all unstruck places that nobody helps, behind the log's first m.
+pub fn list_alone(words: &[u32], row: &[u16], log: &mut [u16], m: usize) -> usize
+    requires { ⌜ Fresh (now words) (now row) (now log) m × (length (now log) ≤ mostStates) ⌝ }
+    ensures { λ tail. ⌜ Loosened (now (words .entry)) (now (row .entry)) (now (row .entry)) (now (log .entry)) (now (log .exit)) m tail ⌝ }
 {
     let mut tail = m;
-    let mut h = from;
-    while h < tail {
-        let t = log[h];
-        let place = t as usize;
-        tail = redirect(words, row, back, place, t, NOBODY, log, tail);
-        h += 1;
+    let mut i: usize = 0;
+    while i < row.len() {
+        if is_so(words, row, i, NOBODY) {
+            log[tail] = i as u16;
+            tail += 1;
+            i += 1;
+        } else {
+            i += 1;
+        }
     }
     tail
 }
 
-// The places that need a witness, behind the log's first m: before the first phase, when `from` is above m, all without one; else those cut off.
-fn lost(
-    words: &[u32],
-    row: &mut [u16],
-    back: &[u16],
+// Strikes the unstruck places without a witness, which all stand in the log from m up to `tail`; how long the log then is.
+pub fn fall(
+    words: &mut [u32],
+    row: &[u16],
     log: &mut [u16],
-    from: usize,
-    m: usize,
-) -> usize
-    requires { ⌜ Before (now words) (now row) (Backed (now back)) (now log) from m × Walkable (now back) (length (now row))
-        × (length (now log) ≤ mostStates) ⌝ }
-    ensures { λ tail. ⌜ Loosened (now (words .entry)) (now (row .entry)) (now (row .exit)) (now (log .entry)) (now (log .exit)) m tail ⌝ }
-{
-    if m < from {
-        return list_alone(words, row, log, m);
-    }
-    loosen(words, row, back, log, from, m)
-}
-
-// The first next place of place i that is unstruck and has a witness, or the row's length.
-fn seek_helper(words: &[u32], row: &[u16], forth: &[u16], i: usize) -> usize
-    requires { ⌜ Readable (now forth) (length (now row)) × (i < length (now row)) × (length (now row) ≤ length (now words)) ⌝ }
-    ensures { λ j. ⌜ HelperIn (now (words .entry)) (now (row .entry)) (Leads (now (forth .entry))) i j ⌝ }
-{
-    let end = stored::row_end(forth, i);
-    let mut e = stored::row_start(forth, i);
-    while e < end {
-        let j = stored::cell(forth, e);
-        if is_helped(words, row, j) {
-            return j;
-        }
-        e += 1;
-    }
-    row.len()
-}
-
-// The same if place i is unstruck and has no witness; the row's length if not.
-fn helper(words: &[u32], row: &[u16], forth: &[u16], i: usize) -> usize
-    requires { ⌜ Readable (now forth) (length (now row)) × (i < length (now row)) × (length (now row) ≤ length (now words)) ⌝ }
-    ensures { λ j. ⌜ HelperFor (now (words .entry)) (now (row .entry)) (Leads (now (forth .entry))) i j ⌝ }
-{
-    if is_so(words, row, i, NOBODY) {
-        return seek_helper(words, row, forth, i);
-    }
-    row.len()
-}
-
-// Hangs those of the log's places from m up to `tail` that have a helper on it, and puts them into the line; how many those are.
-fn ask(
-    words: &[u32],
-    row: &mut [u16],
-    forth: &[u16],
-    log: &[u16],
     m: usize,
     tail: usize,
-    line: &mut [u16],
+    word: u32,
 ) -> usize
-    requires { ⌜ Askable (now words) (now row) (now forth) (now log) m tail (now line) ⌝ }
-    ensures { λ n. ⌜ Asked (now (words .entry)) (now (row .entry)) (now (row .exit)) (now (forth .entry)) (now (log .entry)) m tail
-        (now (line .entry)) (now (line .exit)) n ⌝ }
+    requires { ⌜ Fallable (now words) (now row) (now log) m tail word × (length (now log) ≤ mostStates) ⌝ }
+    ensures { λ end. ⌜ FellTo (now (row .entry)) word (now (words .entry)) (now (words .exit)) (now (log .entry)) (now (log .exit)) m end ⌝ }
 {
-    let mut n: usize = 0;
+    let mut end = m;
     let mut g = m;
     while g < tail {
-        let i = log[g] as usize;
-        let j = helper(words, row, forth, i);
-        if j < row.len() {
-            row[i] = j as u16;
-            line[n] = i as u16;
-            n += 1;
+        let t = log[g];
+        let i = t as usize;
+        if is_so(words, row, i, NOBODY) {
+            words[i] = word;
+            log[end] = t;
+            end += 1;
             g += 1;
         } else {
             g += 1;
         }
     }
-    n
-}
-
-// From each place of the line in turn, hangs the places on it that move to it and have no witness, and puts them into the line.
-fn spread(words: &[u32], row: &mut [u16], back: &[u16], line: &mut [u16], n: usize)
-    requires { ⌜ Walkable (now back) (length (now row)) × (length (now row) ≤ length (now words)) × Line (now row) (now line) × (n ≤ length (now line))
-        × InLine (now words) (now row) (now line) n × (n + countAt far (now words) (now row) ≤ length (now line)) ⌝ }
-    ensures { λ _. ⌜ ((old : List ℕ) → Hanging (now (words .entry)) old (now (row .entry)) (Backed (now (back .entry))) (now (line .entry)) 0 n
-        → Rehung (now (words .entry)) old (now (row .exit)) (Backed (now (back .entry)))) × (length (now (row .exit)) ≡ length (now (row .entry)))
-        × (length (now (line .exit)) ≡ length (now (line .entry))) ⌝ }
-{
-    let mut tail = n;
-    let mut head: usize = 0;
-    while head < tail {
-        let t = line[head];
-        let place = t as usize;
-        tail = redirect(words, row, back, place, NOBODY, t, line, tail);
-        head += 1;
-    }
-}
-
-// Gives the places in the log from m up to `tail` a witness, where there is one.
-fn rehang(
-    words: &[u32],
-    row: &mut [u16],
-    forth: &[u16],
-    back: &[u16],
-    log: &[u16],
-    m: usize,
-    tail: usize,
-    line: &mut [u16],
-)
-    requires { ⌜ Woven (length (now row)) (now forth) (now back) × Hangable (now words) (now row) (Backed (now back)) (now log) m tail
-        × Line (now row) (now line) × (length (now log) ≤ mostStates) ⌝ }
-    ensures { λ _. ⌜ Rehung (now (words .entry)) (now (row .entry)) (now (row .exit)) (Backed (now (back .entry)))
-        × (length (now (line .exit)) ≡ length (now (line .entry))) ⌝ }
-{
-    let n = ask(words, row, forth, log, m, tail, line);
-    spread(words, row, back, line, n);
-}
-
-// One phase of a promise: strikes together the places from which no witnesses lead on to it; how long the log then is.
-pub fn phase(
-    words: &mut [u32],
-    row: &mut [u16],
-    forth: &[u16],
-    back: &[u16],
-    log: &mut [u16],
-    m: usize,
-    from: usize,
-    line: &mut [u16],
-    word: u32,
-) -> usize
-    requires { ⌜ Watching (now words) (now row) (now forth) (now back) (now log) (now line) m from word ⌝ }
-    ensures { λ end. ⌜ Watched (now (words .entry)) (now (words .exit)) (now (row .entry)) (now (row .exit)) (Backed (now (back .entry)))
-        (now (log .entry)) (now (log .exit)) m end word × (length (now (line .exit)) ≡ length (now (line .entry))) ⌝ }
-{
-    let tail = lost(words, row, back, log, from, m);
-    rehang(words, row, forth, back, log, m, tail, line);
-    fall(words, row, log, m, tail, word)
+    end
 }

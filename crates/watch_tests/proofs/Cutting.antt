@@ -10,14 +10,14 @@ use lib.ListN.{length, getD, set, length-set}
 use lib.Seq.{getD-set-same, getD-set-other}
 use Rattle.ground.specs.Listed.{Between}
 use Rattle.meaning.specs.Promises.{mostStates}
-use Rattle.distances_start.specs.Far.{far}
-use Rattle.witness.specs.Witness.{freeIn, Rested}
-use Rattle.witness.specs.Turns.{weight, unstruckAt, countAt, Helps}
+use Rattle.distances.specs.Far.{far}
+use Rattle.watch.specs.Witness.{freeIn, Rested}
+use Rattle.watch.specs.Turns.{weight, unstruckAt, countAt, Helps}
 use Rattle.watch_tests.specs.Tests.{IsCut, Cuttable, CutBelow}
-use Rattle.witness.proofs.Beginning.{no-both}
-use Rattle.witness.proofs.Sums.{weighs-one, weighs-none, two-counts}
-use Rattle.witness.proofs.Weights.{weight-turn, count-turn}
-use Rattle.witness.proofs.Loosening.{Loosening}
+use Rattle.watch.proofs.Beginning.{no-both}
+use Rattle.watch.proofs.Sums.{weighs-one, weighs-none, two-counts}
+use Rattle.watch.proofs.Weights.{weight-turn, count-turn}
+use Rattle.watch.proofs.Loosening.{Loosening}
 
 -- ---- whether a place hangs on a lost one
 

@@ -9,11 +9,11 @@ use lib.ListN.{length, getD, set, length-set}
 use lib.Seq.{getD-set-same, getD-set-other}
 use Rattle.ground.specs.Listed.{Between}
 use Rattle.meaning.specs.Promises.{mostStates}
-use Rattle.distances_start.specs.Far.{far}
-use Rattle.witness.specs.Witness.{Fresh}
-use Rattle.witness.specs.Turns.{Loosened, Line}
+use Rattle.distances.specs.Far.{far}
+use Rattle.watch.specs.Witness.{Fresh}
+use Rattle.watch.specs.Turns.{Loosened, Line}
 use Rattle.watch_tests.specs.Tests.{Fronted}
-use Rattle.witness.proofs.Falling.{stands-still, Alone, alone-none, alone-inside, alone-more, alone-past, alone-done}
+use Rattle.watch.proofs.Falling.{stands-still, Alone, alone-none, alone-inside, alone-more, alone-past, alone-done}
 
 -- ---- those with a witness stand in front
 

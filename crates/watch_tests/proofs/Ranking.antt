@@ -8,8 +8,8 @@ use native.Mathlib.Omega.{arith}
 use lib.ListN.{length, getD, set, length-set}
 use lib.Seq.{getD-set-same, getD-set-other}
 use Rattle.ground.specs.Listed.{Between}
-use Rattle.distances_start.specs.Far.{far}
-use Rattle.witness.specs.Witness.{Hangable}
+use Rattle.distances.specs.Far.{far}
+use Rattle.watch.specs.Witness.{Hangable}
 use Rattle.watch_tests.specs.Tests.{Brought, Fronted, Copied, Ranked, Pending}
 
 -- ---- two numbers of the line change places

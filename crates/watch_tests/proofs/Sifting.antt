@@ -10,12 +10,12 @@ use lib.ListN.{length, getD, set, length-set, replicate, length-replicate, getD-
 use lib.Seq.{getD-set-same, getD-set-other, set-out}
 use Rattle.ground.specs.Listed.{Between}
 use Rattle.meaning.specs.Promises.{mostStates}
-use Rattle.signs.specs.Signs.{Signed}
-use Rattle.distances_start.specs.Far.{far}
-use Rattle.witness.specs.Witness.{Hangs, Rehung}
-use Rattle.witness.specs.Turns.{HelperFor, found, not-found}
+use Rattle.rules_signs.specs.Signs.{Signed}
+use Rattle.distances.specs.Far.{far}
+use Rattle.watch.specs.Witness.{Hangs, Rehung}
+use Rattle.watch.specs.Turns.{HelperFor, found, not-found}
 use Rattle.watch_tests.specs.Tests.{Brought, Ranked, Pending, Shut, Seen, Noted, Spreading, Testable}
-use Rattle.witness.proofs.Hooked.{Hooks, as-was, hooked, hangs-hooked}
+use Rattle.watch.proofs.Hooked.{Hooks, as-was, hooked, hangs-hooked}
 use Rattle.watch_tests.proofs.Ranking.{brought-behind, brought-front, brought-here, brought-later, brought-from, brought-tested}
 
 -- ---- rows that differ only in whom places hang on

@@ -10,14 +10,14 @@ use lib.ListN.{length, getD, set}
 use Rattle.ground.specs.Says.{Says}
 use Rattle.meaning.specs.Promises.{mostStates}
 use Rattle.rules.specs.Table.{To}
-use Rattle.signs.specs.Signs.{Signed}
-use Rattle.distances_start.specs.Far.{far}
-use Rattle.witness.specs.Witness.{Rested, Hangs, Hangable}
-use Rattle.witness.specs.Turns.{IsSo, Helps, HelperIn, someone, no-one, Turnable, Redirected, Loosened, Line, Before, first}
+use Rattle.rules_signs.specs.Signs.{Signed}
+use Rattle.distances.specs.Far.{far}
+use Rattle.watch.specs.Witness.{Rested, Hangs, Hangable}
+use Rattle.watch.specs.Turns.{IsSo, Helps, HelperIn, someone, no-one, Turnable, Redirected, Loosened, Line, Before, first}
 use Rattle.watch_tests.specs.Tests.{Anywhere, Fronted, Copied, Spreading, Testable, HelpsIt, JoinsIt, WatchingByTests}
-use Rattle.witness.proofs.Beginning.{no-both}
-use Rattle.witness.proofs.Turning.{redirects-same, redirected-by, turned-none, place-past, place-room, place-more}
-use Rattle.witness.proofs.Phasing.{before-fresh, before-log, lost-hangable}
+use Rattle.watch.proofs.Beginning.{no-both}
+use Rattle.watch.proofs.Turning.{redirects-same, redirected-by, turned-none, place-past, place-room, place-more}
+use Rattle.watch.proofs.Phasing.{before-fresh, before-log, lost-hangable}
 use Rattle.watch_tests.proofs.Ranking.{copied-ranked, fronted-pending}
 use Rattle.watch_tests.proofs.Sifting.{testable-same}
 

@@ -9,10 +9,10 @@ use lib.ListN.{length, getD}
 use Rattle.ground.specs.Listed.{Between}
 use Rattle.meaning.specs.Promises.{mostStates}
 use Rattle.rules.specs.Table.{To}
-use Rattle.signs.specs.Signs.{Signed}
-use Rattle.distances_start.specs.Far.{far}
-use Rattle.witness.specs.Witness.{Hangs, freeIn}
-use Rattle.witness.specs.Turns.{Line, Before, countAt}
+use Rattle.rules_signs.specs.Signs.{Signed}
+use Rattle.distances.specs.Far.{far}
+use Rattle.watch.specs.Witness.{Hangs, freeIn}
+use Rattle.watch.specs.Turns.{Line, Before, countAt}
 
 -- every place may move to every other: more need not be known for cutting off
 abbrev pub Anywhere : (i j : ℕ) → Type 0

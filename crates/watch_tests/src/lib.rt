@@ -1,10 +1,10 @@
 // Watching a promise by tests of pairs, where the moves are too many to be stored. A phase looks again only at places whose witnesses were cut by
 // a strike since the promise's last phase. The line holds first the places to be spread from, and behind them those that stand alone.
 use ground::State;
-use witness::NOBODY;
-use witness::fall;
-use witness::is_helped;
-use witness::is_so;
+use watch::NOBODY;
+use watch::fall;
+use watch::is_helped;
+use watch::is_so;
 ghost use mathlib.Core.Path.{_≡_};
 ghost use mathlib.Core.Bool.{true};
 ghost use mathlib.Core.List.{List};
@@ -12,9 +12,9 @@ ghost use Prim.Native.Nat.{ℕ, _+_, _<_, _≤_};
 ghost use lib.ListN.{length, getD};
 ghost use Rattle.meaning.specs.Promises.{mostStates};
 ghost use Rattle.rules.specs.Table.{To};
-ghost use Rattle.signs.specs.Signs.{Roomed, Signed};
-ghost use Rattle.witness.specs.Witness.{Fresh, Rested, Hangs, Hangable, Rehung};
-ghost use Rattle.witness.specs.Turns.{Turnable, Redirected, Loosened, HelperIn, HelperFor, Line, Watched};
+ghost use Rattle.rules_signs.specs.Signs.{Roomed, Signed};
+ghost use Rattle.watch.specs.Witness.{Fresh, Rested, Hangs, Hangable, Rehung};
+ghost use Rattle.watch.specs.Turns.{Turnable, Redirected, Loosened, HelperIn, HelperFor, Line, Watched};
 ghost use Rattle.watch_tests.specs.Tests.{Anywhere, IsCut, Cuttable, CutBelow, Brought, Fronted, Copied, Ranked, Shut, Seen, Noted};
 ghost use Rattle.watch_tests.specs.Tests.{Spreading, Testable, HelpsIt, JoinsIt, WatchingByTests};
 
@@ -177,7 +177,7 @@ fn helps(
     ensures { λ b. ⌜ HelpsIt (now (words .entry)) (now (row .entry)) (To (now (book .entry)) (now (table .entry))) i j b ⌝ }
 {
     if is_helped(words, row, j) {
-        return signs::meets(book, table, row.len(), signs, i, j);
+        return rules_signs::meets(book, table, row.len(), signs, i, j);
     }
     false
 }
@@ -269,7 +269,7 @@ fn joins(
     ensures { λ b. ⌜ JoinsIt (now (words .entry)) (now (row .entry)) (To (now (book .entry)) (now (table .entry))) i t b ⌝ }
 {
     if is_so(words, row, i, NOBODY) {
-        return signs::meets(book, table, row.len(), signs, i, t);
+        return rules_signs::meets(book, table, row.len(), signs, i, t);
     }
     false
 }
@@ -333,16 +333,16 @@ fn is_shut(
     ensures { λ b. ⌜ (b ≡ true → (words : List ℕ) → Seen words (now (row .entry)) (To (now (book .entry)) (now (table .entry))) (now (seen .entry))
         → Shut words (now (row .entry)) (To (now (book .entry)) (now (table .entry))) t) ⌝ }
 {
-    if left <= signs::FEW_WAITING {
+    if left <= rules_signs::FEW_WAITING {
         return false;
     }
     let r = row.len();
-    let q = signs::slot(signs, r, t, seen.len());
+    let q = rules_signs::slot(signs, r, t, seen.len());
     let noted = wide(seen[q]);
     if noted > 0 {
         let place = noted - 1;
         if place < r {
-            return signs::stricter(book, table, r, signs, place, t);
+            return rules_signs::stricter(book, table, r, signs, place, t);
         }
     }
     false
@@ -354,10 +354,10 @@ fn note(signs: &[u64], r: usize, seen: &mut [u16], t: usize, left: usize)
     requires { ⌜ Roomed r (now signs) × (t < r) × (r ≤ mostStates) × (0 < length (now seen)) ⌝ }
     ensures { λ _. ⌜ Noted (now (seen .entry)) (now (seen .exit)) t ⌝ }
 {
-    if left <= signs::FEW_WAITING {
+    if left <= rules_signs::FEW_WAITING {
         return;
     }
-    let q = signs::slot(signs, r, t, seen.len());
+    let q = rules_signs::slot(signs, r, t, seen.len());
     let noted = t + 1;
     seen[q] = noted as u16;
 }
@@ -417,12 +417,12 @@ fn spread(
         × (length (now (line .exit)) ≡ length (now (line .entry))) ⌝ }
 {
     let left = k - n;
-    if left <= signs::FEW_WAITING {
+    if left <= rules_signs::FEW_WAITING {
         let mut slot = [0u16; 1];
         spread_noting(book, table, words, row, signs, line, n, k, &mut slot);
         return;
     }
-    let mut slots = [0u16; signs::SLOTS];
+    let mut slots = [0u16; rules_signs::SLOTS];
     spread_noting(book, table, words, row, signs, line, n, k, &mut slots);
 }
 

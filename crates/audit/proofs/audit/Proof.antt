@@ -2,7 +2,7 @@
 use mathlib.Core.Path.{refl, _∙_}
 use native.Mathlib.Omega.{arith}
 use Rattle.reader.proofs.Good.{told}
-use Rattle.accounts.specs.Carry.{faulty}
+use Rattle.audit_account.specs.Carry.{faulty}
 use borrow.Author.Needs.{needs}
 use Rattle.audit.proofs.audit.Statement.{statement}
 use Rattle.audit.proofs.audit.Tie as tie

@@ -1,8 +1,8 @@
 -- Refused whole, or carried on by the compiled sheet. Assumes nothing.
 use mathlib.Core.Path.{refl, _∙_}
-use Rattle.accounts.specs.Carry.{past, done}
-use Rattle.accounts.proofs.Telling.{carriable}
-use Rattle.accounts.proofs.Compiled.{book-carried}
+use Rattle.audit_account.specs.Carry.{past, done}
+use Rattle.audit_account.proofs.Telling.{carriable}
+use Rattle.audit_account.proofs.Compiled.{book-carried}
 use borrow.Author.Needs.{needs}
 use Rattle.audit.proofs.audit_good.Statement.{statement}
 use Rattle.audit.proofs.audit_good.Tie as tie

@@ -4,7 +4,7 @@ use mathlib.Core.Logic.{inl}
 use mir.Facts.{clash}
 use borrow.Author.Tests.{ltb-true, ltb-false}
 use Rattle.ground.proofs.Saying.{says-yes}
-use Rattle.accounts.proofs.Telling.{past-with}
+use Rattle.audit_account.proofs.Telling.{past-with}
 use borrow.Author.Needs.{needs}
 use Rattle.audit.proofs.count_past.Statement.{statement}
 use Rattle.audit.proofs.count_past.Tie as tie

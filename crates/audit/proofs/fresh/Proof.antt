@@ -1,6 +1,6 @@
 -- Assumes nothing.
 use mathlib.Core.Path.{refl}
-use Rattle.accounts.specs.Carry.{empty}
+use Rattle.audit_account.specs.Carry.{empty}
 use Rattle.audit.proofs.fresh.Statement.{statement}
 use Rattle.audit.proofs.fresh.Tie as tie
 

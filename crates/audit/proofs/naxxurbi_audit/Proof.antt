@@ -1,5 +1,5 @@
 -- What is read, audited and written back. Assumes nothing.
-use Rattle.accounts.proofs.Written.{audited-out}
+use Rattle.audit_account.proofs.Written.{audited-out}
 use borrow.Author.Needs.{needs}
 use Rattle.audit.proofs.naxxurbi_audit.Statement.{statement}
 use Rattle.audit.proofs.naxxurbi_audit.Tie as tie

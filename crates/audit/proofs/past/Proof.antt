@@ -1,7 +1,7 @@
 -- The count, the kept tallies or the broken ones. Assumes nothing.
 use mathlib.Core.Logic.{inl, inr}
 use Rattle.ground.proofs.Saying.{says-yes}
-use Rattle.accounts.proofs.Telling.{past-by-broken}
+use Rattle.audit_account.proofs.Telling.{past-by-broken}
 use Rattle.audit.specs.Given.{accountOf}
 use borrow.Author.Needs.{needs}
 use Rattle.audit.proofs.past.Statement.{statement}

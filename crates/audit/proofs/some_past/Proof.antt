@@ -2,7 +2,7 @@
 use Prim.Native.Nat.{_-_, _≤_}
 use native.Mathlib.Omega.{arith}
 use Rattle.ground.proofs.Saying.{says-yes, says-no}
-use Rattle.accounts.proofs.Telling.{NonePast, none-past-next, none-past-all}
+use Rattle.audit_account.proofs.Telling.{NonePast, none-past-next, none-past-all}
 use Rattle.audit.proofs.some_past.Statement.{statement}
 use Rattle.audit.proofs.some_past.Tie as tie
 

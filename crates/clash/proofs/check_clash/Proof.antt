@@ -1,8 +1,8 @@
 -- `check_clash` meets its contract: the number and the place of a bad sheet's fault, or what `check_good` found. Assumes nothing.
 use native.Mathlib.Omega.{arith}
 use Rattle.reader.proofs.Good.{told}
-use Rattle.trials.specs.Trials.{lentThree}
-use Rattle.dispute.proofs.Answers.{checked-bad}
+use Rattle.clash_trials.specs.Trials.{lentThree}
+use Rattle.clash.proofs.Answers.{checked-bad}
 use borrow.Author.Needs.{needs}
 use Rattle.clash.proofs.check_clash.Statement.{statement}
 use Rattle.clash.proofs.check_clash.Tie as tie

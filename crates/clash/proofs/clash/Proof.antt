@@ -1,8 +1,8 @@
 -- `clash` meets its contract: the number and the place of a bad sheet's fault, or what `plan_good` found. Assumes nothing.
 use native.Mathlib.Omega.{arith}
 use Rattle.reader.proofs.Good.{told}
-use Rattle.trials.specs.Trials.{lentThree}
-use Rattle.dispute.proofs.Answers.{planned-bad}
+use Rattle.clash_trials.specs.Trials.{lentThree}
+use Rattle.clash.proofs.Answers.{planned-bad}
 use borrow.Author.Needs.{needs}
 use Rattle.clash.proofs.clash.Statement.{statement}
 use Rattle.clash.proofs.clash.Tie as tie

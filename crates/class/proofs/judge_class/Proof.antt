@@ -1,8 +1,8 @@
 -- `judge_class` meets its contract: what `fair` says decides, before any sheet is judged. Assumes nothing.
 use borrow.Author.Needs.{needs}
 use mathlib.Core.Path.{refl}
-use Rattle.joined.specs.Class.{turned-away, in-turn}
-use Rattle.joined.proofs.Ends.{fair-not-refused}
+use Rattle.class_ends.specs.Class.{turned-away, in-turn}
+use Rattle.class_ends.proofs.Ends.{fair-not-refused}
 use Rattle.class.proofs.judge_class.Statement.{statement}
 use Rattle.class.proofs.judge_class.Tie as tie
 

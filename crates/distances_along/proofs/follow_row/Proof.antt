@@ -2,7 +2,7 @@
 use Prim.Native.Nat.{_-_, _+_, _<_, _≤_}
 use native.Mathlib.Omega.{arith}
 use lib.ListN.{length}
-use Rattle.stored.specs.Layout.{mostCells, endAt}
+use Rattle.moves.specs.Layout.{mostCells, endAt}
 use Rattle.distances_along.proofs.Lines.{RowTo, row-none, row-done, row-few, cell-ready, cell-more}
 use Rattle.distances_along.proofs.follow_row.Statement.{statement}
 use Rattle.distances_along.proofs.follow_row.Tie as tie

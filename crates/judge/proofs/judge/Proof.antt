@@ -2,7 +2,7 @@
 use borrow.Author.Needs.{needs}
 use native.Mathlib.Omega.{arith}
 use Rattle.reader.proofs.Good.{told}
-use Rattle.ending.specs.Judging.{lentOf}
+use Rattle.judge_answer.specs.Judging.{lentOf}
 use Rattle.judge.proofs.Sheets.{bad-judged}
 use Rattle.judge.proofs.judge.Statement.{statement}
 use Rattle.judge.proofs.judge.Tie as tie

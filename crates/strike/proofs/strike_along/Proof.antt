@@ -1,6 +1,7 @@
 -- `strike::strike_along` meets its contract: there is room for a row of each reason. Assumes nothing.
 use borrow.Author.Needs.{needs}
 use native.Mathlib.Omega.{arith}
+use Rattle.meaning.specs.Promises.{mostStates}
 use Rattle.strike.proofs.Ready.{rows-room}
 use Rattle.strike.proofs.strike_along.Statement.{statement}
 use Rattle.strike.proofs.strike_along.Tie as tie
@@ -8,7 +9,7 @@ use Rattle.strike.proofs.strike_along.Tie as tie
 rounds-along-requires : tie.Need-rounds-along-requires
 rounds-along-requires c κs =
     let pre = c .before .before .before .before .before .before .before .before .before .pre in
-    (record { stored = pre .0; roomed = rows-room 16384 (pre .0 .asked) (pre .0 .asked .few) (omega arith) }, pre .1)
+    (record { stored = pre .0; roomed = rows-room mostStates (pre .0 .asked) (pre .0 .asked .few) (omega arith) }, pre .1)
 
 pub strike-along-spec : {M : Type 1} → statement M
 strike-along-spec =

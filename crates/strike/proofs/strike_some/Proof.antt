@@ -1,8 +1,12 @@
 -- `strike::strike_some` meets its contract: there is room for 2,048 places. Assumes nothing.
 use borrow.Author.Needs.{needs}
 use native.Mathlib.Omega.{arith}
+use Prim.Native.Nat.{_+_, _*_}
+use Rattle.moves.specs.Moves.{someStates}
+use Rattle.rules_signs.specs.Signs.{headSize}
+use Rattle.rules_signs.proofs.Rowing.{lent-signs}
 use Rattle.rounds.proofs.Running.{strikable-lawful}
-use Rattle.strike.proofs.Ready.{lent-signs, tests-strikable}
+use Rattle.strike.proofs.Ready.{tests-strikable}
 use Rattle.strike.proofs.strike_some.Statement.{statement}
 use Rattle.strike.proofs.strike_some.Tie as tie
 
@@ -10,14 +14,14 @@ rounds-by-tests-requires : tie.Need-rounds-by-tests-requires
 rounds-by-tests-requires c κs =
     let pre = c .before .before .before .before .before .before .before .before .before .before .before .pre in
     let signed = c .before .before .before .before .before .before .fill .ensures .0 in
-    (tests-strikable 2048 (pre .0) signed (pre .2) (omega arith), pre .1)
+    (tests-strikable someStates (pre .0) signed (pre .2) (omega arith), pre .1)
 
 pub strike-some-spec : {M : Type 1} → statement M
 strike-some-spec =
     tie.close
     (tie.spec
     (λ c. search needs)
-    (λ c κs. (strikable-lawful _ _ _ _ (c .before .before .before .before .pre .0), lent-signs 16386 (omega arith)))
+    (λ c κs. (strikable-lawful _ _ _ _ (c .before .before .before .before .pre .0), lent-signs (headSize + someStates * 8) (omega arith)))
     (λ c. search needs)
     (λ c. search needs)
     (λ c. search needs)

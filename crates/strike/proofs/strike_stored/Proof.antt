@@ -2,6 +2,7 @@
 use borrow.Author.Needs.{needs}
 use Prim.Native.Nat.{ℕ}
 use lib.ListN.{length-replicate}
+use Rattle.moves.specs.Layout.{movesSize}
 use Rattle.strike.proofs.Ready.{strikable-storable, kept-along}
 use Rattle.strike.proofs.strike_stored.Statement.{statement}
 use Rattle.strike.proofs.strike_stored.Tie as tie
@@ -17,7 +18,7 @@ strike-stored-spec =
     (tie.spec
     (λ c. search needs)
     (λ c. search needs)
-    (λ c κs. (strikable-storable (c .before .before .before .before .before .pre .0), length-replicate {A = ℕ} 65536 0, length-replicate {A = ℕ} 65536 0))
+    (λ c κs. (strikable-storable (c .before .before .before .before .before .pre .0), length-replicate {A = ℕ} movesSize 0, length-replicate {A = ℕ} movesSize 0))
     (λ c. search needs)
     (λ c. search needs)
     (λ c. search needs)

@@ -5,8 +5,8 @@ use borrow.Author.Tests.{not-true, not-false}
 use lib.ListN.{length}
 use Rattle.ground.proofs.Saying.{says-no}
 use Rattle.papers.specs.Paper.{statesOf, wordsOf}
-use Rattle.covers.specs.Asks.{StatesAsk}
-use Rattle.entries.specs.Entries.{Rising}
+use Rattle.strikes_covers.specs.Asks.{StatesAsk}
+use Rattle.strikes_entries.specs.Entries.{Rising}
 use Rattle.strikecheck.proofs.Conditions.{states-asked, entries-decide, accepted-rising, accepted-fit}
 use Rattle.strikecheck.proofs.accepted.Statement.{statement}
 use Rattle.strikecheck.proofs.accepted.Tie as tie

@@ -1,7 +1,7 @@
 -- `watch_tests::first_phase` meets its contract. Assumes nothing.
 use mathlib.Core.Path.{_∙_}
 use native.Mathlib.Omega.{arith}
-use Rattle.witness.proofs.Phasing.{before-fresh, lost-fallable, phase-watched}
+use Rattle.watch.proofs.Phasing.{before-fresh, lost-fallable, phase-watched}
 use Rattle.watch_tests.proofs.Testing.{first-copy, first-testable, first-spreading}
 use Rattle.watch_tests.proofs.first_phase.Statement.{statement}
 use Rattle.watch_tests.proofs.first_phase.Tie as tie

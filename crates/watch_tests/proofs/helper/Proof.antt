@@ -1,6 +1,6 @@
 -- `watch_tests::helper` meets its contract. Assumes nothing.
 use native.Mathlib.Omega.{arith}
-use Rattle.witness.proofs.Helped.{helper-sought, helper-other}
+use Rattle.watch.proofs.Helped.{helper-sought, helper-other}
 use Rattle.watch_tests.proofs.helper.Statement.{statement}
 use Rattle.watch_tests.proofs.helper.Tie as tie
 

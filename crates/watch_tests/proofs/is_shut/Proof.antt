@@ -1,7 +1,7 @@
 -- `watch_tests::is_shut` meets its contract. Assumes nothing.
 use mathlib.Core.Path.{refl}
 use borrow.Author.Needs.{needs}
-use Rattle.witness.proofs.Beginning.{no-both}
+use Rattle.watch.proofs.Beginning.{no-both}
 use Rattle.watch_tests.proofs.Sifting.{seen-shut}
 use Rattle.watch_tests.proofs.is_shut.Statement.{statement}
 use Rattle.watch_tests.proofs.is_shut.Tie as tie

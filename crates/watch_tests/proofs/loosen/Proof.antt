@@ -2,7 +2,7 @@
 use Prim.Native.Nat.{_-_, _≤_}
 use native.Mathlib.Omega.{arith}
 use lib.ListN.{length}
-use Rattle.witness.proofs.Loosening.{Loosening, loosening-none, loosening-within, loosening-turn, loosening-more, loosening-done}
+use Rattle.watch.proofs.Loosening.{Loosening, loosening-none, loosening-within, loosening-turn, loosening-more, loosening-done}
 use Rattle.watch_tests.proofs.Cutting.{loosening-cut, loosening-pass}
 use Rattle.watch_tests.proofs.loosen.Statement.{statement}
 use Rattle.watch_tests.proofs.loosen.Tie as tie

@@ -1,7 +1,7 @@
 -- `watch_tests::phase` meets its contract. Assumes nothing.
 use mathlib.Core.Path.{_∙_}
 use native.Mathlib.Omega.{arith}
-use Rattle.witness.proofs.Phasing.{before-rested, lost-hangable, lost-fallable, phase-watched}
+use Rattle.watch.proofs.Phasing.{before-rested, lost-hangable, lost-fallable, phase-watched}
 use Rattle.watch_tests.proofs.Testing.{rested-anywhere, watching-first, cut-testable}
 use Rattle.watch_tests.proofs.phase.Statement.{statement}
 use Rattle.watch_tests.proofs.phase.Tie as tie

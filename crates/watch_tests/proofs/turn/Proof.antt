@@ -3,7 +3,7 @@ use Prim.Native.Nat.{_-_, _≤_, _<_}
 use native.Mathlib.Omega.{arith}
 use lib.ListN.{length}
 use Rattle.meaning.specs.Promises.{mostStates}
-use Rattle.witness.specs.Turns.{Redirected}
+use Rattle.watch.specs.Turns.{Redirected}
 use Rattle.watch_tests.proofs.Testing.{Below, turn-none, turn-past, turn-room, turn-more, turn-done}
 use Rattle.watch_tests.proofs.turn.Statement.{statement}
 use Rattle.watch_tests.proofs.turn.Tie as tie

@@ -1,8 +1,8 @@
 -- The account's numbers, carried on and joined again. Assumes nothing.
 use mathlib.Core.Path.{sym, _∙_, ap, subst}
 use lib.ListN.{length}
-use Rattle.accounts.specs.Account.{Account}
-use Rattle.accounts.specs.Book.{bookCarried, Carriable}
+use Rattle.audit_account.specs.Account.{Account}
+use Rattle.audit_account.specs.Book.{bookCarried, Carriable}
 use borrow.Author.Needs.{needs}
 use Rattle.audit.proofs.carry.carry.Statement.{statement}
 use Rattle.audit.proofs.carry.carry.Tie as tie

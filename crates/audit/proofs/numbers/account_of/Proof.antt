@@ -1,5 +1,5 @@
 -- The five numbers and the tallies, each from its place. Assumes nothing.
-use Rattle.accounts.proofs.Written.{account-read}
+use Rattle.audit_account.proofs.Written.{account-read}
 use borrow.Author.Needs.{needs}
 use Rattle.audit.proofs.numbers.account_of.Statement.{statement}
 use Rattle.audit.proofs.numbers.account_of.Tie as tie

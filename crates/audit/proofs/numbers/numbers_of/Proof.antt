@@ -1,7 +1,7 @@
 -- The five numbers, then the tallies, each at its place. Assumes nothing.
 use mathlib.Core.Path.{refl}
 use native.Mathlib.Omega.{arith}
-use Rattle.accounts.proofs.Written.{numbers-written}
+use Rattle.audit_account.proofs.Written.{numbers-written}
 use borrow.Author.Needs.{needs}
 use Rattle.audit.proofs.numbers.numbers_of.Statement.{statement}
 use Rattle.audit.proofs.numbers.numbers_of.Tie as tie

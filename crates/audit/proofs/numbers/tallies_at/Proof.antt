@@ -3,8 +3,8 @@ use mathlib.Core.Path.{_≡_, refl, subst}
 use Prim.Native.Nat.{ℕ, _-_, _≤_}
 use native.Mathlib.Omega.{arith}
 use lib.ListN.{length, replicate}
-use Rattle.accounts.specs.Book.{Copied}
-use Rattle.accounts.proofs.Written.{copied-none, copied-next, numbers-read}
+use Rattle.audit_account.specs.Book.{Copied}
+use Rattle.audit_account.proofs.Written.{copied-none, copied-next, numbers-read}
 use Rattle.audit.proofs.numbers.tallies_at.Statement.{statement}
 use Rattle.audit.proofs.numbers.tallies_at.Tie as tie
 

@@ -1,5 +1,0 @@
-pub mod Books
-pub mod Places
-pub mod Distances
-pub mod Scans
-pub mod Nexts

@@ -1,0 +1,34 @@
+-- `clash_choice::write_rule`: nothing more for the mark 0, else the record. Assumes nothing.
+use borrow.Author.Needs.{needs}
+use native.Mathlib.Omega.{arith}
+use Rattle.meaning.specs.Sheet.{nextAt}
+use Rattle.clash_choice.proofs.Writes.{rule-left-out, rule-written}
+use Rattle.clash_choice.proofs.write_rule.Statement.{statement}
+use Rattle.clash_choice.proofs.write_rule.Tie as tie
+
+sub-rule : tie.Need-sub-rule
+unfolding nextAt
+sub-rule c = omega (arith, c .before .next .ensures)
+
+part-rule-start : tie.Need-part-rule-start
+unfolding nextAt
+part-rule-start c = omega (arith, c .before .next .ensures)
+
+returns-2 : tie.Need-returns-2
+returns-2 c =
+    let way = c .before .before .before in
+    rule-written _ _ (way .before .before .before .pre) (way .if1 .left) (way .before .next .ensures) (c .write .ensures)
+
+pub write-rule-spec : {M : Type 1} → statement M
+write-rule-spec =
+    tie.close
+    (tie.spec
+    (λ c κs. search needs)
+    (λ c. rule-left-out _ _ (c .if1 .taken) (c .before .next .ensures))
+    sub-rule
+    part-rule-start
+    (λ c. search needs)
+    (λ c κs. search needs)
+    (λ c. search needs)
+    (λ c. search needs)
+    returns-2)

@@ -1,2 +1,0 @@
-pub mod Far
-pub mod Values

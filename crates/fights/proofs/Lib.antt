@@ -1,5 +1,0 @@
-pub mod Verdicts
-pub mod Outcomes
-pub mod Numbers
-pub mod Dropped
-pub mod Theorems

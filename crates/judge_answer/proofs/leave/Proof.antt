@@ -1,0 +1,24 @@
+-- `leave` meets its contract. Assumes nothing.
+use borrow.Author.Needs.{needs}
+use Rattle.judge_answer.proofs.Wiping.{wiped-left}
+use Rattle.judge_answer.proofs.leave.Statement.{statement}
+use Rattle.judge_answer.proofs.leave.Tie as tie
+
+returns : tie.Need-returns
+returns c =
+    let scratch = c .before .before in
+    let words = scratch .before .before .before .before in
+    let table = words .before .before .before .before in
+    wiped-left (table .wipe-from .ensures) (words .wipe-from2 .ensures) (scratch .wipe-from3 .ensures)
+
+pub leave-spec : {M : Type 1} → statement M
+leave-spec =
+    tie.close
+    (tie.spec
+    (λ c κs. search needs)
+    (λ c κs. search needs)
+    (λ c κs. search needs)
+    (λ c. search needs)
+    (λ c. search needs)
+    (λ c. search needs)
+    returns)

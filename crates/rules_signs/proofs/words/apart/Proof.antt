@@ -1,0 +1,45 @@
+-- `words::apart` meets its contract. The loop's invariant: no bit is common to the first k words. Assumes nothing.
+use Prim.Native.Nat.{_+_, _-_, _<_}
+use native.Mathlib.Omega.{arith}
+use lib.ListN.{length}
+use Rattle.ground.proofs.Saying.{says-yes, says-no}
+use Rattle.rules_signs.specs.Words.{Apart}
+use Rattle.rules_signs.proofs.Comparing.{word-inside, apart-start, apart-more, apart-done}
+use Rattle.rules_signs.proofs.words.apart.Statement.{statement}
+use Rattle.rules_signs.proofs.words.apart.Tie as tie
+
+abbrev Inv-loop : tie.InvT-loop
+Inv-loop signs a u w k₀ k = Apart signs a u k
+
+abbrev μ-loop : tie.MeasureT-loop
+μ-loop signs a u w k₀ k = w - k
+
+-- within the loop: both words stand in the list
+one : (c : tie.In-loop Inv-loop μ-loop)
+    → (c .before .before .args .a + c .before .loop .k < length (c .before .before .args .signs .now))
+    × (c .before .before .args .a + c .before .loop .k < 262148)
+one c = word-inside (c .before .before .pre .0) (c .loop-test .taken)
+
+other : (c : tie.In-loop Inv-loop μ-loop)
+    → (c .before .before .args .u + c .before .loop .k < length (c .before .before .args .signs .now))
+    × (c .before .before .args .u + c .before .loop .k < 262148)
+other c = word-inside (c .before .before .pre .1) (c .loop-test .taken)
+
+pub apart-spec : {M : Type 1} → statement M
+apart-spec =
+    tie.close
+    (tie.spec
+    Inv-loop
+    μ-loop
+    (λ c. apart-start _ _ _)
+    (λ c. omega (arith, one c .1))
+    (λ c. omega (arith, other c .1))
+    (λ c. omega (arith, one c .1))
+    (λ c. one (c .before) .0)
+    (λ c. omega (arith, other (c .before) .1))
+    (λ c. other (c .before .before) .0)
+    (λ c. says-no (λ none. c .if1 .taken (none .none _ (c .before .before .before .loop-test .taken))))
+    (λ c. omega (arith, one (c .before .before .before) .1))
+    (λ c. omega (arith, c .before .before .before .loop-test .taken))
+    (λ c. apart-more (c .before .before .before .before .loop .inv) (c .if1 .left))
+    (λ c. says-yes (apart-done (c .before .loop .inv) (omega (arith, c .loop-test .left)))))

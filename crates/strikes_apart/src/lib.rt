@@ -1,0 +1,90 @@
+// Whether the states of a paper are all different, found out window by window with a mark for each number, in a small stack.
+use ground::marks::mark;
+use ground::marks::met;
+use papers::State;
+use papers::state_at;
+use papers::states_in;
+ghost use mathlib.Core.Path.{_≡_};
+ghost use mathlib.Core.Bool.{true};
+ghost use Prim.Native.Nat.{_<_, min};
+ghost use Rattle.papers.specs.Paper.{statesOf};
+ghost use Rattle.strikes_apart.specs.Apart.{Different};
+ghost use Rattle.strikes_apart.specs.Windows.{pastAll, Window};
+
+// How many numbers a window has, and the words of 32 marks for them; and a number above every state.
+const WINDOW: u64 = 8192;
+
+const MARKS: usize = 256;
+
+const PAST_ALL: u64 = 4294967296;
+
+// What a window shows: a state that stands twice; or the least state after the window; or that there is none.
+pub enum Looked {
+    Twice,
+    Next(u64),
+    Done,
+}
+
+// True only if no state stands twice. Windows are looked at in turn, from 0 up; windows that hold no state are passed over.
+pub fn all_different(sb: &[u8], sn: &[State]) -> bool
+    ensures { λ r. ⌜ (r ≡ true → Different (statesOf (now (sb .entry)) (now (sn .entry)))) ⌝ }
+{
+    let mut low: u64 = 0;
+    while low < PAST_ALL {
+        match window(sb, sn, low) {
+            Looked::Twice => {
+                return false;
+            }
+            Looked::Next(next) => {
+                low = next;
+            }
+            Looked::Done => {
+                return true;
+            }
+        }
+    }
+    false
+}
+
+// Looks at the states of the window that begins at low, with a mark for each.
+fn window(sb: &[u8], sn: &[State], low: u64) -> Looked
+    requires { ⌜ low < pastAll ⌝ }
+    ensures { λ r. ⌜ Window (statesOf (now (sb .entry)) (now (sn .entry))) low r ⌝ }
+{
+    let states = states_in(sb, sn);
+    let mut marks = [0u32; MARKS];
+    let mut next = PAST_ALL;
+    let mut i = 0;
+    while i < states {
+        let s = state_at(sb, sn, i) as u64;
+        if s < low {
+            i += 1;
+        } else {
+            let k = s - low;
+            if k < WINDOW {
+                let word = (k / 32) as usize;
+                let bit = (k % 32) as usize;
+                if met(marks[word], bit) {
+                    return Looked::Twice;
+                }
+                marks[word] = mark(marks[word], bit);
+                i += 1;
+            } else {
+                next = smaller(next, s);
+                i += 1;
+            }
+        }
+    }
+    if next < PAST_ALL {
+        Looked::Next(next)
+    } else {
+        Looked::Done
+    }
+}
+
+// The smaller of two numbers.
+fn smaller(a: u64, b: u64) -> u64
+    ensures { λ r. ⌜ r ≡ min a b ⌝ }
+{
+    if a < b { a } else { b }
+}

@@ -1,3 +1,0 @@
-pub mod Livables
-pub mod Findings
-pub mod Steps

@@ -1,9 +1,0 @@
-pub mod Sums
-pub mod Weights
-pub mod Beginning
-pub mod Turning
-pub mod Loosening
-pub mod Helped
-pub mod Hooked
-pub mod Falling
-pub mod Phasing

@@ -1,2 +1,0 @@
-pub mod Witness
-pub mod Turns
