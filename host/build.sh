@@ -1,4 +1,5 @@
-# What bin/naxxurbi, bin/sheet, bin/install and host/run share: proving and building, once for each state of the sources. Sourced by bash.
+# What bin/naxxurbi, bin/sheet, bin/install-naxxurbi and host/run share: proving and building, once for each state of the sources.
+# Sourced by bash.
 #
 # What is built is kept as target/launch/NAME-SUM-KIT: SUM is a sum over the sources' contents, KIT one over `rt version`. If the sources
 # differ from what was built, there is no such file, and it is built anew. Nothing is written outside the repository.
@@ -309,4 +310,22 @@ fresh() {
     put "$made" "$program"
   fi
   release
+}
+
+# build_sheet: the command for people, over the archives
+build_sheet() {
+  local linker
+  need_cargo
+  linker=$(c_compiler) || exit 2
+  archives
+  made=$top/host/sheet/target/release/sheet
+  export CARGO_TARGET_{X86_64,AARCH64}_UNKNOWN_LINUX_GNU_LINKER="$linker"
+  step "compiling host/sheet" \
+    cargo build --release --offline --quiet --manifest-path host/sheet/Cargo.toml --target-dir host/sheet/target ||
+    not_built "host/sheet was not compiled"
+}
+
+# fresh_sheet: sets `program` to the command for people as built from the sources as they are
+fresh_sheet() {
+  fresh sheet build_sheet $(proof_sources) host/archives.txt host/{sheet,plain,calls}/{src,Cargo.toml,Cargo.lock,build.rs} include
 }

@@ -1,75 +1,81 @@
 /*
  * Naxxurbi: a judge for rule sheets, two checkers for its papers, an auditor of recorded logs, and a finder of rules that fight.
  *
- * A rule sheet is a string of bytes (docs/FORMAT.md). The calls take any bytes and any numbers: none has a precondition, each
- * returns, and each is proved to keep the promise that is stated for it in crates/meaning/specs/Promises.antt (the audit:
- * crates/audit_account/specs/Carry.antt; the serial lead: crates/serial/specs/Serial.antt; a class: crates/class_ends/specs/Class.antt; which rules
- * fight: crates/clash/specs/Clash.antt). Of the pointers themselves C callers owe what is listed below.
+ * This file is all that a C or C++ programmer needs: what the calls take and answer, names for every answer and size, a sheet's bytes,
+ * what a strike list's words mean, and what a caller owes. It is C99 and C++.
  *
- * Numbers returned:
- *    0        good sheet / paper or proposal accepted / the sheet can be kept / rules that fight are marked
- *    1 .. 10  the sheet's first fault, in reading order (the table below); nothing lent is changed. naxxurbi_read_place, naxxurbi_judge
- *             and naxxurbi_serial_close tell its place as well, the byte counted from 0; on every other answer the place is 0
- *   11        the judge only: more reachable states than there is room for
- *   12        the judge: the sheet can be kept, but the run slice is too short for the sample run; b says how long it must be.
- *             naxxurbi_clash: the sheet can be kept
- *   13        the judge only: the sheet cannot be kept
- *   14        the checkers and naxxurbi_check_clash only: the paper, or the proposal, is not accepted
- *   15        the audit only: the account, or the account with this piece, is past 1,000,000 moments
- *   16        naxxurbi_judge_class only: the class is refused, nothing is changed
- *   17        naxxurbi_check_clash and naxxurbi_clash only: a sheet that was tried has more reachable states than there is room for
- *   18        the serial lead only: it is closed already; nothing is changed
+ * The calls take any bytes and any numbers: none has a precondition, each returns, and each is proved to keep the promise that is stated
+ * for it in crates/meaning/specs/Promises.antt (the audit: crates/audit_account/specs/Carry.antt; the serial lead:
+ * crates/serial/specs/Serial.antt; a class: crates/class_ends/specs/Class.antt; which rules fight: crates/clash/specs/Clash.antt). Of the
+ * pointers themselves C callers owe what is listed below.
  *
- *    1  below 8 or above 4,096 bytes        6  record missing or past the end
- *    2  version not 1                       7  bad shape of a record
- *    3  stated length differs               8  literal zero, or naming no letter of the sheet
- *    4  number of letters not 1 to 24       9  a list's literals do not ascend
- *    5  over 32 limits or 16 promises      10  bytes after the last record
+ * A sheet is 8 to 4,096 bytes: a header of 8, then the records; nothing stands between or after them.
  *
- * Places: 0 for 1 and 2, 1 for 3, 3 for 4; for 5 that of the limit count (4) before that of the promise count (7); for 6 and 7 the record's
- * length byte, or the sheet's length where that byte is missing; for 8 and 9 the literal's own byte; for 10 the first surplus byte.
+ *    byte 0     the version, 1
+ *    bytes 1,2  the length of the whole sheet, the higher byte first
+ *    byte 3     n, the number of letters, 1 to 24
+ *    byte 4     the number of limits, 0 to 32
+ *    byte 5     the number of first rules, 0 to 255
+ *    byte 6     the number of step rules, 0 to 255
+ *    byte 7     the number of promises, 0 to 16
  *
- * A state is a number below 2 to the power n, n the sheet's number of letters: letter k holds in it when the bit worth 2 to the power k - 1
- * is set. What is read from outside comes as bytes, four to a number with the highest first; the judge's own slices, and the audit's
+ * First all limits, then all first rules, all step rules, all promises; those of one kind are numbered from 1. A record begins with a
+ * length byte, the number of bytes after it in the record. These are:
+ *
+ *    limit       kind, m, literals: kind 0: exactly m of them are true, at every moment; kind 1: at most m. m is any byte
+ *    first rule  literals: at the first moment at least one of them is true
+ *    step rule   a, then a literals, then others: whenever all of the first a are true, at the next moment at least one of the others is
+ *    promise     one literal: it is true again and again, for ever
+ *
+ * A literal is one signed byte: k, from 1 to n, says that letter k holds, -k (written 256 - k) that it does not. In one list the literals
+ * ascend, each once: -2 stands before -1 before 1. The two sides of a step rule are two lists. A step rule whose first list is empty
+ * always asks; one whose second list is empty is never met, nor is a first rule of no literals.
+ *
+ * A state is a number below 2 to the power n: letter k holds in it when the bit worth 2 to the power k - 1 is set. On a paper, which
+ * comes from outside, states and words are bytes, four to a number with the highest first; the judge's own slices, and the audit's
  * account and states, are plain numbers.
+ *
+ * A word of a strike list says when and why its state was struck: it is 32 times the round, counted from 1, plus the reason. Reason 0:
+ * from the state there is no move to a state that is not struck yet. Reason i: promise i can no longer be kept from it.
  *
  * Nothing is kept between calls, and no memory is allocated. What the calls take for granted, and cannot check:
  *
- *    - the machine is x86-64 under Linux;
+ *    - the machine is the one that the archive was compiled for: x86-64, or 64-bit ARM where it was built there, under Linux;
  *    - a pointer is valid for its length: so many bytes, or numbers of four bytes, can be read there, and in the judge's slices, in
  *      `out`, in `numbers`, in `account` and in `marks` also written. A pointer may be null where its length is 0; `out` has room for its
- *      numbers, five for the judge and two for naxxurbi_read_place, `account` for 515, `marks` for 255 bytes; a serial lead's `state` has
+ *      numbers, five for the judge and two for naxxurbi_read_place, `account` for 515, `marks` for 255 bytes; a serial lead's `lead` has
  *      room for two and its sheet for 4,096 bytes; none of these is ever null;
- *    - a pointer to uint32_t is aligned for it, to 4 bytes. Bytes may stand anywhere;
+ *    - a pointer to uint32_t or naxxurbi_state is aligned for it, to 4 bytes. Bytes may stand anywhere;
  *    - the judge's four slices and `out` lie apart: from one another, and from the sheet; so does naxxurbi_read_place's `out` from the sheet,
  *      the ends and the numbers of a class from all else, proposed rules and marks from all else, the account from the sheet and the states,
- *      and a serial lead's `state`, sheet, piece and `out` from one another;
+ *      and a serial lead's `lead`, sheet, piece and `out` from one another;
  *    - no slice has 2 to the power 63 bytes or more; for one of numbers, that is below 2 to the power 61 of them;
  *    - while a call runs, nobody else writes what it was given, nor reads what it may write;
  *    - the stack has room, as follows.
  *
- * Stack, in pages of 4,096 bytes: 256 for the judge, for a class and for the two calls about rules that fight, 4 for the strike checker, 4 for
- * the audit, 2 for the run checker, 1 for the reader; what the caller and signal handlers take comes on top. host/c/stack.c runs each call on
- * a fenced stack of just this size, on sheets of 24 letters that are judged to the end and on a bad one, and prints what they take: the judge,
- * a class, the strike checker, the audit, the run checker and the reader at most 1,033,784, 1,033,928, 16,244, 12,200, 7,192 and 280 bytes,
- * naxxurbi_clash and naxxurbi_check_clash 1,038,568 and 1,038,296. Of the audit's, 3,056 are the loader's, the first time that memcpy is called.
+ * Stack, on either processor, in pages of 4,096 bytes: 256 for the judge, for a class and for the two calls about rules that fight, 4 for
+ * the strike checker, 4 for the audit, 2 for the run checker, 1 for the reader; what the caller and signal handlers take comes on top.
+ * host/c/stack.c runs each call on a fenced stack of just this size, on sheets of 24 letters that are judged to the end and on a bad one,
+ * and prints what they take. On x86-64 (on 64-bit ARM it is a little less) the judge, a class, the strike checker, the audit, the run
+ * checker and the reader take at most 1,033,784, 1,033,928, 16,244, 12,200, 7,192 and 280 bytes, naxxurbi_clash and naxxurbi_check_clash
+ * 1,038,568 and 1,038,296. Of the audit's, 3,056 are the loader's, the first time that memcpy is called. The judge takes nearly as much
+ * for a bad sheet (1,022,952 bytes), since its rooms have a fixed size.
  *
- * The judge takes nearly as much for a bad sheet (1,022,952 bytes), since its rooms have a fixed size.
- *
- * Link libnaxxurbi.a, which bin/install makes and which has every call; a program takes in only the objects that it calls. Or link the
- * archives it is made of: libfirmware.a (both checkers), libjudge.a (naxxurbi_judge), libreader.a (naxxurbi_read, naxxurbi_read_place),
- * libaudit.a (naxxurbi_audit), libserial.a (the serial lead), libclass.a (naxxurbi_judge_class), libclash.a (naxxurbi_check_clash,
- * naxxurbi_clash); each stands alone.
- * Their code takes at most 15 KB, 30 KB, 2 KB, 8 KB, 3 KB, 30 KB and 34 KB (of 1,024 bytes); they have no data of their own. The only outside
- * functions that they call are memset and memcpy.
+ * Link libnaxxurbi.a, which bin/install-naxxurbi makes and which has every call; a program takes in only the objects that it calls. Or
+ * link the archives it is made of: libfirmware.a (both checkers), libjudge.a (naxxurbi_judge), libreader.a (naxxurbi_read,
+ * naxxurbi_read_place), libaudit.a (naxxurbi_audit), libserial.a (the serial lead), libclass.a (naxxurbi_judge_class), libclash.a
+ * (naxxurbi_check_clash, naxxurbi_clash); each stands alone.
+ * On either processor their code takes at most 15 KB, 30 KB, 2 KB, 8 KB, 3 KB, 30 KB and 34 KB (of 1,024 bytes); they have no data of
+ * their own. The only outside functions that they call are memset and memcpy.
  *
  * Time. The run checker looks at each state once for each rule and promise. The strike checker counts, for the first states and for each
  * entry that asks for something new, the states that may come next, and stops once there are more than the list could hold. It settles
- * the letters one at a time, takes what a limit or a rule forces as settled, and drops what they rule out; a clash that shows only at the last
- * letters costs microseconds. What no look at single rules sees still costs a walk of 2 to the power n steps for each such entry. Measured
- * (docs/BENCHMARK.md, "odd clash"), for one such walk of 24 letters: 0.1 s with 2 limits, 1.9 s with 32 limits and 255 rules; each letter
- * less halves it. Firmware that takes papers from strangers should bound the letters or the entries that it accepts. Repeated states are
- * judged exactly; where many of them are next states they are counted by marks, and else compared with the entries before.
+ * the letters one at a time, takes what a limit or a rule forces as settled, and drops what they rule out; a clash that shows only at the
+ * last letters costs microseconds. What no look at single rules sees still costs a walk of 2 to the power n steps for each such entry.
+ * Measured (docs/BENCHMARK.md, "odd clash", which names the processor), for one such walk of 24 letters: 0.1 s with 2 limits, 1.9 s with
+ * 32 limits and 255 rules; each letter less halves it. Firmware that takes papers from strangers should bound the letters or the entries
+ * that it accepts. Repeated states are judged exactly; where many of them are next states they are counted by marks, and else compared
+ * with the entries before.
  */
 #ifndef NAXXURBI_H
 #define NAXXURBI_H
@@ -81,31 +87,129 @@
 extern "C" {
 #endif
 
+/* The version of the library that this header belongs to. */
+#define NAXXURBI_VERSION "0.2.0"
+#define NAXXURBI_VERSION_MAJOR 0
+#define NAXXURBI_VERSION_MINOR 2
+#define NAXXURBI_VERSION_PATCH 0
+
+/* A state. Words, counts and answers are uint32_t whatever this is. */
+typedef uint32_t naxxurbi_state;
+
+/* What the calls answer. 0: a good sheet; a paper or a proposal accepted; the sheet can be kept; rules that fight are marked. */
+#define NAXXURBI_OK 0
+
+/*
+ * 1 to 10: the sheet's first fault, in reading order; nothing lent is changed. In a record 6 comes before 7, and 7 before its literals;
+ * of each literal 8 comes before 9. naxxurbi_read_place, naxxurbi_judge and naxxurbi_serial_close tell the fault's place as well, a byte
+ * counted from 0; on every other answer the place is 0. Behind each fault stands its place.
+ */
+#define NAXXURBI_BAD_SIZE 1     /* fewer than 8 or more than 4,096 bytes: place 0 */
+#define NAXXURBI_BAD_VERSION 2  /* the version is not 1: place 0 */
+#define NAXXURBI_BAD_LENGTH 3   /* the stated length is not the sheet's length: place 1 */
+#define NAXXURBI_BAD_LETTERS 4  /* the number of letters is not 1 to 24: place 3 */
+#define NAXXURBI_BAD_COUNT 5    /* over 32 limits: place 4; or else over 16 promises: place 7 */
+#define NAXXURBI_BAD_RECORD 6   /* a record is missing or goes past the end: its length byte, or the sheet's length where that is missing */
+#define NAXXURBI_BAD_SHAPE 7    /* a limit under 2 bytes or of a kind over 1, a step rule of no bytes or with a larger than what follows, a
+                                   promise that is not one byte: the record's length byte */
+#define NAXXURBI_BAD_LITERAL 8  /* a literal is 0 or names a letter that the sheet does not have: the literal's byte */
+#define NAXXURBI_BAD_ORDER 9    /* a literal does not come after the one before it in its list: the literal's byte */
+#define NAXXURBI_BAD_END 10     /* bytes are left after the last record: the first of them */
+#define NAXXURBI_LAST_FAULT 10  /* answers from NAXXURBI_BAD_SIZE to this one are faults of the sheet */
+
+#define NAXXURBI_TOO_MANY_STATES 11   /* the judge: more reachable states than there is room for */
+#define NAXXURBI_SHORT_RUN 12         /* the judge: the sheet can be kept, but the run slice is too short; b says how long it must be.
+                                         naxxurbi_clash, which is lent no run: the sheet can be kept */
+#define NAXXURBI_CANNOT_BE_KEPT 13    /* the judge: no endless run obeys the sheet */
+#define NAXXURBI_NOT_ACCEPTED 14      /* the checkers and naxxurbi_check_clash: the paper, or the proposal, is not accepted */
+#define NAXXURBI_TOO_MANY_MOMENTS 15  /* the audit: the account, or the account with this piece, is past 1,000,000 moments */
+#define NAXXURBI_CLASS_REFUSED 16     /* naxxurbi_judge_class: the ends, the sheets or the slice do not fit; nothing is changed */
+#define NAXXURBI_TRIAL_TOO_LARGE 17   /* the calls about rules that fight: a sheet that was tried has more states than there is room for */
+#define NAXXURBI_CLOSED 18            /* the serial lead: it is closed already; nothing is changed */
+
+/* What a sheet can have at most, and at least in bytes. */
+#define NAXXURBI_LEAST_BYTES 8
+#define NAXXURBI_BYTES 4096
+#define NAXXURBI_LETTERS 24
+#define NAXXURBI_LIMITS 32
+#define NAXXURBI_FIRST_RULES 255
+#define NAXXURBI_RULES 255 /* step rules; also how many marks naxxurbi_clash writes */
+#define NAXXURBI_PROMISES 16
+
+/* What to lend to the judge for every sheet that it can take in: so many numbers for table and words, for scratch, for run. */
+#define NAXXURBI_STATES 16384
+#define NAXXURBI_SCRATCH 32768
+#define NAXXURBI_RUN 262144
+
+/* The judge's five numbers, and the reader's two, where each stands in `out`. */
+#define NAXXURBI_NUMBERS 5
+#define NAXXURBI_ANSWER 0
+#define NAXXURBI_COUNT 1
+#define NAXXURBI_A 2
+#define NAXXURBI_B 3
+#define NAXXURBI_PLACE 4
+#define NAXXURBI_READ_NUMBERS 2
+#define NAXXURBI_READ_PLACE 1
+
+/* A strike list's word: 32 times the round plus the reason; reason 0 is "no way on", reason i "promise i". */
+#define NAXXURBI_REASONS 32
+#define NAXXURBI_WORD(round, reason) (NAXXURBI_REASONS * (round) + (reason))
+#define NAXXURBI_ROUND(word) ((word) / NAXXURBI_REASONS)
+#define NAXXURBI_REASON(word) ((word) % NAXXURBI_REASONS)
+
+/* How many bytes a state and a word take on a paper, the highest first. */
+#define NAXXURBI_STATE_BYTES 4
+#define NAXXURBI_WORD_BYTES 4
+
+/* The audit's account: its numbers and where each stands, the tallies of step rule r at KEPT + r and BROKEN + r; the most moments. */
+#define NAXXURBI_ACCOUNT 515
+#define NAXXURBI_ACCOUNT_MOMENTS 0
+#define NAXXURBI_ACCOUNT_LAST 1
+#define NAXXURBI_ACCOUNT_BREACH 2
+#define NAXXURBI_ACCOUNT_BREACH_MOMENT 3
+#define NAXXURBI_ACCOUNT_BREACH_RULE 4
+#define NAXXURBI_ACCOUNT_KEPT 4
+#define NAXXURBI_ACCOUNT_BROKEN 259
+#define NAXXURBI_MOMENTS 1000000
+
+/* What the first breach of a log was. */
+#define NAXXURBI_NO_BREACH 0
+#define NAXXURBI_UNLAWFUL 1
+#define NAXXURBI_BROKE_FIRST_RULE 2
+#define NAXXURBI_BROKE_STEP_RULE 3
+
+/* The most sheets in one call of naxxurbi_judge_class, and how many numbers each gets: answer, count, a and b. */
+#define NAXXURBI_CLASS_SHEETS 32
+#define NAXXURBI_CLASS_NUMBERS 4
+
+/* How many numbers a caller keeps for a serial lead. */
+#define NAXXURBI_LEAD 2
+
 /* Reads a sheet: 0 if it is good, else the number of its first fault, 1 to 10. */
 uint32_t naxxurbi_read(const uint8_t *sheet, size_t sheet_len);
 
 /* The same with the place: out[0] is the number, out[1] the place. Both are written for every sheet. */
-void naxxurbi_read_place(const uint8_t *sheet, size_t sheet_len, uint32_t out[2]);
+void naxxurbi_read_place(const uint8_t *sheet, size_t sheet_len, uint32_t out[NAXXURBI_READ_NUMBERS]);
 
 /*
- * A sheet that comes over a serial lead, a few bytes at a time. The caller keeps a state of two numbers, 0 and 0 at first, and lends a buffer
- * of 4,096 bytes; what it holds beforehand does not matter.
+ * A sheet that comes over a serial lead, a few bytes at a time. The caller keeps two numbers, 0 and 0 at first, and lends a buffer of 4,096
+ * bytes; what it holds beforehand does not matter.
  *
- * state[0] is how many bytes have come, where 4,097 stands for any number above 4,096; state[1] is 0 while the lead is open, else it is
+ * lead[0] is how many bytes have come, where 4,097 stands for any number above 4,096; lead[1] is 0 while the lead is open, else it is
  * closed. Any two numbers may be handed in.
  *
  * Takes a piece, which may be empty: 0, and its bytes stand in the buffer behind those that came. What goes past the buffer's end is not
  * stored. After closing 18, and nothing is changed.
  */
-uint32_t naxxurbi_serial_take(uint32_t state[2], uint8_t sheet[4096], const uint8_t *piece, size_t piece_len);
+uint32_t naxxurbi_serial_take(uint32_t lead[NAXXURBI_LEAD], uint8_t sheet[NAXXURBI_BYTES], const uint8_t *piece, size_t piece_len);
 
 /*
  * Closes the lead. out[0] is the reader's answer for all the bytes that came, joined: 0 if they are a good sheet (then they are the first
- * state[0] bytes of the buffer, which the checkers and the judge take), else the number of its first fault, 1 for more than 4,096 bytes;
+ * lead[0] bytes of the buffer, which the checkers and the judge take), else the number of its first fault, 1 for more than 4,096 bytes;
  * out[1] is the place of that fault, the byte where it was met, counted from 0; 0 for a good sheet. How the bytes were cut into pieces plays
- * no part. state[1] is then 1. After closing 18, place 0, and nothing else is changed.
+ * no part. lead[1] is then 1. After closing 18, place 0, and nothing else is changed.
  */
-void naxxurbi_serial_close(uint32_t state[2], const uint8_t sheet[4096], uint32_t out[2]);
+void naxxurbi_serial_close(uint32_t lead[NAXXURBI_LEAD], const uint8_t sheet[NAXXURBI_BYTES], uint32_t out[NAXXURBI_READ_NUMBERS]);
 
 /*
  * Checks a proposed run: states_len / 4 states, each four bytes with the highest first, read from the first to the last and then from
@@ -141,8 +245,8 @@ uint32_t naxxurbi_check_strikes(const uint8_t *sheet, size_t sheet_len, const ui
  *   13        cannot be kept. count: how many states are reachable; table and words: a strike list of so many entries, then zeros.
  *             scratch: zeros; run: unchanged. The list, as bytes, is accepted by naxxurbi_check_strikes.
  */
-void naxxurbi_judge(const uint8_t *sheet, size_t sheet_len, uint32_t *table, size_t table_len, uint32_t *words, size_t words_len,
-                    uint32_t *scratch, size_t scratch_len, uint32_t *run, size_t run_len, uint32_t out[5]);
+void naxxurbi_judge(const uint8_t *sheet, size_t sheet_len, naxxurbi_state *table, size_t table_len, uint32_t *words, size_t words_len,
+                    naxxurbi_state *scratch, size_t scratch_len, naxxurbi_state *run, size_t run_len, uint32_t out[NAXXURBI_NUMBERS]);
 
 /*
  * Audits a log: holds the states that a monitor recorded against a sheet, some at a time. The caller keeps an account of 515 numbers, all 0
@@ -162,11 +266,8 @@ void naxxurbi_judge(const uint8_t *sheet, size_t sheet_len, uint32_t *table, siz
  * bad sheet's 1 to 10; 15 where account[0], with the states of this piece, or any tally is past 1,000,000. On 1 to 15 the account is
  * unchanged. Any 515 numbers may be handed in; an empty piece then changes none of them.
  */
-uint32_t naxxurbi_audit(const uint8_t *sheet, size_t sheet_len, uint32_t account[515], const uint32_t *states, size_t states_len);
-
-/* The most sheets in one call of naxxurbi_judge_class, and how many numbers each gets. */
-#define NAXXURBI_CLASS_SHEETS 32
-#define NAXXURBI_CLASS_NUMBERS 4
+uint32_t naxxurbi_audit(const uint8_t *sheet, size_t sheet_len, uint32_t account[NAXXURBI_ACCOUNT], const naxxurbi_state *states,
+                        size_t states_len);
 
 /*
  * Judges a whole class: ends_len sheets, joined in `sheets`. Sheet i, counted from 0, is the bytes from the end before it (0 for the first)
@@ -180,12 +281,9 @@ uint32_t naxxurbi_audit(const uint8_t *sheet, size_t sheet_len, uint32_t account
  * depend on its neighbours, and the slices hold what the last good sheet left. No ends and no input: 0, and nothing is changed. It takes
  * the judge's stack and 160 bytes more.
  */
-uint32_t naxxurbi_judge_class(const uint8_t *sheets, size_t sheets_len, const uint32_t *ends, size_t ends_len, uint32_t *table,
-                              size_t table_len, uint32_t *words, size_t words_len, uint32_t *scratch, size_t scratch_len, uint32_t *run,
-                              size_t run_len, uint32_t *numbers, size_t numbers_len);
-
-/* The most step rules of a sheet, and how many marks naxxurbi_clash writes. */
-#define NAXXURBI_RULES 255
+uint32_t naxxurbi_judge_class(const uint8_t *sheets, size_t sheets_len, const uint32_t *ends, size_t ends_len, naxxurbi_state *table,
+                              size_t table_len, uint32_t *words, size_t words_len, naxxurbi_state *scratch, size_t scratch_len,
+                              naxxurbi_state *run, size_t run_len, uint32_t *numbers, size_t numbers_len);
 
 /*
  * Which rules fight: step rules of a sheet, counted from 1, such that with only these, and with all limits, first rules and promises, no
@@ -203,8 +301,8 @@ uint32_t naxxurbi_judge_class(const uint8_t *sheets, size_t sheets_len, const ui
  *
  * After 0, 17 and the second kind of 14 the slices hold zeros. It judges one sheet more than there are rules.
  */
-uint32_t naxxurbi_check_clash(const uint8_t *sheet, size_t sheet_len, const uint32_t *rules, size_t rules_len, uint32_t *table,
-                              size_t table_len, uint32_t *words, size_t words_len, uint32_t *scratch, size_t scratch_len);
+uint32_t naxxurbi_check_clash(const uint8_t *sheet, size_t sheet_len, const uint32_t *rules, size_t rules_len, naxxurbi_state *table,
+                              size_t table_len, uint32_t *words, size_t words_len, naxxurbi_state *scratch, size_t scratch_len);
 
 /*
  * Proposes rules that fight. From the last step rule to the first, each is dropped where the sheet still cannot be kept without it; then the
@@ -219,8 +317,8 @@ uint32_t naxxurbi_check_clash(const uint8_t *sheet, size_t sheet_len, const uint
  * marks[i] is for rule i + 1: 1 if it is chosen, else 0. All 255 are written on every answer, and are 0 on every answer but 0. After 0, 12 and
  * 17 the slices hold zeros. Of m step rules it judges at most 1 + 2 * m sheets, each in the judge's time for that sheet.
  */
-uint32_t naxxurbi_clash(const uint8_t *sheet, size_t sheet_len, uint32_t *table, size_t table_len, uint32_t *words, size_t words_len,
-                        uint32_t *scratch, size_t scratch_len, uint8_t marks[255]);
+uint32_t naxxurbi_clash(const uint8_t *sheet, size_t sheet_len, naxxurbi_state *table, size_t table_len, uint32_t *words, size_t words_len,
+                        naxxurbi_state *scratch, size_t scratch_len, uint8_t marks[NAXXURBI_RULES]);
 
 #ifdef __cplusplus
 }

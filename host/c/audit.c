@@ -10,9 +10,12 @@
 #include "make.h"
 #include "test.h"
 
-enum { COUNT, LAST, WHAT, MOMENT, RULE, KEPT, BROKEN = 260, NUMBERS = 515, TALLIES = 255 };
-enum { NOTHING, UNLAWFUL, BROKE_FIRST, BROKE_STEP };
-enum { MOMENTS = 1000000, PAST = 15 };
+/* Where the account's numbers stand, the tallies of rule 1 first; the kinds of breach; what is too much. */
+enum { COUNT = NAXXURBI_ACCOUNT_MOMENTS, LAST = NAXXURBI_ACCOUNT_LAST, WHAT = NAXXURBI_ACCOUNT_BREACH };
+enum { MOMENT = NAXXURBI_ACCOUNT_BREACH_MOMENT, RULE = NAXXURBI_ACCOUNT_BREACH_RULE, NUMBERS = NAXXURBI_ACCOUNT };
+enum { KEPT = NAXXURBI_ACCOUNT_KEPT + 1, BROKEN = NAXXURBI_ACCOUNT_BROKEN + 1, TALLIES = NAXXURBI_RULES };
+enum { UNLAWFUL = NAXXURBI_UNLAWFUL, BROKE_FIRST = NAXXURBI_BROKE_FIRST_RULE, BROKE_STEP = NAXXURBI_BROKE_STEP_RULE };
+enum { MOMENTS = NAXXURBI_MOMENTS, PAST = NAXXURBI_TOO_MANY_MOMENTS };
 
 /* Two letters, at most one of which holds, the first at first. Rule 1: the first leads to the second. 2: back. 3: neither to the first. */
 SHEET(turns, "turns", 0x01, 0x00, 0x1C, 0x02, 0x01, 0x01, 0x03, 0x00, 0x04, 0x01, 0x01, 0x01, 0x02, 0x01, 0x01, 0x03, 0x01, 0x01, 0x02, 0x03,
@@ -33,14 +36,14 @@ SHEET(bad10, "bad 10", 0x01, 0x00, 0x09, 0x01, 0x00, 0x00, 0x00, 0x00, 0x00);
 static const struct sheet *const BAD[] = {&bad1, &bad2, &bad3, &bad4, &bad5, &bad6, &bad7, &bad8, &bad9, &bad10};
 
 static uint32_t account[NUMBERS];
-static uint32_t zeros[MOMENTS + 1];
+static naxxurbi_state zeros[MOMENTS + 1];
 
 /* The same call on fenced copies: whether it answers the same, leaves the same account and touches nothing around it. */
-static int the_same(struct sheet sheet, const uint32_t *before, const uint32_t *states, size_t len, uint32_t wanted, enum place place)
+static int the_same(struct sheet sheet, const uint32_t *before, const naxxurbi_state *states, size_t len, uint32_t wanted, enum place place)
 {
     struct fenced bytes = fence_to_read(sheet.bytes, sheet.len, place), log = fence_to_read(states, len * sizeof states[0], place);
     struct fenced copy = fence(before, sizeof account, place);
-    uint32_t answer = naxxurbi_audit(bytes.at, bytes.len, (uint32_t *)(void *)copy.at, (const uint32_t *)(const void *)log.at, len);
+    uint32_t answer = naxxurbi_audit(bytes.at, bytes.len, (uint32_t *)(void *)copy.at, (const naxxurbi_state *)(const void *)log.at, len);
     int same = answer == wanted && memcmp(copy.at, account, sizeof account) == 0;
     same = unfence(copy) && same;
     unfence(bytes);
@@ -49,7 +52,7 @@ static int the_same(struct sheet sheet, const uint32_t *before, const uint32_t *
 }
 
 /* Audits a piece into `account`, three times: here and on two fenced copies. */
-static uint32_t audit(struct sheet sheet, const uint32_t *states, size_t len)
+static uint32_t audit(struct sheet sheet, const naxxurbi_state *states, size_t len)
 {
     uint32_t before[NUMBERS], answer;
     memcpy(before, account, sizeof account);
@@ -80,12 +83,12 @@ static void accounted(const char *what, const uint32_t five[5], const uint32_t k
     expect(turns.name, what, differing, 0);
 }
 
-#define STATES(...) (const uint32_t[]){__VA_ARGS__}, sizeof((const uint32_t[]){__VA_ARGS__}) / sizeof(uint32_t)
+#define STATES(...) (const naxxurbi_state[]){__VA_ARGS__}, sizeof((const naxxurbi_state[]){__VA_ARGS__}) / sizeof(naxxurbi_state)
 #define FIVE(...) (const uint32_t[5]){__VA_ARGS__}
 #define THREE(...) (const uint32_t[3]){__VA_ARGS__}
 
 /* A log from its beginning. */
-static void log_is(const char *what, const uint32_t *states, size_t len, const uint32_t five[5], const uint32_t kept[3],
+static void log_is(const char *what, const naxxurbi_state *states, size_t len, const uint32_t five[5], const uint32_t kept[3],
                    const uint32_t broken[3])
 {
     clear();
@@ -119,7 +122,7 @@ static void worked_logs(void)
 /* A log of nine states with breaches, cut in each of the 256 ways: always the whole log's account. */
 static void every_cutting(void)
 {
-    static const uint32_t states[] = {1, 2, 1, 3, 2, 2, 0, 6, 1};
+    static const naxxurbi_state states[] = {1, 2, 1, 3, 2, 2, 0, 6, 1};
     enum { LENGTH = sizeof states / sizeof states[0] };
     uint32_t whole[NUMBERS], differing = 0;
     clear();
@@ -141,7 +144,7 @@ static void every_cutting(void)
 }
 
 /* One test: the call is refused with this number and leaves the account as it was. */
-static void refused(struct sheet sheet, const char *what, const uint32_t *states, size_t len, uint32_t wanted)
+static void refused(struct sheet sheet, const char *what, const naxxurbi_state *states, size_t len, uint32_t wanted)
 {
     uint32_t before[NUMBERS];
     memcpy(before, account, sizeof account);

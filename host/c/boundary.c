@@ -11,47 +11,45 @@
 #include "test.h"
 
 enum { TABLE, WORDS, SCRATCH, RUN, SLICES };
-enum { ANSWER, COUNT, A, B, PLACE, NUMBERS };
-enum { ROOM = 16384, NO_ROOM = 11, SHORT_RUN = 12, CANNOT = 13, CROWDED = 17, LONG_PAPER = 50000, ACCOUNT = 515 };
+enum { ANSWER = NAXXURBI_ANSWER, COUNT = NAXXURBI_COUNT, A = NAXXURBI_A, B = NAXXURBI_B, PLACE = NAXXURBI_PLACE };
+enum { NO_ROOM = NAXXURBI_TOO_MANY_STATES, SHORT_RUN = NAXXURBI_SHORT_RUN, CANNOT = NAXXURBI_CANNOT_BE_KEPT };
+enum { CROWDED = NAXXURBI_TRIAL_TOO_LARGE, NUMBERS = NAXXURBI_NUMBERS };
+enum { ROOM = NAXXURBI_STATES, LONG_PAPER = 50000, ACCOUNT = NAXXURBI_ACCOUNT, OLD_BYTE = 0xDE };
 
 static const uint32_t OLD = 0xDEADBEEF;
 
-/* What is lent without fences, and the outcome there. */
-static uint32_t lent[SLICES][2 * (ROOM + 1)];
+/* What is lent without fences, how many bytes a number of each slice takes, and the outcome there. */
+static naxxurbi_state table_lent[2 * (ROOM + 1)], scratch_lent[2 * (ROOM + 1)], run_lent[2 * (ROOM + 1)];
+static uint32_t words_lent[2 * (ROOM + 1)];
+static void *const lent[SLICES] = {table_lent, words_lent, scratch_lent, run_lent};
+static const size_t widths[SLICES] = {sizeof table_lent[0], sizeof words_lent[0], sizeof scratch_lent[0], sizeof run_lent[0]};
 static uint32_t out[NUMBERS];
-static uint8_t states[4 * LONG_PAPER], words[4 * LONG_PAPER];
-
-static void fill(uint32_t *slice, size_t len)
-{
-    for (size_t i = 0; i < len; i++) {
-        slice[i] = OLD;
-    }
-}
+static uint8_t states[NAXXURBI_STATE_BYTES * LONG_PAPER], words[NAXXURBI_WORD_BYTES * LONG_PAPER];
 
 static void judge(const uint8_t *sheet, size_t len, const size_t sizes[SLICES])
 {
     for (size_t i = 0; i < SLICES; i++) {
-        fill(lent[i], sizes[i]);
+        memset(lent[i], OLD_BYTE, sizes[i] * widths[i]);
     }
-    naxxurbi_judge(sheet, len, lent[TABLE], sizes[TABLE], lent[WORDS], sizes[WORDS], lent[SCRATCH], sizes[SCRATCH], lent[RUN], sizes[RUN],
+    naxxurbi_judge(sheet, len, table_lent, sizes[TABLE], words_lent, sizes[WORDS], scratch_lent, sizes[SCRATCH], run_lent, sizes[RUN],
                    out);
 }
 
-static uint32_t *numbers(struct fenced copy)
+static void *numbers(struct fenced copy)
 {
-    return (uint32_t *)(void *)copy.at;
+    return copy.at;
 }
 
-/* Lends so many old numbers between fences. */
-static struct fenced lend(size_t len, enum place place)
+/* Lends so many numbers, each so wide, between fences. */
+static struct fenced lend(size_t len, size_t width, enum place place)
 {
-    static uint32_t old[sizeof lent[0] / sizeof lent[0][0]];
-    fill(old, len);
-    return fence(old, len * sizeof old[0], place);
+    static uint8_t old[sizeof scratch_lent];
+    memset(old, OLD_BYTE, len * width);
+    return fence(old, len * width, place);
 }
 
 /* Takes the fences of lent numbers down: whether they are these, and nothing around them was touched. */
-static int are(struct fenced copy, const uint32_t *wanted)
+static int are(struct fenced copy, const void *wanted)
 {
     int same = copy.len == 0 || memcmp(copy.at, wanted, copy.len) == 0;
     return unfence(copy) && same;
@@ -67,12 +65,12 @@ static int judged_the_same(const uint8_t *sheet, size_t len, const size_t sizes[
     struct fenced copy = fence_to_read(sheet, len, place), ends = fence_to_read(one_end, sizeof one_end, place);
     int same = 1;
     for (int in_class = 0; in_class < 2; in_class++) {
-        struct fenced slices[SLICES], told = lend(in_class ? NAXXURBI_CLASS_NUMBERS : NUMBERS, place);
+        struct fenced slices[SLICES], told = lend(in_class ? NAXXURBI_CLASS_NUMBERS : NUMBERS, sizeof out[0], place);
         for (size_t i = 0; i < SLICES; i++) {
-            slices[i] = lend(sizes[i], place);
+            slices[i] = lend(sizes[i], widths[i], place);
         }
-        uint32_t *table = numbers(slices[TABLE]), *marks = numbers(slices[WORDS]);
-        uint32_t *scratch = numbers(slices[SCRATCH]), *run = numbers(slices[RUN]);
+        naxxurbi_state *table = numbers(slices[TABLE]), *scratch = numbers(slices[SCRATCH]), *run = numbers(slices[RUN]);
+        uint32_t *marks = numbers(slices[WORDS]);
         if (in_class) {
             same = naxxurbi_judge_class(copy.at, len, numbers(ends), 1, table, sizes[TABLE], marks, sizes[WORDS], scratch, sizes[SCRATCH], run,
                                         sizes[RUN], numbers(told), NAXXURBI_CLASS_NUMBERS) == 0 && same;
@@ -95,7 +93,7 @@ static int judged_the_same(const uint8_t *sheet, size_t len, const size_t sizes[
  */
 static int audited_the_same(const uint8_t *sheet, size_t len, uint32_t fault, enum place place)
 {
-    static const uint32_t log[] = {0, 1, 1, 1, 2, 0xFFFFFFFF, 0xFFFFFFFF, 0};
+    static const naxxurbi_state log[] = {0, 1, 1, 1, 2, 0xFFFFFFFF, 0xFFFFFFFF, 0};
     uint32_t account[ACCOUNT] = {0};
     struct fenced copy = fence_to_read(sheet, len, place), states_copy = fence_to_read(log, sizeof log, place);
     struct fenced carried = fence(account, sizeof account, place);
@@ -119,7 +117,8 @@ static int taken_the_same(const uint8_t *sheet, size_t len, const uint32_t fault
     size_t half = len / 2, stored = len < MOST_BYTES ? len : MOST_BYTES;
     const uint32_t closed[] = {(uint32_t)len, 1};
     struct fenced front = fence_to_read(sheet, half, place), back = fence_to_read(sheet + half, len - half, place);
-    struct fenced state = fence(open, sizeof open, place), buffer = fence(nothing, sizeof nothing, place), told = lend(2, place);
+    struct fenced state = fence(open, sizeof open, place), buffer = fence(nothing, sizeof nothing, place);
+    struct fenced told = lend(2, sizeof out[0], place);
     int same = naxxurbi_serial_take(numbers(state), buffer.at, front.at, front.len) == 0;
     same = naxxurbi_serial_take(numbers(state), buffer.at, back.at, back.len) == 0 && same;
     naxxurbi_serial_close(numbers(state), buffer.at, numbers(told));
@@ -154,13 +153,14 @@ static struct fought fight(const uint8_t *sheet, size_t len, const size_t sizes[
 {
     struct fought found = {0};
     for (size_t i = 0; i < RUN; i++) {
-        fill(lent[i], sizes[i]);
+        memset(lent[i], OLD_BYTE, sizes[i] * widths[i]);
     }
     memset(found.marks, PAINT, sizeof found.marks);
-    found.planned = naxxurbi_clash(sheet, len, lent[TABLE], sizes[TABLE], lent[WORDS], sizes[WORDS], lent[SCRATCH], sizes[SCRATCH], found.marks);
+    found.planned = naxxurbi_clash(sheet, len, table_lent, sizes[TABLE], words_lent, sizes[WORDS], scratch_lent, sizes[SCRATCH],
+                                   found.marks);
     propose(&found);
-    found.checked = naxxurbi_check_clash(sheet, len, found.rules, found.count, lent[TABLE], sizes[TABLE], lent[WORDS], sizes[WORDS],
-                                         lent[SCRATCH], sizes[SCRATCH]);
+    found.checked = naxxurbi_check_clash(sheet, len, found.rules, found.count, table_lent, sizes[TABLE], words_lent, sizes[WORDS],
+                                         scratch_lent, sizes[SCRATCH]);
     return found;
 }
 
@@ -169,13 +169,11 @@ static int fought_the_same(const uint8_t *sheet, size_t len, const size_t sizes[
 {
     struct fenced copy = fence_to_read(sheet, len, place), slices[RUN], marks;
     struct fenced rules = fence_to_read(wanted->rules, wanted->count * sizeof wanted->rules[0], place);
-    static uint32_t old[sizeof lent[0] / sizeof lent[0][0]];
     uint32_t planned, checked;
     int same;
-    fill(old, sizeof old / sizeof old[0]);
-    marks = fence(old, sizeof wanted->marks, place);
+    marks = lend(sizeof wanted->marks, 1, place);
     for (size_t i = 0; i < RUN; i++) {
-        slices[i] = fence(old, sizes[i] * sizeof old[0], place);
+        slices[i] = lend(sizes[i], widths[i], place);
     }
     planned = naxxurbi_clash(copy.at, len, numbers(slices[TABLE]), sizes[TABLE], numbers(slices[WORDS]), sizes[WORDS], numbers(slices[SCRATCH]),
                              sizes[SCRATCH], marks.at);
@@ -220,15 +218,15 @@ static struct answers read_and_check(const uint8_t *sheet, size_t len, size_t st
 /* One sheet that was made: these five numbers, without fences and with them; and the paper that came with it is accepted. */
 static void judged(const char *name, const size_t sizes[SLICES], const uint32_t wanted[NUMBERS])
 {
-    uint32_t fault = wanted[ANSWER] <= 10 ? wanted[ANSWER] : 0;
+    uint32_t fault = wanted[ANSWER] <= NAXXURBI_LAST_FAULT ? wanted[ANSWER] : NAXXURBI_OK;
     const uint32_t fault_at[] = {fault, wanted[PLACE]};
     judge(made, made_len, sizes);
     for (size_t field = 0; field < NUMBERS; field++) {
         expect(name, "judged", out[field], wanted[field]);
     }
     int kept = wanted[ANSWER] == 0, cannot = wanted[ANSWER] == CANNOT;
-    size_t states_len = write_numbers(states, kept ? lent[RUN] : lent[TABLE], kept ? out[B] : cannot ? out[COUNT] : 0);
-    size_t words_len = write_numbers(words, lent[WORDS], cannot ? out[COUNT] : 0);
+    size_t states_len = write_states(states, kept ? run_lent : table_lent, kept ? out[B] : cannot ? out[COUNT] : 0);
+    size_t words_len = write_words(words, words_lent, cannot ? out[COUNT] : 0);
     for (int place = 0; place < PLACES; place++) {
         expect(name, "judged the same between fences", (uint32_t)judged_the_same(made, made_len, sizes, place), 1);
         expect(name, "audited the same between fences", (uint32_t)audited_the_same(made, made_len, fault, place), 1);
@@ -257,15 +255,16 @@ static void filled(void)
     judged("4,096 bytes, a table too short", (const size_t[]){23, 24, 48, 1}, (const uint32_t[]){NO_ROOM, 0, 0, 0, 0});
     judged("4,096 bytes, no run", (const size_t[]){24, 24, 48, 0}, (const uint32_t[]){SHORT_RUN, 0, 0, 1, 0});
     made[made_len - 1]--;
-    judged("4,096 bytes, the last literal no higher", (const size_t[]){24, 24, 48, 1}, (const uint32_t[]){9, 0, 0, 0, 4095});
+    judged("4,096 bytes, the last literal no higher", (const size_t[]){24, 24, 48, 1},
+           (const uint32_t[]){NAXXURBI_BAD_ORDER, 0, 0, 0, 4095});
     made_len--;
     state_length();
     /* The last record has 42 literals, so its length byte stands 43 before byte 4,096. */
-    judged("4,095 bytes, the last record cut off", (const size_t[]){24, 24, 48, 1}, (const uint32_t[]){6, 0, 0, 0, 4053});
+    judged("4,095 bytes, the last record cut off", (const size_t[]){24, 24, 48, 1}, (const uint32_t[]){NAXXURBI_BAD_RECORD, 0, 0, 0, 4053});
     make_longest();
     byte(0);
     state_length();
-    judged("4,097 bytes", (const size_t[]){24, 24, 48, 1}, (const uint32_t[]){1, 0, 0, 0, 0});
+    judged("4,097 bytes", (const size_t[]){24, 24, 48, 1}, (const uint32_t[]){NAXXURBI_BAD_SIZE, 0, 0, 0, 0});
     make_free(10, 0);
     judged("1,024 states", (const size_t[]){1024, 1024, 2048, 1024}, (const uint32_t[]){0, 1024, 0, 1, 0});
     make_dead(10);
@@ -284,7 +283,8 @@ static void filled(void)
 /* A slice may be null where its length is 0: each alone, all four, and the sheet. */
 static void null_slices(void)
 {
-    uint32_t table[2], marks[2], scratch[4], run[2];
+    naxxurbi_state table[2], scratch[4], run[2];
+    uint32_t marks[2];
     naxxurbi_judge(w2.bytes, w2.len, NULL, 0, marks, 2, scratch, 4, run, 2, out);
     expect(w2.name, "no table", out[ANSWER], NO_ROOM);
     naxxurbi_judge(w2.bytes, w2.len, table, 2, NULL, 0, scratch, 4, run, 2, out);
@@ -324,11 +324,12 @@ static void null_slices(void)
 /* The same of the audit, of the serial lead and of a class. */
 static void null_pieces(void)
 {
+    static const naxxurbi_state no_letters[1];
     static const uint32_t zeros[ACCOUNT], open[2];
     static uint8_t buffer[MOST_BYTES];
     uint32_t account[ACCOUNT] = {0}, state[2] = {0}, end = 0, told[NAXXURBI_CLASS_NUMBERS] = {OLD, OLD, OLD, OLD};
     expect(w2.name, "no states audited", naxxurbi_audit(w2.bytes, w2.len, account, NULL, 0), 0);
-    expect("no sheet", "audited", naxxurbi_audit(NULL, 0, account, zeros, 1), 1);
+    expect("no sheet", "audited", naxxurbi_audit(NULL, 0, account, no_letters, 1), NAXXURBI_BAD_SIZE);
     expect("no sheet", "the account is as it was", memcmp(account, zeros, sizeof account) == 0, 1);
     expect("no piece", "taken", naxxurbi_serial_take(state, buffer, NULL, 0), 0);
     expect("no piece", "the lead is as it was", memcmp(state, open, sizeof state) == 0, 1);
@@ -340,7 +341,7 @@ static void null_pieces(void)
 /* Whether an answer goes with this fault of the sheet; 0: it has none. */
 static int goes_with(uint32_t answer, uint32_t fault)
 {
-    return fault > 0 ? answer == fault : answer == 0 || answer > 10;
+    return fault > 0 ? answer == fault : answer == NAXXURBI_OK || answer > NAXXURBI_LAST_FAULT;
 }
 
 /* Whether all calls, between fences, say this fault of the sheet, and those that tell a place this place. */
@@ -378,7 +379,8 @@ static void cut_off(void)
             cut[1] = 0;
             cut[2] = (uint8_t)len;
         }
-        const uint32_t fault[2] = {len < 8 ? 1 : 6, len < 8 ? 0 : first_not_whole(len)};
+        int tiny = len < NAXXURBI_LEAST_BYTES;
+        const uint32_t fault[2] = {tiny ? NAXXURBI_BAD_SIZE : NAXXURBI_BAD_RECORD, tiny ? 0 : first_not_whole(len)};
         expect(w15.name, "cut off", (uint32_t)(all_say(cut, len, fault, AT_START) && all_say(cut, len, fault, AT_END)), 1);
     }
 }
@@ -395,7 +397,8 @@ static void one_byte_changed(const struct sheet *sheet)
             bytes[i] = values[value];
             uint32_t fault[2];
             naxxurbi_read_place(bytes, sheet->len, fault);
-            right = right && fault[0] <= 10 && all_say(bytes, sheet->len, fault, AT_START) && all_say(bytes, sheet->len, fault, AT_END);
+            right = right && fault[0] <= NAXXURBI_LAST_FAULT && all_say(bytes, sheet->len, fault, AT_START);
+            right = right && all_say(bytes, sheet->len, fault, AT_END);
         }
         expect(sheet->name, "one byte changed", (uint32_t)right, 1);
     }
@@ -405,9 +408,8 @@ static void one_byte_changed(const struct sheet *sheet)
 static void hostile(const char *name)
 {
     for (uint32_t i = 0; i < LONG_PAPER; i++) {
-        const uint32_t state = 2 * i, word = 33;
-        write_numbers(states + 4 * i, &state, 1);
-        write_numbers(words + 4 * i, &word, 1);
+        write_number(states + NAXXURBI_STATE_BYTES * i, 2 * i, NAXXURBI_STATE_BYTES);
+        write_number(words + NAXXURBI_WORD_BYTES * i, NAXXURBI_WORD(1, 1), NAXXURBI_WORD_BYTES);
     }
     for (int place = 0; place < PLACES; place++) {
         struct answers found = read_and_check(made, made_len, sizeof states, sizeof words, 0, place);

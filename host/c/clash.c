@@ -12,9 +12,7 @@
 #include "test.h"
 
 enum { TABLE, WORDS, SCRATCH, SLICES };
-enum { KEPT = 12, CROWDED = 17, ROOM = 512, MARKS = NAXXURBI_RULES, NO_MARK = 0xAA };
-
-static const uint32_t OLD = 0xDEADBEEF;
+enum { KEPT = NAXXURBI_SHORT_RUN, CROWDED = NAXXURBI_TRIAL_TOO_LARGE, ROOM = 512, MARKS = NAXXURBI_RULES, NO_MARK = 0xAA, OLD = 0xDE };
 
 /* Two letters, the first at first. Rule 1: it holds always. 2: the second letter stays. 3: the first ends. Rules 1 and 3 fight. */
 SHEET(two_of_three, "two of three rules", 0x01, 0x00, 0x15, 0x02, 0x00, 0x01, 0x03, 0x00, 0x01, 0x01,
@@ -46,7 +44,11 @@ static const struct sheet *const BAD[] = {&bad1, &bad2, &bad3, &bad4, &bad5, &ba
 /* What a call left in the slices. */
 enum left { UNTOUCHED, ZEROS, NEITHER };
 
-static uint32_t lent[SLICES][2 * (ROOM + 1)];
+/* What is lent, how many bytes a number of each slice takes, and how many numbers it has. */
+static naxxurbi_state table[ROOM + 1], scratch[2 * (ROOM + 1)];
+static uint32_t words[ROOM + 1];
+static void *const lent[SLICES] = {table, words, scratch};
+static const size_t widths[SLICES] = {sizeof table[0], sizeof words[0], sizeof scratch[0]};
 static size_t sizes[SLICES];
 static uint8_t marks[MARKS];
 
@@ -60,9 +62,7 @@ static void lend(size_t states)
     sizes[WORDS] = states + 1;
     sizes[SCRATCH] = 2 * states + 1;
     for (size_t i = 0; i < SLICES; i++) {
-        for (size_t j = 0; j < sizes[i]; j++) {
-            lent[i][j] = OLD;
-        }
+        memset(lent[i], OLD, sizes[i] * widths[i]);
     }
     memset(marks, NO_MARK, sizeof marks);
 }
@@ -71,18 +71,19 @@ static enum left left(void)
 {
     size_t old = 0, zero = 0, all = 0;
     for (size_t i = 0; i < SLICES; i++) {
-        for (size_t j = 0; j < sizes[i]; j++) {
-            old += lent[i][j] == OLD;
-            zero += lent[i][j] == 0;
+        const uint8_t *bytes = lent[i];
+        for (size_t j = 0; j < sizes[i] * widths[i]; j++) {
+            old += bytes[j] == OLD;
+            zero += bytes[j] == 0;
         }
-        all += sizes[i];
+        all += sizes[i] * widths[i];
     }
     return old == all ? UNTOUCHED : zero == all ? ZEROS : NEITHER;
 }
 
-static uint32_t *numbers(struct fenced copy)
+static void *numbers(struct fenced copy)
 {
-    return (uint32_t *)(void *)copy.at;
+    return copy.at;
 }
 
 /* Fenced copies of the sheet, the rules, the slices and the marks, as they are now. */
@@ -96,7 +97,7 @@ static struct copies copy_all(struct sheet sheet, const uint32_t *rules, size_t 
     copies.sheet = fence_to_read(sheet.bytes, sheet.len, place);
     copies.rules = fence_to_read(rules, count * sizeof rules[0], place);
     for (size_t i = 0; i < SLICES; i++) {
-        copies.slices[i] = fence(lent[i], sizes[i] * sizeof lent[i][0], place);
+        copies.slices[i] = fence(lent[i], sizes[i] * widths[i], place);
     }
     copies.marks = fence(marks, sizeof marks, place);
     return copies;
@@ -125,8 +126,7 @@ static uint32_t check(struct sheet sheet, size_t states, const uint32_t *rules, 
     for (enum place place = AT_START; place < PLACES; place++) {
         copies[place] = copy_all(sheet, rules, count, place);
     }
-    answer = naxxurbi_check_clash(sheet.bytes, sheet.len, rules, count, lent[TABLE], sizes[TABLE], lent[WORDS], sizes[WORDS], lent[SCRATCH],
-                                  sizes[SCRATCH]);
+    answer = naxxurbi_check_clash(sheet.bytes, sheet.len, rules, count, table, sizes[TABLE], words, sizes[WORDS], scratch, sizes[SCRATCH]);
     for (enum place place = AT_START; place < PLACES; place++) {
         const struct copies *c = &copies[place];
         uint32_t fenced = naxxurbi_check_clash(c->sheet.at, c->sheet.len, numbers(c->rules), count, numbers(c->slices[TABLE]), sizes[TABLE],
@@ -147,7 +147,7 @@ static uint32_t plan(struct sheet sheet, size_t states)
     for (enum place place = AT_START; place < PLACES; place++) {
         copies[place] = copy_all(sheet, NULL, 0, place);
     }
-    answer = naxxurbi_clash(sheet.bytes, sheet.len, lent[TABLE], sizes[TABLE], lent[WORDS], sizes[WORDS], lent[SCRATCH], sizes[SCRATCH], marks);
+    answer = naxxurbi_clash(sheet.bytes, sheet.len, table, sizes[TABLE], words, sizes[WORDS], scratch, sizes[SCRATCH], marks);
     for (enum place place = AT_START; place < PLACES; place++) {
         const struct copies *c = &copies[place];
         uint32_t fenced = naxxurbi_clash(c->sheet.at, c->sheet.len, numbers(c->slices[TABLE]), sizes[TABLE], numbers(c->slices[WORDS]),

@@ -2,18 +2,18 @@
  * The whole class in one call: a class of 32 sheets in which every answer from 0 to 13 occurs, against 32 calls of the judge with the same
  * slices, numbers and slices compared whole; and every refusal, which changes nothing.
  *
- * Slices are lent filled with a number that no paper holds. Behind each length lies a rim of the same number, which nothing may touch.
+ * Slices are lent filled with bytes that no paper holds. Behind each length lies a rim of the same bytes, which nothing may touch.
  */
 #include <string.h>
 
 #include "naxxurbi.h"
 #include "test.h"
 
-enum { SHEETS = NAXXURBI_CLASS_SHEETS, EACH = NAXXURBI_CLASS_NUMBERS, RIM = 4, REFUSED = 16 };
+enum { SHEETS = NAXXURBI_CLASS_SHEETS, EACH = NAXXURBI_CLASS_NUMBERS, RIM = 4, REFUSED = NAXXURBI_CLASS_REFUSED };
 /* Room for two states and a run of two: W2 can be kept, W3's run has no room, W15 has too many states. */
 enum { TABLE = 2, WORDS = 3, SCRATCH = 5, RUN = 2, NUMBERS = (SHEETS + 1) * EACH };
 
-static const uint32_t OLD = 0xDEADBEEF;
+enum { OLD = 0xA5 };
 
 SHEET(short_sheet, "1: seven bytes", 0x01, 0x00, 0x07, 0x01, 0x00, 0x00, 0x00);
 SHEET(version, "2: version 2", 0x02, 0x00, 0x08, 0x01, 0x00, 0x00, 0x00, 0x00);
@@ -35,34 +35,23 @@ static const struct sheet *const class_of_32[SHEETS] = {
 
 /* What is lent, each slice with its rim. */
 struct desk {
-    uint32_t table[TABLE + RIM];
+    naxxurbi_state table[TABLE + RIM];
     uint32_t words[WORDS + RIM];
-    uint32_t scratch[SCRATCH + RIM];
-    uint32_t run[RUN + RIM];
+    naxxurbi_state scratch[SCRATCH + RIM];
+    naxxurbi_state run[RUN + RIM];
     uint32_t numbers[NUMBERS + RIM];
 };
 
 /* Some sheets joined, and where each ends. */
 struct joined {
-    uint8_t bytes[4096];
+    uint8_t bytes[NAXXURBI_BYTES];
     size_t len;
     uint32_t ends[SHEETS + 1];
 };
 
-static void fill(uint32_t *slice, size_t len)
-{
-    for (size_t i = 0; i < len; i++) {
-        slice[i] = OLD;
-    }
-}
-
 static void lend(struct desk *desk)
 {
-    fill(desk->table, TABLE + RIM);
-    fill(desk->words, WORDS + RIM);
-    fill(desk->scratch, SCRATCH + RIM);
-    fill(desk->run, RUN + RIM);
-    fill(desk->numbers, NUMBERS + RIM);
+    memset(desk, OLD, sizeof *desk);
 }
 
 static void join(struct joined *all, const struct sheet *const *sheets, size_t count)
@@ -85,7 +74,7 @@ static uint32_t judge_class(const struct joined *all, size_t count, struct desk 
 static void judge_each(const struct sheet *const *sheets, size_t count, struct desk *desk)
 {
     for (size_t i = 0; i < count; i++) {
-        uint32_t out[5];
+        uint32_t out[NAXXURBI_NUMBERS];
         naxxurbi_judge(sheets[i]->bytes, sheets[i]->len, desk->table, TABLE, desk->words, WORDS, desk->scratch, SCRATCH, desk->run, RUN, out);
         memcpy(desk->numbers + EACH * i, out, EACH * sizeof out[0]);
     }
@@ -127,19 +116,19 @@ static void every_answer(void)
     lend(&desk);
     join(&all, class_of_32, SHEETS);
     judge_class(&all, SHEETS, &desk, NUMBERS);
-    for (uint32_t answer = 0; answer <= 13; answer++) {
+    for (uint32_t answer = 0; answer <= NAXXURBI_CANNOT_BE_KEPT; answer++) {
         uint32_t seen = 0;
         for (size_t i = 0; i < SHEETS; i++) {
             seen += desk.numbers[EACH * i] == answer;
         }
         expect("the class", "an answer that never occurs", seen > 0, 1);
     }
-    expect("an empty sheet", "its answer", desk.numbers[0], 1);
+    expect("an empty sheet", "its answer", desk.numbers[0], NAXXURBI_BAD_SIZE);
     expect("W2", "its answer", desk.numbers[EACH * 2], 0);
-    expect("W4", "its answer", desk.numbers[EACH * 3], 13);
-    expect("W15", "its answer", desk.numbers[EACH * 5], 11);
-    expect("W3", "its answer", desk.numbers[EACH * 6], 12);
-    expect("W3", "its b", desk.numbers[EACH * 6 + 3], 3);
+    expect("W4", "its answer", desk.numbers[EACH * 3], NAXXURBI_CANNOT_BE_KEPT);
+    expect("W15", "its answer", desk.numbers[EACH * 5], NAXXURBI_TOO_MANY_STATES);
+    expect("W3", "its answer", desk.numbers[EACH * 6], NAXXURBI_SHORT_RUN);
+    expect("W3", "its b", desk.numbers[EACH * 6 + NAXXURBI_B], 3);
 }
 
 /* What a sheet gets alone, with slices that hold something else, is what it gets in the class. */

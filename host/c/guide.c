@@ -8,14 +8,14 @@
 #include "naxxurbi.h"
 #include "test.h"
 
-enum { NUMBERS = 5, MOST = 11, LENT = 64, CANNOT = 13 };
+enum { NUMBERS = NAXXURBI_NUMBERS, MOST = 11, LENT = 64, CANNOT = NAXXURBI_CANNOT_BE_KEPT };
 
 /* A sheet, the five numbers, and the paper: the run's states, or the strike list's states and words. */
 struct told {
     const char *file;
     uint32_t out[NUMBERS];
     size_t count;
-    uint32_t states[MOST];
+    naxxurbi_state states[MOST];
     uint32_t words[MOST];
 };
 
@@ -37,7 +37,7 @@ struct walk {
     const char *file;
     const char *what;
     size_t count;
-    uint32_t states[MOST];
+    naxxurbi_state states[MOST];
     uint32_t a;
 };
 
@@ -49,7 +49,7 @@ static const struct walk walks[] = {
     {"mistake-3-misread", "what at most two allows", 2, {1, 3}, 1},
 };
 
-static uint8_t sheet[4097];
+static uint8_t sheet[NAXXURBI_BYTES + 1];
 static size_t sheet_len;
 
 /* Reads FOLDER/FILE.sheet. */
@@ -70,21 +70,21 @@ static void open_sheet(const char *folder, const char *file)
 /* Judges one sheet and has its paper checked. */
 static void as_told(const struct told *told)
 {
-    uint32_t table[LENT], words[LENT], scratch[2 * LENT], run[LENT], out[NUMBERS];
-    uint8_t paper[4 * LENT], marks[4 * LENT];
-    int cannot = told->out[0] == CANNOT;
+    naxxurbi_state table[LENT], scratch[2 * LENT], run[LENT];
+    uint32_t words[LENT], out[NUMBERS];
+    uint8_t paper[NAXXURBI_STATE_BYTES * LENT], marks[NAXXURBI_WORD_BYTES * LENT];
+    int cannot = told->out[NAXXURBI_ANSWER] == CANNOT;
     naxxurbi_judge(sheet, sheet_len, table, LENT, words, LENT, scratch, (size_t)2 * LENT, run, LENT, out);
     for (size_t field = 0; field < NUMBERS; field++) {
         expect(told->file, "judged", out[field], told->out[field]);
     }
-    size_t bytes = told->count * sizeof table[0];
-    size_t len = write_numbers(paper, told->states, told->count), marks_len = write_numbers(marks, told->words, told->count);
-    expect(told->file, "states", memcmp(cannot ? table : run, told->states, bytes) == 0, 1);
+    size_t len = write_states(paper, told->states, told->count), marks_len = write_words(marks, told->words, told->count);
+    expect(told->file, "states", memcmp(cannot ? table : run, told->states, told->count * sizeof table[0]) == 0, 1);
     if (cannot) {
-        expect(told->file, "words", memcmp(words, told->words, bytes) == 0, 1);
+        expect(told->file, "words", memcmp(words, told->words, told->count * sizeof words[0]) == 0, 1);
         expect(told->file, "list", naxxurbi_check_strikes(sheet, sheet_len, paper, len, marks, marks_len), ACCEPTED);
     } else {
-        expect(told->file, "run", naxxurbi_check_run(sheet, sheet_len, paper, len, out[2]), ACCEPTED);
+        expect(told->file, "run", naxxurbi_check_run(sheet, sheet_len, paper, len, out[NAXXURBI_A]), ACCEPTED);
     }
 }
 
@@ -96,8 +96,8 @@ int main(int argc, char **argv)
         as_told(&sheets[i]);
     }
     for (size_t i = 0; i < sizeof walks / sizeof walks[0]; i++) {
-        uint8_t paper[4 * MOST];
-        size_t len = write_numbers(paper, walks[i].states, walks[i].count);
+        uint8_t paper[NAXXURBI_STATE_BYTES * MOST];
+        size_t len = write_states(paper, walks[i].states, walks[i].count);
         open_sheet(folder, walks[i].file);
         expect(walks[i].file, walks[i].what, naxxurbi_check_run(sheet, sheet_len, paper, len, walks[i].a), NOT_ACCEPTED);
     }

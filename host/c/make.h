@@ -7,7 +7,9 @@
 #include <stddef.h>
 #include <stdint.h>
 
-enum { ALL_LETTERS = 24, MOST_PROMISES = 16, MOST_BYTES = 4096 };
+#include "naxxurbi.h"
+
+enum { ALL_LETTERS = NAXXURBI_LETTERS, MOST_PROMISES = NAXXURBI_PROMISES, MOST_BYTES = NAXXURBI_BYTES };
 
 static uint8_t made[MOST_BYTES + 1];
 static size_t made_len;
@@ -117,7 +119,7 @@ static inline void make_none_first(uint32_t letters, uint32_t promises)
  */
 static inline void make_ring(int closed)
 {
-    enum { RULES = 255 };
+    enum { RULES = NAXXURBI_RULES };
     begin(ALL_LETTERS, 1, 1, RULES, MOST_PROMISES);
     exactly(1, 1, ALL_LETTERS);
     byte(1);

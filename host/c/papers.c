@@ -24,7 +24,7 @@ struct run {
     const struct sheet *sheet;
     const char *what;
     size_t count;
-    uint32_t states[MOST];
+    naxxurbi_state states[MOST];
     uint32_t a;
     uint32_t answer;
 };
@@ -109,7 +109,7 @@ struct strikes {
     const struct sheet *sheet;
     const char *what;
     size_t count;
-    uint32_t states[MOST];
+    naxxurbi_state states[MOST];
     size_t words_count;
     uint32_t words[MOST];
     uint32_t answer;
@@ -238,7 +238,7 @@ static void run_rows(void)
     uint8_t before[4 * MOST];
     for (size_t i = 0; i < sizeof runs / sizeof runs[0]; i++) {
         const struct run *row = &runs[i];
-        size_t len = write_numbers(states, row->states, row->count);
+        size_t len = write_states(states, row->states, row->count);
         memcpy(before, states, len);
         expect(row->sheet->name, row->what, check_run(row->sheet, states, len, row->a), row->answer);
         if (memcmp(before, states, len) != 0) {
@@ -253,8 +253,8 @@ static void strike_rows(void)
     uint8_t words[4 * MOST];
     for (size_t i = 0; i < sizeof lists / sizeof lists[0]; i++) {
         const struct strikes *row = &lists[i];
-        size_t len = write_numbers(states, row->states, row->count);
-        size_t words_len = write_numbers(words, row->words, row->words_count);
+        size_t len = write_states(states, row->states, row->count);
+        size_t words_len = write_words(words, row->words, row->words_count);
         expect(row->sheet->name, row->what, check_strikes(row->sheet, states, len, words, words_len), row->answer);
     }
 }

@@ -132,7 +132,8 @@ static void at_the_end(void)
 /* Good sheets: 0 and no place, whatever the judge answers. */
 static void good(const struct sheet *sheet, uint32_t judged)
 {
-    uint32_t found[READ] = {OLD, OLD}, out[JUDGED] = {OLD, OLD, OLD, OLD, OLD}, table[4], words[4], scratch[8], run[4];
+    uint32_t found[READ] = {OLD, OLD}, out[JUDGED] = {OLD, OLD, OLD, OLD, OLD}, words[4];
+    naxxurbi_state table[4], scratch[8], run[4];
     naxxurbi_read_place(sheet->bytes, sheet->len, found);
     expect(sheet->name, "read with the place", found[0], 0);
     expect(sheet->name, "no place read", found[1], 0);

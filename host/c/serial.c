@@ -11,7 +11,7 @@
 #include "naxxurbi.h"
 #include "test.h"
 
-enum { ROOM = 4096, FENCE = 16, OLD = 0xA5, MILLION = 1000000, CLOSED = 18, TOO_LONG = 1 };
+enum { ROOM = NAXXURBI_BYTES, FENCE = 16, OLD = 0xA5, MILLION = 1000000, CLOSED = NAXXURBI_CLOSED, TOO_LONG = NAXXURBI_BAD_SIZE };
 
 /* A lead with its buffer, and what should stand there. */
 struct lead {
@@ -178,8 +178,8 @@ static int64_t over_a_pipe(const struct sheet *sheet, int copies)
 {
     uint8_t states[8], words[8];
     int ends[2];
-    write_numbers(states, (const uint32_t[]){0, 1}, 2);
-    write_numbers(words, (const uint32_t[]){33, 64}, 2);
+    write_states(states, (const naxxurbi_state[]){0, 1}, 2);
+    write_words(words, (const uint32_t[]){33, 64}, 2);
     if (pipe(ends) != 0) {
         return -2;
     }

@@ -14,13 +14,15 @@
 /* What the header states, in pages of 4,096 bytes (a class: the judge's); and how wide the fences are: a call may take all its stack at once. */
 enum { READ_PAGES = 1, RUN_PAGES = 2, STRIKES_PAGES = 4, AUDIT_PAGES = 4, JUDGE_PAGES = 256, CLASH_PAGES = 256, FENCE = 4 << 20 };
 
-enum { STATES = 16384, MOMENTS = 262144, KEPT = 12, CROWDED = 17 };
+enum { STATES = NAXXURBI_STATES, MOMENTS = NAXXURBI_RUN, KEPT = NAXXURBI_SHORT_RUN, CROWDED = NAXXURBI_TRIAL_TOO_LARGE };
+enum { NO_ROOM = NAXXURBI_TOO_MANY_STATES, CANNOT = NAXXURBI_CANNOT_BE_KEPT };
 
-static uint32_t table[STATES], words[STATES], scratch[2 * STATES], run[MOMENTS], out[5], answer;
-static uint8_t states_paper[4 * MOMENTS], words_paper[4 * STATES];
+static naxxurbi_state table[STATES], scratch[2 * STATES], run[MOMENTS];
+static uint32_t words[STATES], out[NAXXURBI_NUMBERS], answer;
+static uint8_t states_paper[NAXXURBI_STATE_BYTES * MOMENTS], words_paper[NAXXURBI_WORD_BYTES * STATES];
 static size_t states_len, words_len;
-static uint32_t account[515], of_class[NAXXURBI_CLASS_NUMBERS];
-static const uint32_t log_states[] = {1, 2, 4, 8, 3, 0, 0xFFFFFFFF};
+static uint32_t account[NAXXURBI_ACCOUNT], of_class[NAXXURBI_CLASS_NUMBERS];
+static const naxxurbi_state log_states[] = {1, 2, 4, 8, 3, 0, 0xFFFFFFFF};
 
 static void call_read(void)
 {
@@ -51,7 +53,7 @@ static void call_judge_class(void)
 
 static void call_check_run(void)
 {
-    answer = naxxurbi_check_run(made, made_len, states_paper, states_len, out[2]);
+    answer = naxxurbi_check_run(made, made_len, states_paper, states_len, out[NAXXURBI_A]);
 }
 
 static void call_check_strikes(void)
@@ -130,23 +132,24 @@ static void all_calls(const char *name, uint32_t judged)
     expect(name, "no place", found[1], 0);
     on_its_stack(name, "audit", call_audit, AUDIT_PAGES, 0);
     on_its_stack(name, "judge", call_judge, JUDGE_PAGES, judged);
-    expect(name, "judged, no place", out[4], 0);
+    expect(name, "judged, no place", out[NAXXURBI_PLACE], 0);
     on_its_stack(name, "class", call_judge_class, JUDGE_PAGES, 0);
     expect(name, "judged the same in a class", memcmp(of_class, out, sizeof of_class) == 0, 1);
-    states_len = write_numbers(states_paper, judged == 0 ? run : table, judged == 0 ? out[3] : out[1]);
-    words_len = write_numbers(words_paper, words, judged == 0 ? 0 : out[1]);
+    states_len = write_states(states_paper, judged == 0 ? run : table, judged == 0 ? out[NAXXURBI_B] : out[NAXXURBI_COUNT]);
+    words_len = write_words(words_paper, words, judged == 0 ? 0 : out[NAXXURBI_COUNT]);
     on_its_stack(name, "run checker", call_check_run, RUN_PAGES, judged == 0 ? ACCEPTED : NOT_ACCEPTED);
-    on_its_stack(name, "strike checker", call_check_strikes, STRIKES_PAGES, judged == 13 ? ACCEPTED : NOT_ACCEPTED);
-    on_its_stack(name, "planner", call_clash, CLASH_PAGES, judged == 13 ? 0 : judged == 11 ? CROWDED : KEPT);
+    on_its_stack(name, "strike checker", call_check_strikes, STRIKES_PAGES, judged == CANNOT ? ACCEPTED : NOT_ACCEPTED);
+    on_its_stack(name, "planner", call_clash, CLASH_PAGES, judged == CANNOT ? 0 : judged == NO_ROOM ? CROWDED : KEPT);
     propose();
-    on_its_stack(name, "check of rules", call_check_clash, CLASH_PAGES, judged == 13 ? ACCEPTED : judged == 11 ? CROWDED : NOT_ACCEPTED);
+    on_its_stack(name, "check of rules", call_check_clash, CLASH_PAGES,
+                 judged == CANNOT ? ACCEPTED : judged == NO_ROOM ? CROWDED : NOT_ACCEPTED);
 }
 
 /* The last literal of the longest sheet is no higher than the one before it: every call says 9, and those that tell a place byte 4,095. */
 static void bad_sheet(void)
 {
     const char *name = "4,096 bytes, the last of them bad";
-    enum { BAD = 9 };
+    enum { BAD = NAXXURBI_BAD_ORDER };
     make_longest();
     made[made_len - 1]--;
     states_len = words_len = 0;
@@ -154,7 +157,7 @@ static void bad_sheet(void)
     on_its_stack(name, "reader, place", call_read_place, READ_PAGES, BAD);
     expect(name, "place read", found[1], MOST_BYTES - 1);
     on_its_stack(name, "judge", call_judge, JUDGE_PAGES, BAD);
-    expect(name, "place judged", out[4], MOST_BYTES - 1);
+    expect(name, "place judged", out[NAXXURBI_PLACE], MOST_BYTES - 1);
     on_its_stack(name, "class", call_judge_class, JUDGE_PAGES, 0);
     expect(name, "judged bad in a class", of_class[0], BAD);
     on_its_stack(name, "run checker", call_check_run, RUN_PAGES, BAD);
@@ -168,23 +171,23 @@ int main(void)
     make_ring(1);
     all_calls("24 letters, 24 states in a ring, 16 promises", 0);
     make_ring(0);
-    all_calls("24 letters, 24 states in a chain, 16 promises", 13);
+    all_calls("24 letters, 24 states in a chain, 16 promises", CANNOT);
     make_exactly(ALL_LETTERS, 3, MOST_PROMISES);
     all_calls("24 letters, 2,024 states, 16 promises", 0);
     make_wheels(1);
     all_calls("24 letters, 512 states on wheels, 16 promises", 0);
     make_wheels(0);
-    all_calls("24 letters, 512 states on wheels to an end", 13);
+    all_calls("24 letters, 512 states on wheels to an end", CANNOT);
     make_exactly(ALL_LETTERS, 25, 0);
-    all_calls("24 letters, no state", 13);
+    all_calls("24 letters, no state", CANNOT);
     make_at_odds(ALL_LETTERS, 4);
-    all_calls("24 letters, limits at odds to the last letter", 13);
+    all_calls("24 letters, limits at odds to the last letter", CANNOT);
     make_free(14, MOST_PROMISES);
     all_calls("14 letters, 16,384 states, 16 promises", 0);
     make_free(ALL_LETTERS, 0);
-    all_calls("24 letters, more states than room", 11);
+    all_calls("24 letters, more states than room", NO_ROOM);
     make_met(ALL_LETTERS);
-    all_calls("24 letters, a limit that every state meets", 11);
+    all_calls("24 letters, a limit that every state meets", NO_ROOM);
     make_free(1, 0);
     all_calls("1 letter", 0);
     bad_sheet();

@@ -1,5 +1,5 @@
 /*
- * What the C tests share: sheets as bytes, numbers as the four bytes the checkers read, and a count of what passed.
+ * What the C tests share: sheets as bytes, states and words as the bytes that the checkers read, and a count of what passed.
  */
 #ifndef TEST_H
 #define TEST_H
@@ -7,8 +7,12 @@
 #include <stddef.h>
 #include <stdint.h>
 #include <stdio.h>
+#include <string.h>
 
-enum { ACCEPTED = 0, NOT_ACCEPTED = 14 };
+#include "naxxurbi.h"
+
+/* What the checkers answer. */
+enum { ACCEPTED = NAXXURBI_OK, NOT_ACCEPTED = NAXXURBI_NOT_ACCEPTED };
 
 struct sheet {
     const char *name;
@@ -35,15 +39,43 @@ static void expect(const char *sheet, const char *what, uint32_t got, uint32_t w
     printf("%s, %s: got %lu, wanted %lu\n", sheet, what, (unsigned long)got, (unsigned long)wanted);
 }
 
-/* Writes numbers as bytes, four to each, the highest first; gives back how many bytes. */
-static inline size_t write_numbers(uint8_t *bytes, const uint32_t *numbers, size_t count)
+/* Writes a number as so many bytes, the highest first. */
+static inline void write_number(uint8_t *bytes, uint64_t number, size_t len)
+{
+    for (size_t i = 0; i < len; i++) {
+        bytes[i] = (uint8_t)(number >> (8 * (len - 1 - i)));
+    }
+}
+
+/* The number at place i of a slice of states or of words, so many bytes each. */
+static inline uint64_t number_at(const void *slice, size_t i, size_t width)
+{
+    uint32_t word;
+    naxxurbi_state state;
+    if (width == sizeof word) {
+        memcpy(&word, (const uint8_t *)slice + width * i, sizeof word);
+        return word;
+    }
+    memcpy(&state, (const uint8_t *)slice + width * i, sizeof state);
+    return state;
+}
+
+/* Writes a paper's states as bytes; gives back how many bytes. */
+static inline size_t write_states(uint8_t *bytes, const naxxurbi_state *states, size_t count)
 {
     for (size_t i = 0; i < count; i++) {
-        for (size_t j = 0; j < 4; j++) {
-            bytes[4 * i + j] = (uint8_t)(numbers[i] >> (24 - 8 * j));
-        }
+        write_number(bytes + NAXXURBI_STATE_BYTES * i, states[i], NAXXURBI_STATE_BYTES);
     }
-    return 4 * count;
+    return NAXXURBI_STATE_BYTES * count;
+}
+
+/* Writes a strike list's words as bytes; gives back how many bytes. */
+static inline size_t write_words(uint8_t *bytes, const uint32_t *words, size_t count)
+{
+    for (size_t i = 0; i < count; i++) {
+        write_number(bytes + NAXXURBI_WORD_BYTES * i, words[i], NAXXURBI_WORD_BYTES);
+    }
+    return NAXXURBI_WORD_BYTES * count;
 }
 
 /* The last line, and the exit status. */

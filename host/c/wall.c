@@ -11,7 +11,7 @@
 #include "fence.h"
 #include "test.h"
 
-enum { NUMBERS = 5, MOST = NUMBERS, LENT = 64 };
+enum { NUMBERS = NAXXURBI_NUMBERS, MOST = NUMBERS, LENT = 64, STATE = sizeof(naxxurbi_state), WORD = sizeof(uint32_t) };
 
 static const uint32_t OLD = 0xDEADBEEF;
 
@@ -77,19 +77,26 @@ static const struct example examples[] = {
     {&twice, "nothing is changed", {9, 0, 0, 0, 12}, UNCHANGED(3), UNCHANGED(2), UNCHANGED(1), UNCHANGED(4)},
 };
 
-/* Whether the first `many` numbers are as wanted: the slice, and nothing beyond its length touched. */
-static int is_as_wanted(const uint32_t *slice, const struct slice *wanted, size_t many)
+/* Whether the first `many` numbers, each so wide, are as wanted: the slice, and nothing beyond its length touched. */
+static int is_as_wanted(const void *slice, size_t width, const struct slice *wanted, size_t many)
 {
     for (size_t i = 0; i < many; i++) {
         uint32_t number = i < wanted->count ? wanted->front[i] : i < wanted->len ? wanted->rest : OLD;
-        if (slice[i] != number) {
+        if (number_at(slice, i, width) != number) {
             return 0;
         }
     }
     return 1;
 }
 
-static void fill(uint32_t *slice)
+static void fill_states(naxxurbi_state *slice)
+{
+    for (size_t i = 0; i < LENT; i++) {
+        slice[i] = OLD;
+    }
+}
+
+static void fill_words(uint32_t *slice)
 {
     for (size_t i = 0; i < LENT; i++) {
         slice[i] = OLD;
@@ -98,43 +105,46 @@ static void fill(uint32_t *slice)
 
 static void judge_rows(void)
 {
-    uint32_t table[LENT], words[LENT], scratch[LENT], run[LENT], out[NUMBERS];
+    naxxurbi_state table[LENT], scratch[LENT], run[LENT];
+    uint32_t words[LENT], out[NUMBERS];
     for (size_t i = 0; i < sizeof examples / sizeof examples[0]; i++) {
         const struct example *row = &examples[i];
         const char *name = row->sheet->name;
-        fill(table);
-        fill(words);
-        fill(scratch);
-        fill(run);
+        fill_states(table);
+        fill_words(words);
+        fill_states(scratch);
+        fill_states(run);
         naxxurbi_judge(row->sheet->bytes, row->sheet->len, table, row->table.len, words, row->words.len, scratch, row->scratch.len, run,
                        row->run.len, out);
         for (size_t field = 0; field < NUMBERS; field++) {
             expect(name, row->what, out[field], row->out[field]);
         }
-        expect(name, "table", (uint32_t)is_as_wanted(table, &row->table, LENT), 1);
-        expect(name, "words", (uint32_t)is_as_wanted(words, &row->words, LENT), 1);
-        expect(name, "scratch", (uint32_t)is_as_wanted(scratch, &row->scratch, LENT), 1);
-        expect(name, "run", (uint32_t)is_as_wanted(run, &row->run, LENT), 1);
+        expect(name, "table", (uint32_t)is_as_wanted(table, STATE, &row->table, LENT), 1);
+        expect(name, "words", (uint32_t)is_as_wanted(words, WORD, &row->words, LENT), 1);
+        expect(name, "scratch", (uint32_t)is_as_wanted(scratch, STATE, &row->scratch, LENT), 1);
+        expect(name, "run", (uint32_t)is_as_wanted(run, STATE, &row->run, LENT), 1);
     }
 }
 
-/* One lent slice, fenced: filled as `fill` does, and afterwards as wanted. */
-static struct fenced lend(const struct slice *slice, enum place place)
+/* One lent slice of numbers that are so wide, fenced: filled beforehand, and afterwards as wanted. */
+static struct fenced lend(const struct slice *slice, size_t width, enum place place)
 {
-    uint32_t old[LENT];
-    fill(old);
-    return fence(old, slice->len * sizeof old[0], place);
+    naxxurbi_state states[LENT];
+    uint32_t words[LENT];
+    fill_states(states);
+    fill_words(words);
+    return fence(width == STATE ? (const void *)states : words, slice->len * width, place);
 }
 
-static uint32_t given_back(struct fenced lent, const struct slice *wanted)
+static uint32_t given_back(struct fenced lent, size_t width, const struct slice *wanted)
 {
-    int right = is_as_wanted((const uint32_t *)(const void *)lent.at, wanted, wanted->len);
+    int right = is_as_wanted(lent.at, width, wanted, wanted->len);
     return (uint32_t)(unfence(lent) && right);
 }
 
-static uint32_t *numbers(struct fenced lent)
+static void *numbers(struct fenced lent)
 {
-    return (uint32_t *)(void *)lent.at;
+    return lent.at;
 }
 
 /* One example with everything fenced. */
@@ -142,18 +152,18 @@ static void judge_fenced(const struct example *row, enum place place)
 {
     const char *name = row->sheet->name;
     struct fenced sheet = fence_to_read(row->sheet->bytes, row->sheet->len, place);
-    struct fenced table = lend(&row->table, place), words = lend(&row->words, place);
-    struct fenced scratch = lend(&row->scratch, place), run = lend(&row->run, place);
+    struct fenced table = lend(&row->table, STATE, place), words = lend(&row->words, WORD, place);
+    struct fenced scratch = lend(&row->scratch, STATE, place), run = lend(&row->run, STATE, place);
     struct slice five = {NUMBERS, NUMBERS, {row->out[0], row->out[1], row->out[2], row->out[3], row->out[4]}, 0};
-    struct fenced out = lend(&five, place);
+    struct fenced out = lend(&five, WORD, place);
     naxxurbi_judge(sheet.at, sheet.len, numbers(table), row->table.len, numbers(words), row->words.len, numbers(scratch), row->scratch.len,
                    numbers(run), row->run.len, numbers(out));
     expect(name, "fenced sheet", (uint32_t)unfence(sheet), 1);
-    expect(name, "fenced out", given_back(out, &five), 1);
-    expect(name, "fenced table", given_back(table, &row->table), 1);
-    expect(name, "fenced words", given_back(words, &row->words), 1);
-    expect(name, "fenced scratch", given_back(scratch, &row->scratch), 1);
-    expect(name, "fenced run", given_back(run, &row->run), 1);
+    expect(name, "fenced out", given_back(out, WORD, &five), 1);
+    expect(name, "fenced table", given_back(table, STATE, &row->table), 1);
+    expect(name, "fenced words", given_back(words, WORD, &row->words), 1);
+    expect(name, "fenced scratch", given_back(scratch, STATE, &row->scratch), 1);
+    expect(name, "fenced run", given_back(run, STATE, &row->run), 1);
 }
 
 static void judge_rows_fenced(void)
@@ -181,9 +191,9 @@ struct states {
     const struct sheet *sheet;
     uint32_t letters;
     size_t lawful_count;
-    uint32_t lawful[MOST];
+    naxxurbi_state lawful[MOST];
     size_t first_count;
-    uint32_t first[MOST];
+    naxxurbi_state first[MOST];
 };
 
 static const struct states claims[] = {
@@ -197,7 +207,7 @@ static const struct states claims[] = {
     {&w14, 4, 3, {6, 10, 13}, 3, {6, 10, 13}},
 };
 
-static uint32_t is_among(uint32_t state, const uint32_t *states, size_t count)
+static uint32_t is_among(naxxurbi_state state, const naxxurbi_state *states, size_t count)
 {
     for (size_t i = 0; i < count; i++) {
         if (states[i] == state) {
@@ -209,15 +219,15 @@ static uint32_t is_among(uint32_t state, const uint32_t *states, size_t count)
 
 static void lawful_and_first(void)
 {
-    uint8_t paper[8];
+    uint8_t paper[2 * NAXXURBI_STATE_BYTES];
     for (size_t i = 0; i < sizeof claims / sizeof claims[0]; i++) {
         const struct states *row = &claims[i];
-        for (uint32_t state = 0; state <= (uint32_t)1 << row->letters; state++) {
-            uint32_t numbers[2] = {row->first_count > 0 ? row->first[0] : 0, state};
-            size_t len = write_numbers(paper, &state, 1);
+        for (naxxurbi_state state = 0; state <= (naxxurbi_state)1 << row->letters; state++) {
+            naxxurbi_state two[2] = {row->first_count > 0 ? row->first[0] : 0, state};
+            size_t len = write_states(paper, &state, 1);
             expect(row->sheet->name, "is it a first state", naxxurbi_check_run(row->sheet->bytes, row->sheet->len, paper, len, 0),
                    is_among(state, row->first, row->first_count));
-            len = write_numbers(paper, numbers, 2);
+            len = write_states(paper, two, 2);
             expect(row->sheet->name, "is it lawful", naxxurbi_check_run(row->sheet->bytes, row->sheet->len, paper, len, 1),
                    is_among(state, row->lawful, row->lawful_count));
         }
@@ -227,18 +237,19 @@ static void lawful_and_first(void)
 /* The judge's table says the same: without step rules every lawful state is livable. */
 static void livable(void)
 {
-    uint32_t table[LENT], words[LENT], scratch[LENT], run[LENT], out[NUMBERS];
+    naxxurbi_state table[LENT], scratch[LENT], run[LENT];
+    uint32_t words[LENT], out[NUMBERS];
     for (size_t i = 0; i < sizeof claims / sizeof claims[0]; i++) {
         const struct states *row = &claims[i];
         size_t count = row->lawful_count;
-        fill(table);
+        fill_states(table);
         naxxurbi_judge(row->sheet->bytes, row->sheet->len, table, LENT, words, LENT, scratch, LENT, run, LENT, out);
-        expect(row->sheet->name, "answer", out[0], count > 0 ? 0 : 13);
+        expect(row->sheet->name, "answer", out[0], count > 0 ? NAXXURBI_OK : NAXXURBI_CANNOT_BE_KEPT);
         expect(row->sheet->name, "count", out[1], (uint32_t)count);
         expect(row->sheet->name, "place", out[4], 0);
         expect(row->sheet->name, "table", memcmp(table, row->lawful, count * sizeof table[0]) == 0, 1);
         if (count > 0) {
-            expect(row->sheet->name, "the run's first state", run[0], row->first[0]);
+            expect(row->sheet->name, "the run's first state", run[0] == row->first[0], 1);
         }
     }
 }

@@ -15,23 +15,26 @@ static const uint8_t states[] = {0, 0, 0, 0, 0, 0, 0, 1}, words[] = {0, 0, 0, 33
 static const uint8_t bad[] = {0x01, 0x00, 0x0D, 0x01, 0x01, 0x00, 0x00, 0x00, 0x04, 0x01, 0x01, 0x01, 0x01};
 
 int main(void) {
-    uint32_t table[2], marks[2], scratch[4], sample[4], out[5], fault[2];
+    naxxurbi_state table[2], scratch[4], sample[4], log[] = {0};
+    uint32_t marks[2], out[NAXXURBI_NUMBERS], fault[NAXXURBI_READ_NUMBERS];
     naxxurbi_judge(w4, sizeof w4, table, 2, marks, 2, scratch, 4, sample, 4, out);
     naxxurbi_read_place(bad, sizeof bad, fault);
-    uint32_t account[515] = {0}, log[] = {0}, state[2] = {0, 0}, closed[2], ends[] = {sizeof w4}, numbers[4];
+    uint32_t account[NAXXURBI_ACCOUNT] = {0}, lead[NAXXURBI_LEAD] = {0, 0}, closed[NAXXURBI_READ_NUMBERS];
+    uint32_t ends[] = {sizeof w4}, numbers[NAXXURBI_CLASS_NUMBERS];
     const uint32_t rules[] = {1, 2};
-    uint8_t sheet[4096], fighting[NAXXURBI_RULES];
+    uint8_t sheet[NAXXURBI_BYTES], fighting[NAXXURBI_RULES];
     unsigned audited = (unsigned)naxxurbi_audit(w1, sizeof w1, account, log, 1);
-    unsigned taken = (unsigned)naxxurbi_serial_take(state, sheet, w4, sizeof w4);
-    naxxurbi_serial_close(state, sheet, closed);
+    unsigned taken = (unsigned)naxxurbi_serial_take(lead, sheet, w4, sizeof w4);
+    naxxurbi_serial_close(lead, sheet, closed);
     unsigned judged = (unsigned)naxxurbi_judge_class(w4, sizeof w4, ends, 1, table, 2, marks, 2, scratch, 4, sample, 4, numbers, 4);
     unsigned planned = (unsigned)naxxurbi_clash(w4, sizeof w4, table, 2, marks, 2, scratch, 4, fighting);
     unsigned checked = (unsigned)naxxurbi_check_clash(w4, sizeof w4, rules, 2, table, 2, marks, 2, scratch, 4);
-    printf("read %u, judge %u %u, strikes %u, run %u, fault %u at %u, ", (unsigned)naxxurbi_read(w4, sizeof w4), (unsigned)out[0],
-           (unsigned)out[1], (unsigned)naxxurbi_check_strikes(w4, sizeof w4, states, sizeof states, words, sizeof words),
+    printf("read %u, judge %u %u, strikes %u, run %u, fault %u at %u, ", (unsigned)naxxurbi_read(w4, sizeof w4),
+           (unsigned)out[NAXXURBI_ANSWER], (unsigned)out[NAXXURBI_COUNT],
+           (unsigned)naxxurbi_check_strikes(w4, sizeof w4, states, sizeof states, words, sizeof words),
            (unsigned)naxxurbi_check_run(w1, sizeof w1, run, sizeof run, 0), (unsigned)fault[0], (unsigned)fault[1]);
-    printf("audit %u %u, serial %u %u at %u, class %u %u %u, ", audited, (unsigned)account[0], taken, (unsigned)closed[0],
-           (unsigned)closed[1], judged, (unsigned)numbers[0], (unsigned)numbers[1]);
+    printf("audit %u %u, serial %u %u at %u, class %u %u %u, ", audited, (unsigned)account[NAXXURBI_ACCOUNT_MOMENTS], taken,
+           (unsigned)closed[0], (unsigned)closed[1], judged, (unsigned)numbers[0], (unsigned)numbers[1]);
     printf("clash %u %u %u %u, checked %u\n", planned, (unsigned)fighting[0], (unsigned)fighting[1], (unsigned)fighting[2], checked);
     return 0;
 }

@@ -1,14 +1,14 @@
-//! The proved library, called from Rust. `include/naxxurbi.h` has the same declarations for C.
+//! What the programs here share: the proved judge, with its numbers as the plain one gives them.
 //!
-//! Nothing checks these declarations against the proved source, so they are few and plain: numbers, and slices as a pointer and a length.
-//! None of the calls has a precondition, so the wrappers are safe as they stand.
+//! All other calls are used as `host/calls` has them.
 
 #![deny(warnings)]
 
-pub mod audit;
-pub mod checkers;
-pub mod clash;
-pub mod class;
-pub mod judge;
-pub mod reader;
-pub mod serial;
+use naxxurbi_calls::{Numbers, State};
+use plain::judge::Answer;
+
+/// Judges a sheet with the proved judge: answer, count, a, b and place.
+pub fn judge(sheet: &[u8], table: &mut [State], words: &mut [u32], scratch: &mut [State], run: &mut [State]) -> Answer {
+    let Numbers { answer, count, a, b, place } = naxxurbi_calls::judge(sheet, table, words, scratch, run);
+    Answer { answer, count, a, b, place }
+}

@@ -6,11 +6,12 @@
 //!   the repeated hour is recorded over the first, so an hour is missing.
 
 use plain::make::Rng;
+use plain::State;
 
-const MOTOR: u32 = 1;
-const FILE: u32 = 2;
-const SUMMER: u32 = 4;
-const REPEATED: u32 = 8;
+const MOTOR: State = 1;
+const FILE: State = 2;
+const SUMMER: State = 4;
+const REPEATED: State = 8;
 
 const HOUR: usize = 60;
 const DAY: usize = 24 * HOUR;
@@ -24,7 +25,7 @@ const BACK: usize = 299 * DAY + 2 * HOUR;
 /// The state of each minute. The file is closed now and then; always for the
 /// last minute before the repeated hour, and never within the minute before
 /// the first hour and in the repeated hour.
-fn year(rng: &mut Rng) -> Vec<u32> {
+fn year(rng: &mut Rng) -> Vec<State> {
     let state = |minute: usize| {
         let hour = match minute {
             FORWARD..BACK => SUMMER,
@@ -42,7 +43,7 @@ fn year(rng: &mut Rng) -> Vec<u32> {
 }
 
 /// The same with the repeated hour over the first.
-fn recorded_over(year: &[u32]) -> Vec<u32> {
+fn recorded_over(year: &[State]) -> Vec<State> {
     [&year[..BACK - HOUR], &year[BACK..]].concat()
 }
 
@@ -54,7 +55,8 @@ fn main() -> std::io::Result<()> {
     let seed = arguments.next().map_or(1, |seed| seed.parse().expect("the seed is a number"));
     let year = year(&mut Rng::new(seed));
     for (name, log) in [("year.log", &year), ("year-over.log", &recorded_over(&year))] {
-        let bytes: Vec<u8> = log.iter().flat_map(|state| state.to_be_bytes()).collect();
+        // A log is a file of states of four bytes each.
+        let bytes: Vec<u8> = log.iter().flat_map(|&state| (state as u32).to_be_bytes()).collect();
         std::fs::write(format!("{folder}/{name}"), bytes)?;
         println!("{folder}/{name}: {} moments", log.len());
     }

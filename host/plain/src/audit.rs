@@ -5,6 +5,7 @@
 
 use crate::rules::{compile, Literals, Rules};
 use crate::sheet::{self, Sheet};
+use crate::State;
 
 /// The most moments that an account may count, and the most of any tally.
 pub const MOMENTS: u32 = 1_000_000;
@@ -32,7 +33,7 @@ pub struct Account {
     /// How many moments there were.
     pub count: u32,
     /// The last state.
-    pub last: u32,
+    pub last: State,
     /// What the first breach was.
     pub what: u32,
     /// Its moment, counted from 0 by order of arrival.
@@ -62,8 +63,9 @@ impl Account {
     /// The account that these numbers stand for.
     pub fn of_numbers(numbers: &[u32; NUMBERS]) -> Account {
         let mut account = Account::new();
-        [account.count, account.last, account.what, account.moment, account.rule] =
-            [0, 1, 2, 3, 4].map(|i: usize| numbers[i]);
+        let [count, last, what, moment, rule] = [0, 1, 2, 3, 4].map(|i: usize| numbers[i]);
+        (account.count, account.last) = (count, State::from(last));
+        (account.what, account.moment, account.rule) = (what, moment, rule);
         account.kept.copy_from_slice(&numbers[5..5 + TALLIES]);
         account.broken.copy_from_slice(&numbers[5 + TALLIES..]);
         account
@@ -72,7 +74,13 @@ impl Account {
     /// Its numbers.
     pub fn numbers(&self) -> [u32; NUMBERS] {
         let mut numbers = [0; NUMBERS];
-        numbers[..5].copy_from_slice(&[self.count, self.last, self.what, self.moment, self.rule]);
+        numbers[..5].copy_from_slice(&[
+            self.count,
+            self.last as u32,
+            self.what,
+            self.moment,
+            self.rule,
+        ]);
         numbers[5..5 + TALLIES].copy_from_slice(&self.kept);
         numbers[5 + TALLIES..].copy_from_slice(&self.broken);
         numbers
@@ -115,7 +123,7 @@ fn steps(sheet: &Sheet) -> Vec<Step> {
 }
 
 /// Counts the move for every step rule; the first one broken, counted from 1.
-fn tally(steps: &[Step], from: u32, to: u32, kept: &mut [u32], broken: &mut [u32]) -> u32 {
+fn tally(steps: &[Step], from: State, to: State, kept: &mut [u32], broken: &mut [u32]) -> u32 {
     let mut first = 0;
     for (i, step) in steps.iter().enumerate() {
         if step.never || !step.left.all(from) {
@@ -134,7 +142,7 @@ fn tally(steps: &[Step], from: u32, to: u32, kept: &mut [u32], broken: &mut [u32
 }
 
 /// Carries an account on by a piece of a log. A refusal leaves it as it was.
-pub fn audit(sheet: &[u8], account: &mut Account, states: &[u32]) -> u32 {
+pub fn audit(sheet: &[u8], account: &mut Account, states: &[State]) -> u32 {
     let sheet = match sheet::read(sheet) {
         Err(fault) => return fault.number,
         Ok(sheet) => sheet,

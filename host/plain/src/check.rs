@@ -8,24 +8,25 @@ use crate::hash::{QuickMap, StateMap};
 use crate::list::Lister;
 use crate::rules::{Asked, Rules};
 use crate::sheet;
+use crate::State;
 use std::ops::ControlFlow;
 
 const ACCEPTED: u32 = 0;
 const NOT_ACCEPTED: u32 = 14;
 
 /// Checks a run: `states` from moment 0, read on from the last to number `a`.
-pub fn check_run(sheet: &[u8], states: &[u32], a: u32) -> u32 {
+pub fn check_run(sheet: &[u8], states: &[State], a: u32) -> u32 {
     with_rules(sheet, |rules| run_is_right(rules, states, a))
 }
 
 /// Checks a strike list: `states` and the word of each.
-pub fn check_strikes(sheet: &[u8], states: &[u32], words: &[u32]) -> u32 {
+pub fn check_strikes(sheet: &[u8], states: &[State], words: &[u32]) -> u32 {
     with_rules(sheet, |rules| strikes_are_right(&mut Lister::new(rules), states, words))
 }
 
 /// How many branches the strike checker's listings look at; none for a bad
 /// sheet or where nothing has to be listed.
-pub fn strikes_nodes(sheet: &[u8], states: &[u32], words: &[u32]) -> u64 {
+pub fn strikes_nodes(sheet: &[u8], states: &[State], words: &[u32]) -> u64 {
     let Ok(sheet) = sheet::read(sheet) else {
         return 0;
     };
@@ -37,7 +38,7 @@ pub fn strikes_nodes(sheet: &[u8], states: &[u32], words: &[u32]) -> u64 {
 
 /// As [`check_run`], each state four bytes, big-endian.
 pub fn check_run_bytes(sheet: &[u8], states: &[u8], a: u32) -> u32 {
-    with_rules(sheet, |rules| match numbers(states) {
+    with_rules(sheet, |rules| match paper_states(states) {
         Some(states) => run_is_right(rules, &states, a),
         None => false,
     })
@@ -45,7 +46,7 @@ pub fn check_run_bytes(sheet: &[u8], states: &[u8], a: u32) -> u32 {
 
 /// As [`check_strikes`], each state and word four bytes, big-endian.
 pub fn check_strikes_bytes(sheet: &[u8], states: &[u8], words: &[u8]) -> u32 {
-    with_rules(sheet, |rules| match (numbers(states), numbers(words)) {
+    with_rules(sheet, |rules| match (paper_states(states), paper_words(words)) {
         (Some(states), Some(words)) => strikes_are_right(&mut Lister::new(rules), &states, &words),
         _ => false,
     })
@@ -60,13 +61,19 @@ fn with_rules(sheet: &[u8], accepts: impl FnOnce(&Rules) -> bool) -> u32 {
     }
 }
 
-/// The numbers that bytes make up, unless some are left over.
-fn numbers(bytes: &[u8]) -> Option<Vec<u32>> {
-    let (numbers, rest) = bytes.as_chunks::<4>();
-    rest.is_empty().then(|| numbers.iter().map(|&number| u32::from_be_bytes(number)).collect())
+/// The states that bytes make up, unless some are left over.
+fn paper_states(bytes: &[u8]) -> Option<Vec<State>> {
+    let (states, rest) = bytes.as_chunks();
+    rest.is_empty().then(|| states.iter().map(|&state| State::from_be_bytes(state)).collect())
 }
 
-fn run_is_right(rules: &Rules, states: &[u32], a: u32) -> bool {
+/// The words that bytes make up, unless some are left over.
+fn paper_words(bytes: &[u8]) -> Option<Vec<u32>> {
+    let (words, rest) = bytes.as_chunks();
+    rest.is_empty().then(|| words.iter().map(|&word| u32::from_be_bytes(word)).collect())
+}
+
+fn run_is_right(rules: &Rules, states: &[State], a: u32) -> bool {
     let (Some(&first), Some(&last)) = (states.first(), states.last()) else {
         return false;
     };
@@ -96,7 +103,7 @@ enum Latest {
     Unlisted,
 }
 
-fn strikes_are_right(lister: &mut Lister<'_>, states: &[u32], words: &[u32]) -> bool {
+fn strikes_are_right(lister: &mut Lister<'_>, states: &[State], words: &[u32]) -> bool {
     let rules = lister.rules;
     if states.len() != words.len()
         || !words.is_sorted()
@@ -105,7 +112,7 @@ fn strikes_are_right(lister: &mut Lister<'_>, states: &[u32], words: &[u32]) -> 
         return false;
     }
     // What each entry's reason asks of the entry itself.
-    let reason_fits = |(&state, &word): (&u32, &u32)| match (word % 32) as usize {
+    let reason_fits = |(&state, &word): (&State, &u32)| match (word % 32) as usize {
         0 => true,
         reason => reason <= rules.promises() && !rules.kept(reason - 1, state),
     };

@@ -7,6 +7,7 @@
 
 use crate::judge::judge_good;
 use crate::sheet::{read, Sheet};
+use crate::State;
 
 /// The most step rules of a sheet.
 pub const RULES: usize = 255;
@@ -33,9 +34,9 @@ enum Said {
 /// been judged with them.
 struct Trials<'a> {
     sheet: Sheet,
-    table: &'a mut [u32],
+    table: &'a mut [State],
     words: &'a mut [u32],
-    scratch: &'a mut [u32],
+    scratch: &'a mut [State],
     count: usize,
 }
 
@@ -79,9 +80,9 @@ fn without(choice: &[usize], left_out: usize) -> Vec<usize> {
 pub fn check_clash(
     sheet: &[u8],
     rules: &[u32],
-    table: &mut [u32],
+    table: &mut [State],
     words: &mut [u32],
-    scratch: &mut [u32],
+    scratch: &mut [State],
 ) -> u32 {
     let sheet = match read(sheet) {
         Ok(sheet) => sheet,
@@ -132,7 +133,7 @@ impl Plan {
 /// Proposes step rules that fight.
 ///
 /// A bad sheet leaves the slices alone. Otherwise they are zero.
-pub fn clash(sheet: &[u8], table: &mut [u32], words: &mut [u32], scratch: &mut [u32]) -> Plan {
+pub fn clash(sheet: &[u8], table: &mut [State], words: &mut [u32], scratch: &mut [State]) -> Plan {
     let sheet = match read(sheet) {
         Ok(sheet) => sheet,
         Err(fault) => return Plan { answer: fault.number, ..Plan::default() },

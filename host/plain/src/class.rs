@@ -1,6 +1,7 @@
 //! The whole class in one call.
 
 use crate::judge::{judge, Answer};
+use crate::State;
 
 /// The most sheets in one call.
 pub const SHEETS: usize = 32;
@@ -19,10 +20,10 @@ pub const REFUSED: u32 = 16;
 pub fn judge_class(
     sheets: &[u8],
     ends: &[u32],
-    table: &mut [u32],
+    table: &mut [State],
     words: &mut [u32],
-    scratch: &mut [u32],
-    run: &mut [u32],
+    scratch: &mut [State],
+    run: &mut [State],
     numbers: &mut [u32],
 ) -> u32 {
     let Some(class) = cut(sheets, ends) else {

@@ -9,6 +9,7 @@
 use crate::make::{add_one, counter, counter_to_dead_end, late_clash, list, literal, random_draft, Draft, Family, Rng};
 use crate::sheet::{self, Limit};
 use crate::source::{always, football, Team};
+use crate::State;
 
 // ---------------------------------------------------------------------------
 // Orders of the letters
@@ -55,7 +56,7 @@ pub fn renamed(sheet: &[u8], numbers: &[i8]) -> Option<Vec<u8>> {
 }
 
 /// A state with other numbers for its letters.
-pub fn renamed_state(state: u32, numbers: &[i8]) -> u32 {
+pub fn renamed_state(state: State, numbers: &[i8]) -> State {
     let bit = |(letter, &number): (usize, &i8)| (state >> letter & 1) << (number - 1);
     numbers.iter().enumerate().map(bit).sum()
 }

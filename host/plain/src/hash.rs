@@ -1,14 +1,15 @@
 //! A small map from states to numbers, and a quick hasher for sets of rules.
 
+use crate::State;
 use std::collections::HashMap;
 use std::hash::{BuildHasherDefault, Hasher};
 
 /// No state: states lie below 2^24.
-const EMPTY: u32 = u32::MAX;
+const EMPTY: State = State::MAX;
 
 /// A map from states to numbers: open addressing, at most half full.
 pub(crate) struct StateMap {
-    slots: Vec<(u32, u32)>,
+    slots: Vec<(State, u32)>,
     filled: usize,
     /// The hash is the product's highest bits, as many as the size has.
     shift: u32,
@@ -20,14 +21,15 @@ impl StateMap {
     }
 
     fn of_bits(bits: u32) -> StateMap {
-        StateMap { slots: vec![(EMPTY, 0); 1 << bits], filled: 0, shift: 32 - bits }
+        StateMap { slots: vec![(EMPTY, 0); 1 << bits], filled: 0, shift: u64::BITS - bits }
     }
 
     /// The slot where the state is, or where it would go.
     #[inline]
-    fn slot(&self, state: u32) -> usize {
+    fn slot(&self, state: State) -> usize {
         debug_assert!(state != EMPTY);
-        let mut slot = (state.wrapping_mul(0x9E37_79B1) >> self.shift) as usize;
+        let product = u64::from(state).wrapping_mul(0x9E37_79B9_7F4A_7C15);
+        let mut slot = (product >> self.shift) as usize;
         loop {
             let key = self.slots[slot].0;
             if key == state || key == EMPTY {
@@ -39,13 +41,13 @@ impl StateMap {
 
     /// The state's number, if it has one.
     #[inline]
-    pub fn get(&self, state: u32) -> Option<u32> {
+    pub fn get(&self, state: State) -> Option<u32> {
         let (key, number) = self.slots[self.slot(state)];
         (key == state).then_some(number)
     }
 
     /// Gives the state a number unless it has one.
-    pub fn insert_if_new(&mut self, state: u32, number: u32) {
+    pub fn insert_if_new(&mut self, state: State, number: u32) {
         let slot = self.slot(state);
         if self.slots[slot].0 == state {
             return;
@@ -59,7 +61,7 @@ impl StateMap {
 
     #[cold]
     fn grow(&mut self) {
-        let mut larger = StateMap::of_bits(32 - self.shift + 1);
+        let mut larger = StateMap::of_bits(u64::BITS - self.shift + 1);
         for &(state, number) in self.slots.iter().filter(|slot| slot.0 != EMPTY) {
             let slot = larger.slot(state);
             larger.slots[slot] = (state, number);

@@ -6,6 +6,7 @@ use crate::rules::Rules;
 use crate::sheet::{self, Sheet};
 use crate::strike::{strike, Strikes};
 use crate::walk::walk;
+use crate::State;
 
 /// The judge's five numbers. Those that the documents do not name are 0.
 #[derive(Clone, Copy, Debug, Default, PartialEq, Eq)]
@@ -33,10 +34,10 @@ pub struct Answer {
 /// length, which bounds how many states may be reachable.
 pub fn judge(
     sheet: &[u8],
-    table: &mut [u32],
+    table: &mut [State],
     words: &mut [u32],
-    scratch: &mut [u32],
-    run: &mut [u32],
+    scratch: &mut [State],
+    run: &mut [State],
 ) -> Answer {
     match sheet::read(sheet) {
         Ok(sheet) => judge_good(&sheet, table, words, scratch, run),
@@ -50,10 +51,10 @@ pub fn judge(
 /// Judges a sheet that has been read.
 pub(crate) fn judge_good(
     sheet: &Sheet,
-    table: &mut [u32],
+    table: &mut [State],
     words: &mut [u32],
-    scratch: &mut [u32],
-    run: &mut [u32],
+    scratch: &mut [State],
+    run: &mut [State],
 ) -> Answer {
     let rules = Rules::new(sheet);
     table.fill(0);
@@ -106,8 +107,8 @@ fn can_be_kept(
     graph: &Graph,
     strikes: &Strikes,
     start: Spot,
-    table: &mut [u32],
-    run: &mut [u32],
+    table: &mut [State],
+    run: &mut [State],
 ) -> Answer {
     let walk = walk(rules, graph, &strikes.live, start);
     let b = walk.states.len() as u32;
@@ -125,7 +126,7 @@ fn can_be_kept(
 fn cannot_be_kept(
     graph: &Graph,
     strikes: &Strikes,
-    table: &mut [u32],
+    table: &mut [State],
     words: &mut [u32],
 ) -> Answer {
     debug_assert_eq!(strikes.left, 0);

@@ -15,6 +15,7 @@
 //! | [`audit`]    | the auditor of recorded logs                                     |
 //! | [`serial`]   | sheets that come in pieces over a serial lead                    |
 //! | [`brute`]    | everything a second time, naively, for at most five letters      |
+//! | [`lent`]     | the slices that a judge is lent, for tests                       |
 //! | [`make`]     | sheets for tests and benchmarks, good and damaged                |
 //! | [`edges`]    | each fault at its first and last possible place                  |
 //! | [`families`] | sheets as people write them, in several orders of their letters  |
@@ -24,6 +25,10 @@
 #![deny(warnings)]
 #![deny(missing_docs)]
 #![forbid(unsafe_code)]
+
+/// A state: letter k holds when the bit worth 2^(k-1) is set. The widest sheet
+/// has 24 letters. Words, counts and answers are `u32` whatever this is.
+pub type State = u32;
 
 pub mod audit;
 pub mod brute;
@@ -35,6 +40,7 @@ pub mod families;
 mod graph;
 mod hash;
 pub mod judge;
+pub mod lent;
 pub mod list;
 pub mod make;
 pub mod named;

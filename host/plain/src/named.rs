@@ -6,6 +6,7 @@
 
 use crate::judge::{judge, Answer};
 use crate::make::{w15, with_length, Draft};
+use crate::State;
 
 /// A sheet with a name.
 #[derive(Clone, Debug)]
@@ -210,7 +211,7 @@ pub struct Judged {
     /// The five numbers.
     pub answer: Answer,
     /// Answer 0: the sample run. Answer 13: the strike list's states.
-    pub states: Vec<u32>,
+    pub states: Vec<State>,
     /// Answer 13: the strike list's words.
     pub words: Vec<u32>,
 }

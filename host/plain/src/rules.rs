@@ -1,37 +1,38 @@
 //! What a sheet says of states and moves, compiled to bit masks.
 //!
-//! A state is a `u32`; letter k holds when the bit worth 2^(k-1) is set. Lists
+//! Letters are a mask as in a [`State`]: letter k is the bit worth 2^(k-1). Lists
 //! that name a letter and its opposite are settled once, here: such a pair adds
 //! exactly one to a limit's count, makes an "or" true and an "and" false. What
 //! is left names each letter at most once and fits in two masks.
 
 use crate::sheet::{Limit, Sheet};
+use crate::State;
 
 /// Literals over distinct letters.
 #[derive(Clone, Copy, Debug, PartialEq, Eq, PartialOrd, Ord)]
 pub(crate) struct Literals {
     /// The letters named.
-    pub named: u32,
+    pub named: State,
     /// Those of them that are named as not holding.
-    pub negated: u32,
+    pub negated: State,
 }
 
 impl Literals {
     /// The letters whose literal is true in the state.
     #[inline]
-    pub fn true_in(self, state: u32) -> u32 {
+    pub fn true_in(self, state: State) -> State {
         (state ^ self.negated) & self.named
     }
 
     /// Joined by or.
     #[inline]
-    pub fn any(self, state: u32) -> bool {
+    pub fn any(self, state: State) -> bool {
         self.true_in(state) != 0
     }
 
     /// Joined by and.
     #[inline]
-    pub fn all(self, state: u32) -> bool {
+    pub fn all(self, state: State) -> bool {
         self.true_in(state) == self.named
     }
 }
@@ -39,12 +40,12 @@ impl Literals {
 /// A list split into letters named one way only and letters named both ways.
 pub(crate) struct List {
     pub literals: Literals,
-    pub both: u32,
+    pub both: State,
 }
 
 /// Splits a list.
 pub(crate) fn compile(list: &[i8]) -> List {
-    let (mut holds, mut fails) = (0u32, 0u32);
+    let (mut holds, mut fails) = (0, 0);
     for &literal in list {
         // The reader has seen to it that the size is 1 to 24.
         let bit = 1 << (literal.unsigned_abs() - 1);
@@ -68,7 +69,7 @@ pub(crate) struct Count {
 
 impl Count {
     #[inline]
-    pub fn holds(self, state: u32) -> bool {
+    pub fn holds(self, state: State) -> bool {
         let count = self.literals.true_in(state).count_ones();
         self.least <= count && count <= self.most
     }
@@ -123,7 +124,7 @@ pub(crate) struct Page {
 impl Page {
     fn new(letters: u32, clauses: Vec<Literals>, limits: &[Count]) -> Page {
         let mut naming = vec![[0; 5]; letters as usize];
-        let mut note = |named: u32, word: usize, bit: usize| {
+        let mut note = |named: State, word: usize, bit: usize| {
             for (letter, rows) in naming.iter_mut().enumerate() {
                 rows[word] |= u64::from(named >> letter & 1) << bit;
             }
@@ -153,7 +154,7 @@ impl Page {
 
     /// Those of the rows that name some of the letters.
     #[inline]
-    pub fn naming(&self, mut letters: u32, rows: &RowSet) -> RowSet {
+    pub fn naming(&self, mut letters: State, rows: &RowSet) -> RowSet {
         let mut named = [0; 5];
         while letters != 0 {
             let naming = &self.naming[letters.trailing_zeros() as usize];
@@ -250,35 +251,35 @@ impl Rules {
     }
 
     /// Is this a state (below 2^n) in which every limit holds?
-    pub fn lawful(&self, state: u32) -> bool {
+    pub fn lawful(&self, state: State) -> bool {
         state >> self.letters == 0
             && !self.lawless
             && self.next.limits.iter().all(|limit| limit.holds(state))
     }
 
     /// Is this a first state?
-    pub fn first(&self, state: u32) -> bool {
+    pub fn first(&self, state: State) -> bool {
         self.lawful(state) && self.first.clauses.iter().all(|rule| rule.any(state))
     }
 
     /// Is there a move from one to the other?
-    pub fn moves(&self, from: u32, to: u32) -> bool {
+    pub fn moves(&self, from: State, to: State) -> bool {
         self.lawful(from) && self.lawful(to) && self.follows(from, to)
     }
 
     /// Is promise `promise`, counted from 0, true in the state?
     #[inline]
-    pub fn kept(&self, promise: usize, state: u32) -> bool {
+    pub fn kept(&self, promise: usize, state: State) -> bool {
         self.promises[promise].any(state)
     }
 
     /// The step rules of a move alone, without the two states' limits.
-    pub(crate) fn follows(&self, from: u32, to: u32) -> bool {
+    pub(crate) fn follows(&self, from: State, to: State) -> bool {
         self.steps.iter().all(|step| !step.left.all(from) || self.next.clauses[step.right].any(to))
     }
 
     /// The right sides that a state asks of the next one.
-    pub(crate) fn asked(&self, state: u32) -> Asked {
+    pub(crate) fn asked(&self, state: State) -> Asked {
         let mut asked = [0; 4];
         for step in &self.steps {
             asked[step.right / 64] |= u64::from(step.left.all(state)) << (step.right % 64);

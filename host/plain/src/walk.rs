@@ -2,10 +2,11 @@
 
 use crate::graph::{Graph, Spot, NONE};
 use crate::rules::Rules;
+use crate::State;
 
 /// A sample run: the states from moment 0, read on from the last to `back`.
 pub(crate) struct Walk {
-    pub states: Vec<u32>,
+    pub states: Vec<State>,
     pub back: usize,
 }
 

@@ -6,34 +6,33 @@ use plain::check::{check_run, check_run_bytes, check_strikes, check_strikes_byte
 use plain::edges::{edges, PLACES};
 use plain::families::{self, any_order, in_orders, renamed, renamed_state, written};
 use plain::judge::{explored, judge, Answer};
+use plain::lent::Lent;
 use plain::list::{each_lawful, first_states, lawful_states, next_states};
 use plain::make::{self, damage, families, random_draft, random_sheet, Rng, DAMAGES};
 use plain::rules::Rules;
 use plain::sheet::{read, read_number, read_place};
-use plain::{brute, brute::Outcome};
+use plain::{brute, brute::Outcome, State};
 use std::collections::BTreeMap;
 use std::ops::ControlFlow;
 
-/// Slices of numbers that are not zero.
-fn filled(rng: &mut Rng, length: usize) -> Vec<u32> {
-    (0..length).map(|_| rng.number() as u32 | 1).collect()
+/// A paper's states, and its words, as the checkers are given them.
+fn state_bytes(states: &[State]) -> Vec<u8> {
+    states.iter().flat_map(|state| state.to_be_bytes()).collect()
 }
-
-fn big_endian(numbers: &[u32]) -> Vec<u8> {
-    numbers.iter().flat_map(|number| number.to_be_bytes()).collect()
+fn word_bytes(words: &[u32]) -> Vec<u8> {
+    words.iter().flat_map(|word| word.to_be_bytes()).collect()
 }
 
 /// Judges with slices like these and hands them back as they are afterwards.
-fn judged(sheet: &[u8], lent: [&[u32]; 4]) -> Outcome {
-    let [mut table, mut words, mut scratch, mut run] = lent.map(<[u32]>::to_vec);
+fn judged(sheet: &[u8], lent: &Lent) -> Outcome {
+    let Lent { mut table, mut words, mut scratch, mut run } = lent.clone();
     let answer = judge(sheet, &mut table, &mut words, &mut scratch, &mut run);
     Outcome { answer, table, words, scratch, run }
 }
 
 /// Judges with all the room there can be.
 fn judged_freely(sheet: &[u8]) -> Outcome {
-    let (table, scratch, run) = (vec![7; 16_384], vec![7; 32_768], vec![7; 262_144]);
-    judged(sheet, [&table, &table, &scratch, &run])
+    judged(sheet, &Lent::all(7, [16_384, 16_384, 32_768, 262_144]))
 }
 
 fn accepted(sheet: &[u8], outcome: &Outcome) {
@@ -42,13 +41,13 @@ fn accepted(sheet: &[u8], outcome: &Outcome) {
         0 => {
             let run = &outcome.run[..b as usize];
             assert_eq!(check_run(sheet, run, a), 0);
-            assert_eq!(check_run_bytes(sheet, &big_endian(run), a), 0);
+            assert_eq!(check_run_bytes(sheet, &state_bytes(run), a), 0);
         }
         13 => {
             let (states, words) =
                 (&outcome.table[..count as usize], &outcome.words[..count as usize]);
             assert_eq!(check_strikes(sheet, states, words), 0);
-            assert_eq!(check_strikes_bytes(sheet, &big_endian(states), &big_endian(words)), 0);
+            assert_eq!(check_strikes_bytes(sheet, &state_bytes(states), &word_bytes(words)), 0);
         }
         _ => {}
     }
@@ -93,9 +92,9 @@ fn judge_agrees_with_brute() {
                 exact(&mut rng, 2 * reached),
                 exact(&mut rng, moments),
             ];
-            let lent = lengths.map(|length| filled(&mut rng, length));
-            let [table, words, scratch, run] = &lent;
-            let ours = judged(&sheet, [table, words, scratch, run]);
+            let lent = Lent::filled(&mut rng, lengths);
+            let ours = judged(&sheet, &lent);
+            let Lent { table, words, scratch, run } = &lent;
             let theirs = brute::judge(&sheet, table, words, scratch, run);
             assert_eq!(Some(&ours), theirs.as_ref(), "{sheet:?}");
             *seen.entry(ours.answer.answer).or_default() += 1;
@@ -136,7 +135,7 @@ fn checkers_agree_with_brute() {
         let letters = rng.within(1, 4) as u8;
         let draft = random_draft(&mut rng, letters);
         let mut sheet = draft.bytes();
-        let outcome = judged(&sheet, [&[7; 16], &[7; 16], &[7; 32], &[7; 256]]);
+        let outcome = judged(&sheet, &Lent::all(7, [16, 16, 32, 256]));
         if rng.once_in(20) {
             sheet = damage(&mut rng, &sheet, 0);
         }
@@ -147,7 +146,7 @@ fn checkers_agree_with_brute() {
         for _ in 0..4 {
             let mut states = match answer {
                 0 => outcome.run[..b as usize].to_vec(),
-                _ => (0..rng.within(0, 4)).map(|_| rng.below(1 << letters) as u32).collect(),
+                _ => (0..rng.within(0, 4)).map(|_| rng.below(1 << letters) as State).collect(),
             };
             let mut a = a;
             spoil(&mut rng, letters, &mut states);
@@ -156,7 +155,7 @@ fn checkers_agree_with_brute() {
             }
             let number = check_run(&sheet, &states, a);
             assert_eq!(Some(number), brute::check_run(&sheet, &states, a), "{sheet:?}");
-            assert_eq!(number, check_run_bytes(&sheet, &big_endian(&states), a));
+            assert_eq!(number, check_run_bytes(&sheet, &state_bytes(&states), a));
             *(if number == 0 { &mut good_runs } else { &mut bad_runs }) += 1;
 
             let (mut states, mut words) = match answer {
@@ -165,7 +164,7 @@ fn checkers_agree_with_brute() {
                     (outcome.table[..count].to_vec(), outcome.words[..count].to_vec())
                 }
                 _ => {
-                    let states: Vec<u32> = (0..1 << letters).collect();
+                    let states: Vec<State> = (0..1 << letters).collect();
                     let words = states.iter().map(|_| 32 + rng.below(3) as u32).collect();
                     (states, words)
                 }
@@ -177,7 +176,7 @@ fn checkers_agree_with_brute() {
                 brute::check_strikes(&sheet, &states, &words),
                 "{sheet:?} {states:?} {words:?}"
             );
-            let (states, words) = (big_endian(&states), big_endian(&words));
+            let (states, words) = (state_bytes(&states), word_bytes(&words));
             assert_eq!(number, check_strikes_bytes(&sheet, &states, &words));
             *(if number == 0 { &mut good_lists } else { &mut bad_lists }) += 1;
         }
@@ -188,7 +187,7 @@ fn checkers_agree_with_brute() {
     }
 }
 
-fn spoil(rng: &mut Rng, letters: u8, states: &mut Vec<u32>) {
+fn spoil(rng: &mut Rng, letters: u8, states: &mut Vec<State>) {
     if states.is_empty() {
         return;
     }
@@ -204,10 +203,10 @@ fn spoil(rng: &mut Rng, letters: u8, states: &mut Vec<u32>) {
     }
 }
 
-fn spoil_list(rng: &mut Rng, letters: u8, states: &mut Vec<u32>, words: &mut Vec<u32>) {
+fn spoil_list(rng: &mut Rng, letters: u8, states: &mut Vec<State>, words: &mut Vec<u32>) {
     if states.is_empty() {
         if rng.once_in(2) {
-            states.push(rng.below(1 << letters) as u32);
+            states.push(rng.below(1 << letters) as State);
             words.push(32);
         }
         return;
@@ -263,12 +262,11 @@ fn every_fault_is_seen_and_told_alike() {
                 assert!((first..=last).contains(&place), "{number} at {place}");
                 let farthest = places.entry(number).or_default();
                 *farthest = place.max(*farthest);
-                let lent = [1, 2, 3, 4].map(|length| filled(&mut rng, length));
-                let [table, words, scratch, run] = &lent;
-                let outcome = judged(&sheet, [table, words, scratch, run]);
+                let lent = Lent::filled(&mut rng, [1, 2, 3, 4]);
+                let Outcome { answer: said, table, words, scratch, run } = judged(&sheet, &lent);
                 let answer = Answer { answer: number, place: place as u32, ..Answer::default() };
-                assert_eq!(outcome.answer, answer);
-                assert_eq!([outcome.table, outcome.words, outcome.scratch, outcome.run], lent);
+                assert_eq!(said, answer);
+                assert_eq!(Lent { table, words, scratch, run }, lent);
                 assert_eq!(check_run(&sheet, &[], 0), number);
                 assert_eq!(check_strikes(&sheet, &[0], &[]), number);
                 assert_eq!(check_run_bytes(&sheet, &[0], 0), number);
@@ -294,7 +292,7 @@ fn every_fault_has_its_first_and_last_place() {
         assert_eq!(brute::first_fault(&edge.sheet), told, "{what}");
         let place = edge.place as u32;
         let answer = Answer { answer: edge.number, place, ..Answer::default() };
-        assert_eq!(judged(&edge.sheet, [&[], &[], &[], &[]]).answer, answer, "{what}");
+        assert_eq!(judged(&edge.sheet, &Lent::all(7, [0; 4])).answer, answer, "{what}");
         let span = spans.entry(edge.number).or_insert((edge.place, edge.place));
         *span = (span.0.min(edge.place), span.1.max(edge.place));
     }
@@ -350,16 +348,16 @@ fn listings_are_complete_and_in_order() {
         let letters = draft.letters;
         let rules = Rules::new(&read(&draft.bytes()).expect("a good sheet"));
         let states = || 0..1 << letters;
-        let lawful: Vec<u32> = states().filter(|&state| rules.lawful(state)).collect();
+        let lawful: Vec<State> = states().filter(|&state| rules.lawful(state)).collect();
         assert_eq!(lawful_states(&rules), lawful);
-        let first: Vec<u32> = states().filter(|&state| rules.first(state)).collect();
+        let first: Vec<State> = states().filter(|&state| rules.first(state)).collect();
         assert_eq!(first_states(&rules), first);
         for _ in 0..4 {
-            let from = rng.below(1 << letters) as u32;
-            let next: Vec<u32> = states().filter(|&to| rules.moves(from, to)).collect();
+            let from = rng.below(1 << letters) as State;
+            let next: Vec<State> = states().filter(|&to| rules.moves(from, to)).collect();
             assert_eq!(next_states(&rules, from), next);
         }
-        assert!(!rules.lawful(1 << letters) && !rules.lawful(u32::MAX));
+        assert!(!rules.lawful(1 << letters) && !rules.lawful(State::MAX));
         assert_eq!(next_states(&rules, 1 << letters), []);
         // Breaking off hands over no more.
         let most = rng.below(lawful.len() + 2);
@@ -379,15 +377,15 @@ fn listings_are_complete_and_in_order() {
 /// The strike list, livable states and sample run of up to some hundred states,
 /// each set worked out anew in each round from a table of moves.
 struct ByTable {
-    states: Vec<u32>,
+    states: Vec<State>,
     moves: Vec<Vec<usize>>,
 }
 
 impl ByTable {
     fn new(rules: &Rules) -> ByTable {
-        let all = 0..1u32 << rules.letters();
-        let mut states: Vec<u32> = all.clone().filter(|&state| rules.first(state)).collect();
-        let lawful: Vec<u32> = all.filter(|&state| rules.lawful(state)).collect();
+        let all = 0..1 << rules.letters();
+        let mut states: Vec<State> = all.clone().filter(|&state| rules.first(state)).collect();
+        let lawful: Vec<State> = all.filter(|&state| rules.lawful(state)).collect();
         let mut place = 0;
         while let Some(&from) = states.get(place) {
             place += 1;
@@ -399,7 +397,7 @@ impl ByTable {
         }
         states.sort_unstable();
         let next =
-            |&from: &u32| (0..states.len()).filter(|&to| rules.moves(from, states[to])).collect();
+            |&from: &State| (0..states.len()).filter(|&to| rules.moves(from, states[to])).collect();
         let moves = states.iter().map(next).collect();
         ByTable { states, moves }
     }
@@ -571,7 +569,7 @@ fn papers_of_large_sheets_are_accepted() {
     for _ in 0..600 {
         let letters = rng.within(6, 24) as u8;
         let sheet = random_draft(&mut rng, letters).bytes();
-        let outcome = judged(&sheet, [&[7; 2048], &[7; 2048], &[7; 4096], &[7; 32_768]]);
+        let outcome = judged(&sheet, &Lent::all(7, [2048, 2048, 4096, 32_768]));
         accepted(&sheet, &outcome);
         let rules = Rules::new(&read(&sheet).expect("a good sheet"));
         demand_3(&rules, &outcome);
@@ -612,7 +610,7 @@ fn families_are_as_they_are_meant() {
         let number = place as u32;
         assert_eq!(
             (outcome.table[place], outcome.words[place]),
-            (4095 - number, 32 * (number + 1))
+            (State::from(4095 - number), 32 * (number + 1))
         );
     }
     // Reasons 16, 15, ... 1 over and over, a new round but from 1 to 16.
@@ -641,8 +639,8 @@ fn the_order_of_the_letters_is_nothing() {
         let sheet = written(&mut rng, letters).bytes();
         let numbers = any_order(&mut rng, letters);
         let other = renamed(&sheet, &numbers).expect("a good sheet");
-        let room = [&[7; 600][..], &[7; 600], &[7; 1200], &[7; 9600]];
-        let [ours, theirs] = [judged(&sheet, room), judged(&other, room)];
+        let room = Lent::all(7, [600, 600, 1200, 9600]);
+        let [ours, theirs] = [judged(&sheet, &room), judged(&other, &room)];
         accepted(&sheet, &ours);
         accepted(&other, &theirs);
         let Answer { answer, count, .. } = ours.answer;
@@ -650,7 +648,7 @@ fn the_order_of_the_letters_is_nothing() {
         let entries = |outcome: &Outcome, numbers: Option<&[i8]>| {
             let state = |state| numbers.map_or(state, |numbers| renamed_state(state, numbers));
             let states = outcome.table.iter().map(|&number| state(number));
-            let mut list: Vec<(u32, u32)> =
+            let mut list: Vec<(State, u32)> =
                 states.zip(outcome.words.iter().copied()).take(count as usize).collect();
             list.sort_unstable();
             list

@@ -6,12 +6,13 @@
 use plain::audit::{audit, Account, BROKE_FIRST, BROKE_STEP, MOMENTS, PAST, UNLAWFUL};
 use plain::make::{damage, random_sheet, Rng, DAMAGES};
 use plain::sheet::{read, read_number, Sheet};
+use plain::State;
 
-fn is_true(literal: i8, state: u32) -> bool {
+fn is_true(literal: i8, state: State) -> bool {
     (state >> (literal.unsigned_abs() - 1) & 1 == 1) == (literal > 0)
 }
 
-fn lawful(sheet: &Sheet, state: u32) -> bool {
+fn lawful(sheet: &Sheet, state: State) -> bool {
     let mut limits = sheet.limits();
     state >> sheet.letters() == 0
         && limits.all(|limit| {
@@ -20,12 +21,12 @@ fn lawful(sheet: &Sheet, state: u32) -> bool {
         })
 }
 
-fn starts(sheet: &Sheet, state: u32) -> bool {
+fn starts(sheet: &Sheet, state: State) -> bool {
     sheet.first_rules().all(|rule| rule.iter().any(|&literal| is_true(literal, state)))
 }
 
 /// The whole log's account, with no pieces in it.
-fn whole(sheet: &Sheet, log: &[u32]) -> Account {
+fn whole(sheet: &Sheet, log: &[State]) -> Account {
     let mut account = Account::new();
     account.count = log.len() as u32;
     account.last = log.last().copied().unwrap_or(0);
@@ -62,8 +63,8 @@ fn pieces_give_the_whole_logs_account() {
         let bytes = random_sheet(rng, 5);
         let sheet = read(&bytes).expect("a good sheet");
         let most = (1 << sheet.letters()) - 1;
-        let log: Vec<u32> = (0..rng.below(20))
-            .map(|_| rng.number() as u32 & if rng.once_in(9) { u32::MAX } else { most })
+        let log: Vec<State> = (0..rng.below(20))
+            .map(|_| rng.number() as u32 as State & if rng.once_in(9) { State::MAX } else { most })
             .collect();
         let mut account = Account::new();
         let mut left = &log[..];

@@ -6,6 +6,7 @@
 
 use plain::brute;
 use plain::clash::{check_clash, clash, Plan, CROWDED, KEPT, NOT_ACCEPTED, RULES};
+use plain::lent::Lent;
 use plain::make::{damage, random_draft, Draft, Rng, DAMAGES};
 use plain::named;
 use plain::sheet::read_number;
@@ -14,23 +15,18 @@ use plain::sheet::read_number;
 const OLD: u32 = 0xDEAD_BEEF;
 
 /// Slices with room for so many states, and one place more here and there.
-fn lent(states: usize) -> [Vec<u32>; 3] {
-    [vec![OLD; states], vec![OLD; states + 1], vec![OLD; 2 * states + 1]]
-}
-
-/// Whether all slices hold this number all over.
-fn all_over(slices: &[Vec<u32>; 3], number: u32) -> bool {
-    slices.iter().flatten().all(|&n| n == number)
+fn lent(states: usize) -> Lent {
+    Lent::all(OLD, [states, states + 1, 2 * states + 1, 0])
 }
 
 /// The check's answer, and whether it changed what was lent; changed slices are
 /// zero.
 fn checked(sheet: &[u8], rules: &[u32], states: usize) -> (u32, bool) {
     let mut slices = lent(states);
-    let [table, words, scratch] = &mut slices;
+    let Lent { table, words, scratch, .. } = &mut slices;
     let answer = check_clash(sheet, rules, table, words, scratch);
-    let unchanged = all_over(&slices, OLD);
-    assert!(unchanged || all_over(&slices, 0), "{slices:?}");
+    let unchanged = slices.is_all(OLD);
+    assert!(unchanged || slices.is_all(0), "{slices:?}");
     (answer, !unchanged)
 }
 
@@ -38,9 +34,9 @@ fn checked(sheet: &[u8], rules: &[u32], states: usize) -> (u32, bool) {
 /// on a bad sheet.
 fn planned(sheet: &[u8], states: usize) -> (u32, Vec<u32>, usize) {
     let mut slices = lent(states);
-    let [table, words, scratch] = &mut slices;
+    let Lent { table, words, scratch, .. } = &mut slices;
     let plan = clash(sheet, table, words, scratch);
-    assert!(all_over(&slices, if (1..=10).contains(&plan.answer) { OLD } else { 0 }), "{slices:?}");
+    assert!(slices.is_all(if (1..=10).contains(&plan.answer) { OLD } else { 0 }), "{slices:?}");
     (plan.answer, plan.rules, plan.trials)
 }
 
@@ -170,7 +166,7 @@ fn all_255_rules_have_their_marks() {
         }
         let sheet = draft.bytes();
         let mut slices = lent(2);
-        let [table, words, scratch] = &mut slices;
+        let Lent { table, words, scratch, .. } = &mut slices;
         let plan = clash(&sheet, table, words, scratch);
         assert_eq!(plan, Plan { answer: 0, rules: vec![place as u32 + 1], trials });
         let mut marks = [0; RULES];
@@ -201,7 +197,7 @@ fn the_named_sheets() {
 /// The answers, by the naive judge, to a draft with every choice of its step
 /// rules; a choice is a number, its lowest bit for rule 1.
 fn every_choice(draft: &Draft, states: usize) -> Vec<u32> {
-    let [table, words, scratch] = lent(states);
+    let Lent { table, words, scratch, .. } = lent(states);
     let answer = |choice: usize| {
         let mut only = draft.clone();
         let mut rule = 0;

@@ -9,6 +9,7 @@ use plain::judge::{judge, reachable};
 use plain::make::Draft;
 use plain::named::{all, bad, guide, Judged};
 use plain::source::{families, football, philosophers, Dinner, Team};
+use plain::State;
 
 const FOLDER: &str = concat!(env!("CARGO_MANIFEST_DIR"), "/../../examples");
 
@@ -52,7 +53,7 @@ fn bad_files_and_readme_are_as_made() {
 /// The guide's sheets and papers, as the guide tells them.
 #[test]
 fn guide_is_as_told() {
-    let told: [(&str, &str, &[u32], &[u32]); 7] = [
+    let told: [(&str, &str, &[State], &[u32]); 7] = [
         ("clock", "13 4 0 0", &[9, 11, 5, 7], &[32, 32, 33, 33]),
         ("clock-mended", "0 6 3 4", &[7, 9, 3, 1], &[]),
         (

@@ -5,26 +5,29 @@
 
 use plain::check::{check_run, check_run_bytes, check_strikes, check_strikes_bytes};
 use plain::judge::{judge, Answer};
+use plain::lent::Lent;
 use plain::list::{first_states, lawful_states, next_states};
 use plain::make::{w15, Draft};
 use plain::rules::Rules;
 use plain::sheet::{read, read_number, Fault};
+use plain::State;
 
 /// What slices are filled with beforehand.
 const OLD: u32 = 0xDEAD_BEEF;
+const OLD_STATE: State = OLD as State;
 
 /// The judge's numbers and the slices afterwards.
 #[derive(Debug, PartialEq, Eq)]
 struct Judged {
     answer: Answer,
-    table: Vec<u32>,
+    table: Vec<State>,
     words: Vec<u32>,
-    scratch: Vec<u32>,
-    run: Vec<u32>,
+    scratch: Vec<State>,
+    run: Vec<State>,
 }
 
 fn judge_with(sheet: &[u8], lengths: [usize; 4]) -> Judged {
-    let [mut table, mut words, mut scratch, mut run] = lengths.map(|length| vec![OLD; length]);
+    let Lent { mut table, mut words, mut scratch, mut run } = Lent::all(OLD, lengths);
     let answer = judge(sheet, &mut table, &mut words, &mut scratch, &mut run);
     Judged { answer, table, words, scratch, run }
 }
@@ -32,13 +35,13 @@ fn judge_with(sheet: &[u8], lengths: [usize; 4]) -> Judged {
 /// The room that most examples are judged with.
 const ROOM: [usize; 4] = [40, 50, 90, 30];
 
-fn padded(front: &[u32], rest: u32, length: usize) -> Vec<u32> {
+fn padded<T: Clone>(front: &[T], rest: T, length: usize) -> Vec<T> {
     let mut slice = front.to_vec();
     slice.resize(length, rest);
     slice
 }
 
-fn can(sheet: &[u8], livable: &[u32], run: &[u32], a: u32) {
+fn can(sheet: &[u8], livable: &[State], run: &[State], a: u32) {
     let answer =
         Answer { answer: 0, count: livable.len() as u32, a, b: run.len() as u32, place: 0 };
     let expected = Judged {
@@ -46,29 +49,33 @@ fn can(sheet: &[u8], livable: &[u32], run: &[u32], a: u32) {
         table: padded(livable, 0, ROOM[0]),
         words: vec![0; ROOM[1]],
         scratch: vec![0; ROOM[2]],
-        run: padded(run, OLD, ROOM[3]),
+        run: padded(run, OLD_STATE, ROOM[3]),
     };
     assert_eq!(judge_with(sheet, ROOM), expected);
     assert_eq!(check_run(sheet, run, a), 0);
-    assert_eq!(check_run_bytes(sheet, &big_endian(run), a), 0);
+    assert_eq!(check_run_bytes(sheet, &state_bytes(run), a), 0);
 }
 
-fn cannot(sheet: &[u8], states: &[u32], words: &[u32]) {
+fn cannot(sheet: &[u8], states: &[State], words: &[u32]) {
     let answer = Answer { answer: 13, count: states.len() as u32, a: 0, b: 0, place: 0 };
     let expected = Judged {
         answer,
         table: padded(states, 0, ROOM[0]),
         words: padded(words, 0, ROOM[1]),
         scratch: vec![0; ROOM[2]],
-        run: vec![OLD; ROOM[3]],
+        run: vec![OLD_STATE; ROOM[3]],
     };
     assert_eq!(judge_with(sheet, ROOM), expected);
     assert_eq!(check_strikes(sheet, states, words), 0);
-    assert_eq!(check_strikes_bytes(sheet, &big_endian(states), &big_endian(words)), 0);
+    assert_eq!(check_strikes_bytes(sheet, &state_bytes(states), &word_bytes(words)), 0);
 }
 
-fn big_endian(numbers: &[u32]) -> Vec<u8> {
-    numbers.iter().flat_map(|number| number.to_be_bytes()).collect()
+fn state_bytes(states: &[State]) -> Vec<u8> {
+    states.iter().flat_map(|state| state.to_be_bytes()).collect()
+}
+
+fn word_bytes(words: &[u32]) -> Vec<u8> {
+    words.iter().flat_map(|word| word.to_be_bytes()).collect()
 }
 
 fn rules(draft: &Draft) -> Rules {
@@ -110,7 +117,7 @@ fn w7_to_w12_lawful_states() {
     assert_eq!(lawful(Draft::new(2).at_most(1, [1, 2])), [0, 1, 2]);
     assert_eq!(lawful(Draft::new(2).at_most(1, [-2, -1])), [1, 2, 3]);
     for letters in [1, 2, 5] {
-        let all: Vec<u32> = (0..1 << letters).collect();
+        let all: Vec<State> = (0..1 << letters).collect();
         assert_eq!(lawful(Draft::new(letters).exactly(1, [-1, 1])), all);
         assert_eq!(lawful(Draft::new(letters).exactly(0, [-1, 1])), []);
         assert_eq!(lawful(Draft::new(letters).exactly(0, [])), all);
@@ -153,7 +160,7 @@ fn w16_too_little_room() {
             table: vec![0; table],
             words: vec![0; words],
             scratch: vec![0; scratch],
-            run: vec![OLD; run],
+            run: vec![OLD_STATE; run],
         };
         assert_eq!(judge_with(&w2(), lengths), expected);
     }
@@ -163,7 +170,7 @@ fn w16_too_little_room() {
             table: vec![0; 2],
             words: vec![0; 2],
             scratch: vec![0; 4],
-            run: vec![OLD; run],
+            run: vec![OLD_STATE; run],
         };
         assert_eq!(judge_with(&w2(), [2, 2, 4, run]), expected);
     }
@@ -195,10 +202,10 @@ fn a_bad_sheet_changes_nothing() {
     bad[0] = 2;
     let expected = Judged {
         answer: Answer { answer: 2, count: 0, a: 0, b: 0, place: 0 },
-        table: vec![OLD; 3],
+        table: vec![OLD_STATE; 3],
         words: vec![OLD; 2],
-        scratch: vec![OLD; 1],
-        run: vec![OLD; 4],
+        scratch: vec![OLD_STATE; 1],
+        run: vec![OLD_STATE; 4],
     };
     assert_eq!(judge_with(&bad, [3, 2, 1, 4]), expected);
     // The sheet's faults come before the paper's.
@@ -285,7 +292,7 @@ fn damaged_strike_lists_are_not_accepted() {
 fn hostile_papers_end() {
     // 24 letters and no rules: every state has 2^24 next states.
     let sheet = Draft::new(24).promise(1).bytes();
-    let states: Vec<u32> = (0..50_000).map(|k| 2 * k).collect();
+    let states: Vec<State> = (0..50_000).map(|k| 2 * k).collect();
     let words = vec![33; states.len()];
     assert_eq!(check_strikes(&sheet, &states, &words), 14);
     assert_eq!(judge_with(&sheet, [20_000, 20_000, 40_000, 0]).answer.answer, 11);

@@ -1,9 +1,7 @@
 //! A rule sheet with names for its letters: exactly what the bytes say, and the names.
 
+pub use naxxurbi_calls::State;
 use plain::sheet::MOST_LETTERS;
-
-/// A state: letter k holds when the bit worth 2^(k-1) is set.
-pub type State = u32;
 
 /// A literal: k means that letter k holds, -k that it does not.
 pub type Literal = i8;

@@ -7,6 +7,7 @@
 
 #![deny(warnings)]
 
+use plain::lent::Lent;
 use plain::make::{counter, counter_to_dead_end, counter_with_a_beginning, long_run_back_to};
 use plain::make::{damage, free, long_run, random_sheet, Draft, Rng, DAMAGES};
 use plain::named;
@@ -39,7 +40,7 @@ const LENT: [(&str, usize); 4] = [("table", 4096), ("words", 4096), ("scratch", 
 
 /// What it should print, by the plain judge with the program's own room.
 fn expected(input: &[u8]) -> String {
-    let [mut table, mut words, mut scratch, mut run] = LENT.map(|(_, places)| vec![0; places]);
+    let Lent { mut table, mut words, mut scratch, mut run } = Lent::all(0, LENT.map(|(_, places)| places));
     let a = plain::judge::judge(input, &mut table, &mut words, &mut scratch, &mut run);
     format!("{} {} {} {}\n", a.answer, a.count, a.a, a.b)
 }

@@ -9,6 +9,7 @@ use plain::make::{random_sheet, Rng, DAMAGES};
 use plain::rules::Rules;
 use sheet::explain;
 use sheet::input::Source;
+use sheet::model::State;
 use sheet::paper::{self, Paper};
 use sheet::picture::graph::explore;
 use sheet::plan::{plan, Plan};
@@ -225,7 +226,7 @@ fn reasons(rng: &mut Rng, sheets: usize) -> Result<String, String> {
 /// Changes a paper a little.
 fn spoil(rng: &mut Rng, paper: &mut Paper, letters: usize) {
     // Now and then a number that is no state.
-    let any_state = rng.below((1 << letters) + 1) as u32;
+    let any_state = rng.below((1 << letters) + 1) as State;
     match paper {
         Paper::Run(states, a) => match rng.below(4) {
             0 => *a = rng.below(states.len() + 1) as u32,
@@ -266,7 +267,7 @@ fn pictures(rng: &mut Rng, sheets: usize) -> Result<String, String> {
         let rules = Rules::new(&plain::sheet::read(&source.bytes).map_err(|fault| format!("{fault:?}"))?);
         let judged = proved::judge(&source.bytes);
         let Some(graph) = explore(&source.sheet, &rules) else { continue };
-        let struck: Vec<(u32, Option<u32>)> = graph.states.iter().copied().zip(graph.words.iter().copied()).collect();
+        let struck: Vec<(State, Option<u32>)> = graph.states.iter().copied().zip(graph.words.iter().copied()).collect();
         let same = match judged.numbers.answer {
             0 => struck.iter().all(|(state, word)| judged.table.contains(state) == word.is_none()),
             _ => {

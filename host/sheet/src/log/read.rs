@@ -63,7 +63,7 @@ impl Log {
 
     fn of_bytes(&mut self, ended: bool) -> Result<Vec<State>, Trouble> {
         let (states, rest) = self.left.as_chunks::<4>();
-        let states: Vec<State> = states.iter().map(|&state| State::from_be_bytes(state)).collect();
+        let states: Vec<State> = states.iter().map(|&state| State::from(u32::from_be_bytes(state))).collect();
         self.before += states.len();
         if ended && !rest.is_empty() {
             let (more, before) = (count(rest.len(), "byte"), count(self.before, "state"));

@@ -1,6 +1,7 @@
 //! Auditing a log.
 
 use crate::{measure, Only, Table, LONG};
+use naxxurbi_calls::State;
 use plain::audit::{Account, MOMENTS, TALLIES};
 use plain::make::{Draft, Rng};
 use std::hint::black_box;
@@ -28,10 +29,10 @@ fn rules(left: usize) -> Vec<u8> {
 
 pub fn table(only: &Only) -> Table {
     let rng = &mut Rng::new(2);
-    let random: Vec<u32> = (0..MOMENTS).map(|_| rng.number() as u32 & 0xFF_FFFF).collect();
+    let random: Vec<State> = (0..MOMENTS).map(|_| rng.number() as State & 0xFF_FFFF).collect();
     let still = vec![0x5A_5A5A; MOMENTS as usize];
     // No state comes twice in a row, and every branch can be foreseen.
-    let in_turn: Vec<u32> = (0..MOMENTS).map(|i| if i % 2 == 0 { 0x5A_5A5A } else { 0x3C_3C3C }).collect();
+    let in_turn: Vec<State> = (0..MOMENTS).map(|i| if i % 2 == 0 { 0x5A_5A5A } else { 0x3C_3C3C }).collect();
     let logs = [
         ("255 rules asked at every move, states at random", 0, &random),
         ("255 rules of one letter, states at random", 1, &random),
@@ -47,7 +48,7 @@ pub fn table(only: &Only) -> Table {
             let sheet = rules(left);
             let ours = || {
                 let mut account = Account::new().numbers();
-                let answer = compare::audit::audit(black_box(&sheet), &mut account, black_box(log));
+                let answer = naxxurbi_calls::audit(black_box(&sheet), &mut account, black_box(log));
                 (answer, account)
             };
             let plain = || {

@@ -1,7 +1,7 @@
 //! Checking runs and strike lists: the judge's own papers, as bytes.
 
 use crate::{measure, Only, Row, Table, LONG};
-use compare::checkers::{bytes, check_run, check_strikes};
+use naxxurbi_calls::{check_run, check_strikes, state_bytes, word_bytes, State};
 use plain::check::{check_run_bytes, check_strikes_bytes, strikes_nodes};
 use plain::judge::judge;
 use plain::make::{counter, counter_to_dead_end, dense, falling_promises, free, late_clash, long_run, mostly_idle, never, w15};
@@ -9,6 +9,9 @@ use plain::source::{football, Team};
 use std::collections::BTreeSet;
 use std::hint::black_box;
 use std::time::Duration;
+
+/// The bytes of a state on a paper.
+const STATE: usize = size_of::<State>();
 
 /// The judge's paper: a run's states and its a, or a strike list's states and words.
 struct Paper {
@@ -31,7 +34,7 @@ fn paper(sheet: Vec<u8>) -> Paper {
     };
     let different = words.iter().collect::<BTreeSet<_>>().len();
     let nodes = strikes_nodes(&sheet, states, words);
-    Paper { a: answer.a, states: bytes(states), words: bytes(words), different, nodes, sheet }
+    Paper { a: answer.a, states: state_bytes(states), words: word_bytes(words), different, nodes, sheet }
 }
 
 pub fn tables(only: &Only) -> Vec<Table> {
@@ -52,7 +55,7 @@ fn runs(only: &Only) -> Table {
             assert_eq!(check_run_bytes(&sheet, &states, a), 0);
             rows.push(measure(
                 name,
-                vec![(states.len() / 4).to_string()],
+                vec![(states.len() / STATE).to_string()],
                 LONG,
                 || check_run(black_box(&sheet), &states, a),
                 || check_run_bytes(black_box(&sheet), &states, a),
@@ -98,18 +101,18 @@ fn lists(only: &Only) -> Table {
             let Paper { sheet, mut states, mut words, different, .. } = paper(draft.bytes());
             if name.contains(BACKWARDS) {
                 assert_eq!(different, 1, "one word, so that the order is free");
-                states = states.chunks(4).rev().flatten().copied().collect();
+                states = states.chunks(STATE).rev().flatten().copied().collect();
             }
             if name.ends_with(TWICE) {
                 // Its own word once more: the list stays right.
-                states.extend_from_within(states.len() - 4..);
+                states.extend_from_within(states.len() - STATE..);
                 words.extend_from_within(words.len() - 4..);
             }
             if name.ends_with(ALL_TWICE) {
-                states = states.chunks(4).flat_map(|state| [state, state].concat()).collect();
+                states = states.chunks(STATE).flat_map(|state| [state, state].concat()).collect();
                 words = words.chunks(4).flat_map(|word| [word, word].concat()).collect();
             }
-            let facts = vec![(states.len() / 4).to_string(), different.to_string()];
+            let facts = vec![(states.len() / STATE).to_string(), different.to_string()];
             rows.push(list(name, facts, LONG, [&sheet, &states, &words]));
         }
     }
@@ -126,5 +129,5 @@ fn list(name: String, facts: Vec<String>, most: Duration, [sheet, states, words]
 /// The judge's own strike list of a sheet; how many states it has, and how many nodes the plain checker visits.
 pub fn own_list(name: String, most: Duration, sheet: &[u8]) -> Row {
     let Paper { sheet, states, words, nodes, .. } = paper(sheet.to_vec());
-    list(name, vec![(states.len() / 4).to_string(), nodes.to_string()], most, [&sheet, &states, &words])
+    list(name, vec![(states.len() / STATE).to_string(), nodes.to_string()], most, [&sheet, &states, &words])
 }

@@ -2,6 +2,7 @@
 
 use crate::{measure, Only, Row, Table, LONG};
 use plain::families::two_fight;
+use plain::lent::Lent;
 use std::hint::black_box;
 
 /// The most states the judge has room for: more than these sheets have lawful states.
@@ -17,31 +18,32 @@ const BAR: f64 = 300.0;
 const ASKED: [usize; 2] = [3, 2];
 
 /// Slices with room for the most states.
-fn lent() -> [Vec<u32>; 3] {
-    [vec![7; STATES], vec![7; STATES], vec![7; 2 * STATES]]
+fn lent() -> Lent {
+    Lent::all(7, [STATES, STATES, 2 * STATES, 0])
 }
 
 /// Three rows for a sheet: judging it, planning it, checking the plan; with how many sheets each judges, and its time over the judge's.
 fn rows(asked: usize) -> Vec<Row> {
     let sheet = &two_fight(FIGHTING, asked).bytes();
     let named = |what: &str| format!("{what}: 2 of 255 rules fight, the others ask for one of {asked}");
-    let ([mut table, mut words, mut scratch], [mut table2, mut words2, mut scratch2]) = (lent(), lent());
+    let (mut ours, mut theirs) = (lent(), lent());
+    let (Lent { table, words, scratch, .. }, Lent { table: table2, words: words2, scratch: scratch2, .. }) = (&mut ours, &mut theirs);
     let judged = measure(
         named("judging"),
         vec!["1".into()],
         LONG,
-        || compare::judge::judge(black_box(sheet), &mut table, &mut words, &mut scratch, &mut []),
-        || plain::judge::judge(black_box(sheet), &mut table2, &mut words2, &mut scratch2, &mut []),
+        || compare::judge(black_box(sheet), table, words, scratch, &mut []),
+        || plain::judge::judge(black_box(sheet), table2, words2, scratch2, &mut []),
     );
-    let plan = plain::clash::clash(sheet, &mut table, &mut words, &mut scratch);
+    let plan = plain::clash::clash(sheet, table, words, scratch);
     assert_eq!((plan.answer, &plan.rules[..]), (0, &FIGHTING.map(|rule| rule as u32)[..]));
     let planned = measure(
         named("planning"),
         vec![plan.trials.to_string()],
         LONG,
-        || compare::clash::clash(black_box(sheet), &mut table, &mut words, &mut scratch),
+        || naxxurbi_calls::clash(black_box(sheet), table, words, scratch),
         || {
-            let plan = plain::clash::clash(black_box(sheet), &mut table2, &mut words2, &mut scratch2);
+            let plan = plain::clash::clash(black_box(sheet), table2, words2, scratch2);
             (plan.answer, plan.marks())
         },
     );
@@ -49,10 +51,10 @@ fn rows(asked: usize) -> Vec<Row> {
         named("checking the plan"),
         vec![(1 + plan.rules.len()).to_string()],
         LONG,
-        || compare::clash::check_clash(black_box(sheet), &plan.rules, &mut table, &mut words, &mut scratch),
-        || plain::clash::check_clash(black_box(sheet), &plan.rules, &mut table2, &mut words2, &mut scratch2),
+        || naxxurbi_calls::check_clash(black_box(sheet), &plan.rules, table, words, scratch),
+        || plain::clash::check_clash(black_box(sheet), &plan.rules, table2, words2, scratch2),
     );
-    assert_eq!([table, words, scratch], [table2, words2, scratch2]);
+    assert_eq!(ours, theirs);
     let times = planned.ours / judged.ours;
     assert!(times < BAR, "planned in {times:.0} times the judge's own time");
     let [ours, plain] = [judged.ours, judged.plain];

@@ -2,6 +2,7 @@
 
 use crate::{measure, Only, Row, Table, LONG, SHORT};
 use plain::judge::{explored, Answer};
+use plain::lent::Lent;
 use plain::make::{self, Draft, Family};
 use plain::source;
 use std::hint::black_box;
@@ -51,23 +52,21 @@ pub fn row(family: &Family, most: Duration) -> Row {
 /// Judged by both with so much room; the facts depend on the answer. Both must leave the same in the slices.
 fn judged(family: &Family, room: usize, most: Duration, facts: impl FnOnce(String) -> Vec<String>) -> Row {
     let Family { name, sheet } = family;
-    let (mut table, mut words, mut scratch) = (vec![7; room], vec![7; room], vec![7; 2 * room]);
-    let mut run = vec![7; MOMENTS];
-    let theirs = plain::judge::judge(sheet, &mut table, &mut words, &mut scratch, &mut run);
+    let mut lent = Lent::all(7, [room, room, 2 * room, MOMENTS]);
+    let theirs = plain::judge::judge(sheet, &mut lent.table, &mut lent.words, &mut lent.scratch, &mut lent.run);
     let Answer { answer, count, a, b, .. } = theirs;
-    run.truncate(b as usize);
+    lent.run.truncate(b as usize);
     let facts = facts(format!("{answer} {count} {a} {b}"));
-    let lent = [table, words, scratch, run];
-    let [mut table, mut words, mut scratch, mut run] = lent.clone().map(|numbers| vec![7; numbers.len()]);
-    let [mut table2, mut words2, mut scratch2, mut run2] = lent.clone();
+    let mut ours = Lent::all(7, lent.lengths());
+    let mut plain = lent.clone();
     let row = measure(
         name.clone(),
         facts,
         most,
-        || compare::judge::judge(black_box(sheet), &mut table, &mut words, &mut scratch, &mut run),
-        || plain::judge::judge(black_box(sheet), &mut table2, &mut words2, &mut scratch2, &mut run2),
+        || compare::judge(black_box(sheet), &mut ours.table, &mut ours.words, &mut ours.scratch, &mut ours.run),
+        || plain::judge::judge(black_box(sheet), &mut plain.table, &mut plain.words, &mut plain.scratch, &mut plain.run),
     );
-    assert_eq!([table, words, scratch, run], lent, "{name}");
+    assert_eq!(ours, lent, "{name}");
     row
 }
 

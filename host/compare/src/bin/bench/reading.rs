@@ -40,9 +40,9 @@ fn with_the_place(only: &Only) -> Option<Row> {
     let last = sheet.len() - 1;
     sheet[last] = sheet[last - 1];
     let found = (9, last as u32);
-    assert_eq!((compare::reader::read_place(&sheet), plain::sheet::read_place(&sheet)), (found, found));
+    assert_eq!((naxxurbi_calls::read_place(&sheet), plain::sheet::read_place(&sheet)), (found, found));
     let length = vec![sheet.len().to_string()];
-    let (ours, plain) = (|| compare::reader::read_place(black_box(&sheet)), || plain::sheet::read_place(black_box(&sheet)));
+    let (ours, plain) = (|| naxxurbi_calls::read_place(black_box(&sheet)), || plain::sheet::read_place(black_box(&sheet)));
     only.wants(&name).then(|| measure(name, length, LONG, ours, plain))
 }
 
@@ -60,7 +60,7 @@ pub fn table(only: &Only) -> Table {
         .map(|(name, sheet)| {
             assert_eq!(plain::sheet::read_number(&sheet), 0);
             let length = vec![sheet.len().to_string()];
-            measure(name, length, LONG, || compare::reader::read(black_box(&sheet)), || plain::sheet::read_number(black_box(&sheet)))
+            measure(name, length, LONG, || naxxurbi_calls::read(black_box(&sheet)), || plain::sheet::read_number(black_box(&sheet)))
         })
         .chain(with_the_place(only))
         .collect();

@@ -1,27 +1,28 @@
 //! The audit: random logs, cut at random, on accounts that audits made and on accounts of anything.
 
 use crate::{differs, Tally};
+use naxxurbi_calls::State;
 use plain::audit::{Account, MOMENTS, NUMBERS, PAST, TALLIES};
 use plain::make::{damage, random_sheet, Rng, DAMAGES};
 use plain::rules::Rules;
 
 /// A log that mostly obeys: each state is a lawful next one where one is found soon, else anything; now and then it stands still.
-fn log(rng: &mut Rng, sheet: &[u8], length: usize) -> Vec<u32> {
+fn log(rng: &mut Rng, sheet: &[u8], length: usize) -> Vec<State> {
     let rules = plain::sheet::read(sheet).ok().map(|sheet| Rules::new(&sheet));
     let letters = rules.as_ref().map_or(8, Rules::letters);
-    let mut states: Vec<u32> = Vec::new();
+    let mut states: Vec<State> = Vec::new();
     for _ in 0..length {
-        let mut state = rng.number() as u32 & ((1 << letters) - 1);
+        let mut state = rng.number() as State & ((1 << letters) - 1);
         for _ in 0..64 {
             let fits = rules.as_ref().is_none_or(|rules| states.last().map_or(rules.first(state), |&last| rules.moves(last, state)));
             if fits {
                 break;
             }
-            state = rng.number() as u32 & ((1 << letters) - 1);
+            state = rng.number() as State & ((1 << letters) - 1);
         }
         states.push(match rng.below(40) {
             0 => state | 1 << rng.within(letters as usize, 31),
-            1 => rng.number() as u32,
+            1 => rng.number() as u32 as State,
             2 => states.last().copied().unwrap_or(state),
             _ => state,
         });
@@ -67,10 +68,10 @@ struct Seen {
 
 impl Seen {
     /// One call of each: whether both answer the same and leave the same account.
-    fn same(&mut self, sheet: &[u8], account: &mut [u32; NUMBERS], states: &[u32]) -> bool {
+    fn same(&mut self, sheet: &[u8], account: &mut [u32; NUMBERS], states: &[State]) -> bool {
         let (before, mut plain) = (*account, Account::of_numbers(account));
         let answer = plain::audit::audit(sheet, &mut plain, states);
-        let ours = (compare::audit::audit(sheet, account, states), account.to_vec());
+        let ours = (naxxurbi_calls::audit(sheet, account, states), account.to_vec());
         self.answers.count(answer);
         if answer == 0 && before[2] == 0 {
             self.breaches[plain.what as usize] += 1;
@@ -80,7 +81,7 @@ impl Seen {
     }
 
     /// A whole log from the empty account, at once and in pieces: the same account.
-    fn cut(&mut self, rng: &mut Rng, sheet: &[u8], states: &[u32]) -> bool {
+    fn cut(&mut self, rng: &mut Rng, sheet: &[u8], states: &[State]) -> bool {
         let mut whole = Account::new().numbers();
         let mut account = whole;
         let mut left = states;

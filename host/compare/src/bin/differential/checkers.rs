@@ -1,7 +1,7 @@
 //! The two checkers: random sheets, and papers that are right, damaged or made up.
 
 use crate::{differs, Tally};
-use compare::checkers::{bytes, check_run, check_strikes};
+use naxxurbi_calls::{check_run, check_strikes, state_bytes, word_bytes, State};
 use plain::check::{check_run_bytes, check_strikes_bytes};
 use plain::judge::judge;
 use plain::list::{first_states, next_states};
@@ -18,9 +18,9 @@ const STATES: usize = 1024;
 const MOMENTS: usize = 16_384;
 
 /// A run: states and the place that is gone back to.
-type Run = (Vec<u32>, u32);
+type Run = (Vec<State>, u32);
 /// A strike list: states and words.
-type List = (Vec<u32>, Vec<u32>);
+type List = (Vec<State>, Vec<u32>);
 
 /// Numbers, and whether both checkers say them alike.
 pub struct Checked<'t> {
@@ -89,23 +89,23 @@ fn wander(rng: &mut Rng, rules: &Rules) -> Run {
 
 /// A run out of nothing.
 fn made_up_run(rng: &mut Rng, letters: u8) -> Run {
-    let states: Vec<u32> = (0..rng.below(5)).map(|_| any_state(rng, letters)).collect();
+    let states: Vec<State> = (0..rng.below(5)).map(|_| any_state(rng, letters)).collect();
     let a = rng.below(states.len() + 2) as u32;
     (states, a)
 }
 
 /// A state, now and then one that is none.
-fn any_state(rng: &mut Rng, letters: u8) -> u32 {
+fn any_state(rng: &mut Rng, letters: u8) -> State {
     match rng.below(12) {
         0 => 1 << letters.min(31),
-        1 => rng.number() as u32,
-        _ => rng.below(1 << letters) as u32,
+        1 => rng.number() as u32 as State,
+        _ => rng.below(1 << letters) as State,
     }
 }
 
 /// A strike list out of nothing: all states or a few, with words that mostly rise.
 fn made_up_list(rng: &mut Rng, letters: u8) -> List {
-    let mut states: Vec<u32> = match rng.below(3) {
+    let mut states: Vec<State> = match rng.below(3) {
         0 if letters <= FEW_LETTERS => (0..1 << letters).collect(),
         _ => (0..rng.below(8)).map(|_| any_state(rng, letters)).collect(),
     };
@@ -195,9 +195,8 @@ fn spoil_list(rng: &mut Rng, letters: u8, (states, words): &mut List) {
     }
 }
 
-/// The numbers' bytes, at times with some left over or missing.
-fn odd_bytes(rng: &mut Rng, numbers: &[u32]) -> Vec<u8> {
-    let mut bytes = bytes(numbers);
+/// A paper's bytes, at times with some left over or missing.
+fn odd(rng: &mut Rng, mut bytes: Vec<u8>) -> Vec<u8> {
     if rng.once_in(40) {
         match rng.below(2) {
             0 => bytes.extend((0..rng.within(1, 7)).map(|_| rng.byte() & 1).collect::<Vec<_>>()),
@@ -216,10 +215,10 @@ pub fn suite(rng: &mut Rng, rounds: usize) -> bool {
         let mut sheet = random_draft(rng, letters).bytes();
         let letters = sheet[3];
         let (run, list) = paper(&sheet);
-        if !run.iter().all(|(states, a)| checked.run(&sheet, &bytes(states), *a)) {
+        if !run.iter().all(|(states, a)| checked.run(&sheet, &state_bytes(states), *a)) {
             return false;
         }
-        if !list.iter().all(|(states, words)| checked.list(&sheet, &bytes(states), &bytes(words))) {
+        if !list.iter().all(|(states, words)| checked.list(&sheet, &state_bytes(states), &word_bytes(words))) {
             return false;
         }
         let rules = (letters <= FEW_LETTERS).then(|| Rules::new(&read(&sheet).expect("a good sheet")));
@@ -234,7 +233,7 @@ pub fn suite(rng: &mut Rng, rounds: usize) -> bool {
                 _ => made_up_run(rng, letters),
             };
             spoil_run(rng, letters, &mut proposed);
-            if !checked.run(&sheet, &odd_bytes(rng, &proposed.0), proposed.1) {
+            if !checked.run(&sheet, &odd(rng, state_bytes(&proposed.0)), proposed.1) {
                 return false;
             }
             let mut proposed = match &list {
@@ -242,7 +241,7 @@ pub fn suite(rng: &mut Rng, rounds: usize) -> bool {
                 _ => made_up_list(rng, letters),
             };
             spoil_list(rng, letters, &mut proposed);
-            let (states, words) = (odd_bytes(rng, &proposed.0), odd_bytes(rng, &proposed.1));
+            let (states, words) = (odd(rng, state_bytes(&proposed.0)), odd(rng, word_bytes(&proposed.1)));
             if !checked.list(&sheet, &states, &words) {
                 return false;
             }
@@ -280,7 +279,7 @@ pub fn papers(rng: &mut Rng, checked: &mut Checked, sheet: &[u8]) -> bool {
             if time > 0 {
                 spoil_run(rng, sheet[3], &mut run);
             }
-            checked.run(sheet, &bytes(&run.0), run.1)
+            checked.run(sheet, &state_bytes(&run.0), run.1)
         });
         right
             && list.clone().is_none_or(|mut list| {
@@ -289,24 +288,24 @@ pub fn papers(rng: &mut Rng, checked: &mut Checked, sheet: &[u8]) -> bool {
                     1 => list = (doubled(&list.0), doubled(&list.1)),
                     _ => spoil_list(rng, sheet[3], &mut list),
                 }
-                checked.list(sheet, &bytes(&list.0), &bytes(&list.1))
+                checked.list(sheet, &state_bytes(&list.0), &word_bytes(&list.1))
             })
     })
 }
 
-fn doubled(numbers: &[u32]) -> Vec<u32> {
+fn doubled<T: Copy>(numbers: &[T]) -> Vec<T> {
     numbers.iter().flat_map(|&number| [number, number]).collect()
 }
 
 /// 24 letters: every state has 2^24 next states, and as many may come first, or just one.
 fn hostile(checked: &mut Checked) -> bool {
-    let states: Vec<u32> = (0..4000).map(|number| 2 * number).collect();
+    let states: Vec<State> = (0..4000).map(|number| 2 * number).collect();
     let words = vec![33; states.len()];
     let many = Draft::new(24).promise(1).clone();
     let mut one = many.clone();
     one.first.extend((1..=24).map(|letter| vec![-letter]));
     [many, one].iter().all(|draft| {
         let sheet = draft.bytes();
-        checked.list(&sheet, &bytes(&states), &bytes(&words)) && checked.run(&sheet, &bytes(&states), 0)
+        checked.list(&sheet, &state_bytes(&states), &word_bytes(&words)) && checked.run(&sheet, &state_bytes(&states), 0)
     })
 }

@@ -1,25 +1,24 @@
 //! Which rules fight: the planner and the check on random sheets, many of which cannot be kept, with much room and little; the answers, the
 //! marks and all three slices compared whole. What the planner proposes is put to the check, and to the judge.
 
-use crate::judge::filled;
 use crate::{boundary_sheets, differs, Tally};
+use naxxurbi_calls::State;
 use plain::clash::{Plan, CROWDED, RULES};
 use plain::edges::edges;
 use plain::families::two_fight;
 use plain::judge::reachable;
+use plain::lent::Lent;
 use plain::make::{damage, random_draft, Draft, Rng, DAMAGES};
 use plain::named;
 
-/// Table, words and scratch.
-type Lent = [Vec<u32>; 3];
-
-type Check = fn(&[u8], &[u32], &mut [u32], &mut [u32], &mut [u32]) -> u32;
+/// A check of proposed rules, ours or the plain one. It is lent no run.
+type Check = fn(&[u8], &[u32], &mut [State], &mut [u32], &mut [State]) -> u32;
 
 /// What the check says and leaves.
 fn checked(check: Check, sheet: &[u8], rules: &[u32], lent: &Lent) -> (u32, Lent) {
-    let [mut table, mut words, mut scratch] = lent.clone();
-    let answer = check(sheet, rules, &mut table, &mut words, &mut scratch);
-    (answer, [table, words, scratch])
+    let mut lent = lent.clone();
+    let answer = check(sheet, rules, &mut lent.table, &mut lent.words, &mut lent.scratch);
+    (answer, lent)
 }
 
 /// What occurred: the answers; 14 for bad numbers, which changes nothing; a choice of no rules; and when the planner met 11.
@@ -42,10 +41,10 @@ impl Seen {
 
     /// Checks a proposal with both: whether they agree.
     fn check(&mut self, sheet: &[u8], rules: &[u32], lent: &Lent) -> bool {
-        let ours = checked(compare::clash::check_clash, sheet, rules, lent);
+        let ours = checked(naxxurbi_calls::check_clash, sheet, rules, lent);
         let plain = checked(plain::clash::check_clash, sheet, rules, lent);
         if differs("check of fighting rules", sheet, &ours, &plain) {
-            println!("  rules {rules:?}\n  lent {:?}", lent.each_ref().map(Vec::len));
+            println!("  rules {rules:?}\n  lent {:?}", lent.lengths());
             return false;
         }
         self.check.count(ours.0);
@@ -58,12 +57,12 @@ impl Seen {
 
     /// Plans with both: the plan, if they agree.
     fn plan(&mut self, sheet: &[u8], lent: &Lent) -> Option<Plan> {
-        let [[mut table, mut words, mut scratch], [mut table2, mut words2, mut scratch2]] = [lent.clone(), lent.clone()];
-        let (answer, marks) = compare::clash::clash(sheet, &mut table, &mut words, &mut scratch);
-        let plan = plain::clash::clash(sheet, &mut table2, &mut words2, &mut scratch2);
-        let ours = (answer, marks.to_vec(), [table, words, scratch]);
-        if differs("planner of fighting rules", sheet, &ours, &(plan.answer, plan.marks().to_vec(), [table2, words2, scratch2])) {
-            println!("  lent {:?}", lent.each_ref().map(Vec::len));
+        let [mut ours, mut theirs] = [lent.clone(), lent.clone()];
+        let (answer, marks) = naxxurbi_calls::clash(sheet, &mut ours.table, &mut ours.words, &mut ours.scratch);
+        let plan = plain::clash::clash(sheet, &mut theirs.table, &mut theirs.words, &mut theirs.scratch);
+        let ours = (answer, marks.to_vec(), ours);
+        if differs("planner of fighting rules", sheet, &ours, &(plan.answer, plan.marks().to_vec(), theirs)) {
+            println!("  lent {:?}", lent.lengths());
             return None;
         }
         self.planner.count(answer);
@@ -99,8 +98,7 @@ impl Seen {
 /// Slices for so many states and hardly more, none of their numbers zero.
 fn some_room(rng: &mut Rng, states: usize) -> Lent {
     let more = [0; 3].map(|_: usize| rng.below(4).saturating_sub(1));
-    let [table, words, scratch, _] = filled(rng, [states + more[0], states + more[1], 2 * states + more[2], 0]);
-    [table, words, scratch]
+    Lent::filled(rng, [states + more[0], states + more[1], 2 * states + more[2], 0])
 }
 
 /// Rules that ask for much, in this order at any places among the step rules: nothing may follow; a letter holds and does not; a letter is never
@@ -195,8 +193,8 @@ fn judged_as_said(draft: &Draft, plan: &Plan, lent: &Lent) -> bool {
     let judged = |rules: &[u32]| {
         let steps = rules.iter().map(|&rule| draft.steps[rule as usize - 1].clone()).collect();
         let sheet = Draft { steps, ..draft.clone() }.bytes();
-        let [mut table, mut words, mut scratch] = lent.clone();
-        compare::judge::judge(&sheet, &mut table, &mut words, &mut scratch, &mut []).answer
+        let Lent { mut table, mut words, mut scratch, .. } = lent.clone();
+        compare::judge(&sheet, &mut table, &mut words, &mut scratch, &mut []).answer
     };
     let less = |rule: u32| plan.rules.iter().copied().filter(|&other| other != rule).collect::<Vec<_>>();
     let answers: Vec<u32> = plan.rules.iter().map(|&rule| judged(&less(rule))).collect();
@@ -212,7 +210,7 @@ fn good(rng: &mut Rng, seen: &mut Seen, draft: &Draft) -> bool {
         return false;
     };
     let accepted = |answer| !differs("the check of the plan", &sheet, &answer, &0);
-    let found = plan.answer != 0 || accepted(checked(compare::clash::check_clash, &sheet, &plan.rules, &lent).0);
+    let found = plan.answer != 0 || accepted(checked(naxxurbi_calls::check_clash, &sheet, &plan.rules, &lent).0);
     found
         && (plan.answer != 0 || judged_as_said(draft, &plan, &lent))
         && proposals(rng, draft.steps.len(), &plan).iter().all(|rules| seen.check(&sheet, rules, &lent))

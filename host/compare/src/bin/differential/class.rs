@@ -1,29 +1,30 @@
 //! The whole class in one call: the answer, the numbers and all four slices compared whole.
 
-use crate::judge::filled;
 use crate::{differs, Tally};
+use naxxurbi_calls::State;
 use plain::class::{EACH, SHEETS};
+use plain::lent::Lent;
 use plain::make::{damage, letters, random_draft, Rng, DAMAGES};
 use plain::named::wall;
 
-type JudgeClass = fn(&[u8], &[u32], &mut [u32], &mut [u32], &mut [u32], &mut [u32], &mut [u32]) -> u32;
+type JudgeClass = fn(&[u8], &[u32], &mut [State], &mut [u32], &mut [State], &mut [State], &mut [u32]) -> u32;
 
 /// What is handed in: sheets, ends, the four slices and the numbers.
 struct Class {
     sheets: Vec<u8>,
     ends: Vec<u32>,
-    lent: [Vec<u32>; 4],
+    lent: Lent,
     numbers: Vec<u32>,
 }
 
 /// What comes back: the answer, the four slices and the numbers.
-type Judged = (u32, [Vec<u32>; 4], Vec<u32>);
+type Judged = (u32, Lent, Vec<u32>);
 
 fn judged(judge_class: JudgeClass, class: &Class) -> Judged {
-    let [mut table, mut words, mut scratch, mut run] = class.lent.clone();
+    let Lent { mut table, mut words, mut scratch, mut run } = class.lent.clone();
     let mut numbers = class.numbers.clone();
     let answer = judge_class(&class.sheets, &class.ends, &mut table, &mut words, &mut scratch, &mut run, &mut numbers);
-    (answer, [table, words, scratch, run], numbers)
+    (answer, Lent { table, words, scratch, run }, numbers)
 }
 
 /// One sheet for a class: none, one of the wall, a random one of few letters, or that damaged.
@@ -56,8 +57,9 @@ fn any_class(rng: &mut Rng) -> Class {
         ends.push(sheets.len() as u32);
     }
     let lengths = [0; 4].map(|_: usize| rng.below(24));
-    let [numbers, ..] = filled(rng, [(EACH * count + rng.clone().below(6)).saturating_sub(1), 0, 0, 0]);
-    Class { sheets, ends, lent: filled(rng, lengths), numbers }
+    let places = (EACH * count + rng.clone().below(6)).saturating_sub(1);
+    let numbers = (0..places).map(|_| rng.number() as u32 | 1).collect();
+    Class { sheets, ends, lent: Lent::filled(rng, lengths), numbers }
 }
 
 /// The same with one end moved, the ends shifted, one left out or some input more.
@@ -82,10 +84,10 @@ pub fn suite(rng: &mut Rng, rounds: usize) -> bool {
         if rng.once_in(3) {
             disturb(rng, &mut class);
         }
-        let ours = judged(compare::class::judge_class, &class);
+        let ours = judged(naxxurbi_calls::judge_class, &class);
         let plain = judged(plain::class::judge_class, &class);
         if differs("class", &class.sheets, &ours, &plain) {
-            println!("  ends {:?}\n  lent {:?}", class.ends, class.lent.each_ref().map(Vec::len));
+            println!("  ends {:?}\n  lent {:?}", class.ends, class.lent.lengths());
             return false;
         }
         calls.count(ours.0);

@@ -1,27 +1,23 @@
 //! The judge: numbers and all four slices compared whole, and every paper handed to both checkers.
 
 use crate::{boundary_sheets, differs, Places, Tally};
-use compare::checkers::{bytes, check_run, check_strikes};
+use naxxurbi_calls::{check_run, check_strikes, state_bytes, word_bytes, State};
 use plain::brute::Outcome;
 use plain::edges::edges;
 use plain::judge::{reachable, Answer};
+use plain::lent::Lent;
 use plain::make::{self, damage, letters, random_draft, Rng, DAMAGES};
 use plain::source;
 
 /// The most reachable states of a random sheet that is judged to its end; of more, only how many there is room for matters.
 const MOST_STATES: usize = 400;
 
-/// Slices of numbers that are not zero.
-pub fn filled(rng: &mut Rng, lengths: [usize; 4]) -> [Vec<u32>; 4] {
-    lengths.map(|length| (0..length).map(|_| rng.number() as u32 | 1).collect())
-}
-
 /// A judge, ours or the plain one.
-pub type Judge = fn(&[u8], &mut [u32], &mut [u32], &mut [u32], &mut [u32]) -> Answer;
+pub type Judge = fn(&[u8], &mut [State], &mut [u32], &mut [State], &mut [State]) -> Answer;
 
 /// Judges with slices like these.
-pub fn judged(judge: Judge, sheet: &[u8], lent: &[Vec<u32>; 4]) -> Outcome {
-    let [mut table, mut words, mut scratch, mut run] = lent.clone();
+pub fn judged(judge: Judge, sheet: &[u8], lent: &Lent) -> Outcome {
+    let Lent { mut table, mut words, mut scratch, mut run } = lent.clone();
     let answer = judge(sheet, &mut table, &mut words, &mut scratch, &mut run);
     Outcome { answer, table, words, scratch, run }
 }
@@ -39,11 +35,11 @@ impl Seen {
 }
 
 /// Judges with both, compares them, and hands the paper to both checkers: the right one accepts it, the other does not.
-pub fn agree(seen: &mut Seen, sheet: &[u8], lent: &[Vec<u32>; 4]) -> bool {
-    let ours = judged(compare::judge::judge, sheet, lent);
+pub fn agree(seen: &mut Seen, sheet: &[u8], lent: &Lent) -> bool {
+    let ours = judged(compare::judge, sheet, lent);
     let plain = judged(plain::judge::judge, sheet, lent);
     if differs("judge", sheet, &ours, &plain) {
-        println!("  lent {:?}", lent.each_ref().map(Vec::len));
+        println!("  lent {:?}", lent.lengths());
         return false;
     }
     let Answer { answer, count, a, b, place } = ours.answer;
@@ -52,11 +48,11 @@ pub fn agree(seen: &mut Seen, sheet: &[u8], lent: &[Vec<u32>; 4]) -> bool {
     let (count, b) = (count as usize, b as usize);
     let (numbers, wanted) = match answer {
         0 => {
-            let (run, livable) = (bytes(&ours.run[..b]), bytes(&ours.table[..count]));
-            ([check_run(sheet, &run, a), check_strikes(sheet, &livable, &bytes(&ours.words[..count]))], [0, 14])
+            let (run, livable) = (state_bytes(&ours.run[..b]), state_bytes(&ours.table[..count]));
+            ([check_run(sheet, &run, a), check_strikes(sheet, &livable, &word_bytes(&ours.words[..count]))], [0, 14])
         }
         13 => {
-            let (states, words) = (bytes(&ours.table[..count]), bytes(&ours.words[..count]));
+            let (states, words) = (state_bytes(&ours.table[..count]), word_bytes(&ours.words[..count]));
             ([check_run(sheet, &states, 0), check_strikes(sheet, &states, &words)], [14, 0])
         }
         _ => return true,
@@ -81,12 +77,11 @@ fn length(rng: &mut Rng, need: usize) -> usize {
 pub fn good(rng: &mut Rng, seen: &mut Seen, sheet: &[u8]) -> bool {
     // Where there are too many states, any need below serves to show that.
     let states = reachable(sheet, MOST_STATES).unwrap_or(rng.clone().below(MOST_STATES));
-    let mut free = [vec![0; states], vec![0; states], vec![0; 2 * states], vec![0; 16 * states]];
-    let [table, words, scratch, run] = &mut free;
-    let moments = plain::judge::judge(sheet, table, words, scratch, run).b as usize;
+    let free = Lent::all(0, [states, states, 2 * states, 16 * states]);
+    let moments = judged(plain::judge::judge, sheet, &free).answer.b as usize;
     (0..4).all(|_| {
         let lengths = [length(rng, states), length(rng, states), length(rng, 2 * states), length(rng, moments)];
-        let lent = filled(rng, lengths);
+        let lent = Lent::filled(rng, lengths);
         agree(seen, sheet, &lent)
     })
 }
@@ -94,7 +89,7 @@ pub fn good(rng: &mut Rng, seen: &mut Seen, sheet: &[u8]) -> bool {
 /// Any sheet, with slices of a few numbers.
 fn any(rng: &mut Rng, seen: &mut Seen, sheet: &[u8]) -> bool {
     let lengths = [0; 4].map(|_: usize| rng.below(20));
-    let lent = filled(rng, lengths);
+    let lent = Lent::filled(rng, lengths);
     agree(seen, sheet, &lent)
 }
 
@@ -145,14 +140,14 @@ pub fn large(rng: &mut Rng, _: usize) -> bool {
     // Many states with few next states each: these the judge stores the moves of.
     sheets.extend((0..48).map(|_| make::loosened_counter(rng, 10).bytes()));
     for sheet in &sheets {
-        let lent = filled(rng, [1100, 1100, 2200, 4096]);
+        let lent = Lent::filled(rng, [1100, 1100, 2200, 4096]);
         if !agree(&mut seen, sheet, &lent) || !good(rng, &mut seen, sheet) {
             return false;
         }
     }
     // Exactly 16,384 states, then twice as many, for which there would be room.
     for (draft, lengths) in [(make::counter(14), [16_385, 16_500, 40_000, 16_384]), (make::counter(15), [33_000, 33_000, 66_000, 40_000])] {
-        let lent = filled(rng, lengths);
+        let lent = Lent::filled(rng, lengths);
         if !agree(&mut seen, &draft.bytes(), &lent) {
             return false;
         }

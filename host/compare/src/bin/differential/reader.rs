@@ -8,7 +8,7 @@ pub fn suite(rng: &mut Rng, rounds: usize) -> bool {
     let mut tally = Tally::new("reader");
     let mut places = Places::new("reader");
     let mut check = |sheet: &[u8]| {
-        let ours = (compare::reader::read(sheet), compare::reader::read_place(sheet));
+        let ours = (naxxurbi_calls::read(sheet), naxxurbi_calls::read_place(sheet));
         let told = plain::sheet::read_place(sheet);
         let plain = (plain::sheet::read_number(sheet), told);
         tally.count(told.0);

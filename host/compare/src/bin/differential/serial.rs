@@ -1,7 +1,7 @@
 //! The serial lead: sheets whole and damaged, cut at random, some pieces empty; calls after closing; states that no lead made.
 
 use crate::{boundary_sheets, differs, Tally};
-use compare::serial as proved;
+use naxxurbi_calls::{serial_close, serial_take};
 use plain::make::{damage, random_sheet, Rng, DAMAGES};
 use plain::serial::{self as plainly, ROOM};
 
@@ -19,14 +19,14 @@ impl Pair {
 
     /// Hands a piece to both; the answer, if they agree on everything.
     fn take(&mut self, piece: &[u8]) -> Option<u32> {
-        let ours = proved::take(&mut self.ours.0, &mut self.ours.1, piece);
+        let ours = serial_take(&mut self.ours.0, &mut self.ours.1, piece);
         let plain = plainly::take(&mut self.plain.0, &mut self.plain.1, piece);
         self.agree("serial take", piece, &[ours], &[plain]).then_some(plain)
     }
 
     /// Closes both; answer and place, if they agree on everything.
     fn close(&mut self) -> Option<[u32; 2]> {
-        let ours = proved::close(&mut self.ours.0, &self.ours.1);
+        let ours = serial_close(&mut self.ours.0, &self.ours.1);
         let plain = plainly::close(&mut self.plain.0, &self.plain.1);
         self.agree("serial close", &[], &ours, &plain).then_some(plain)
     }

@@ -4,6 +4,7 @@
 use crate::{checkers, differs, judge, Tally};
 use plain::brute;
 use plain::families::{clashes, families, in_orders, written};
+use plain::lent::Lent;
 use plain::make::Rng;
 
 /// The most letters of a sheet, and of most sheets.
@@ -20,10 +21,10 @@ fn sheet(rng: &mut Rng, judged: &mut judge::Seen, checked: &mut checkers::Checke
 
 /// The judge against the naive one, for at most five letters.
 fn naive(rng: &mut Rng, sheet: &[u8]) -> bool {
-    let lent = judge::filled(rng, ROOM);
-    let [table, words, scratch, run] = &lent;
+    let lent = Lent::filled(rng, ROOM);
+    let Lent { table, words, scratch, run } = &lent;
     match brute::judge(sheet, table, words, scratch, run) {
-        Some(naive) => !differs("judge, beside the naive one,", sheet, &judge::judged(compare::judge::judge, sheet, &lent), &naive),
+        Some(naive) => !differs("judge, beside the naive one,", sheet, &judge::judged(compare::judge, sheet, &lent), &naive),
         None => true,
     }
 }
@@ -50,7 +51,7 @@ pub fn orders(rng: &mut Rng, _: usize) -> bool {
     let mut judged = judge::Seen::new("judge, in four orders");
     for family in families().into_iter().chain(clashes()) {
         for bytes in in_orders(&family.sheet).expect("a good sheet") {
-            let lent = judge::filled(rng, [4096, 4096, 8192, 4096]);
+            let lent = Lent::filled(rng, [4096, 4096, 8192, 4096]);
             if !judge::agree(&mut judged, &bytes, &lent) || !checkers::papers(rng, &mut checked, &bytes) {
                 return false;
             }
