@@ -17,11 +17,12 @@ use borrow.Author.Tests.{lt-ltb}
 use lib.Dec.{eqb, ltb}
 use lib.ListN.{length, getD, take, replicate, length-append}
 use lib.Pow.{field, mod-mod-pow}
-use Rattle.meaning.specs.Sheet.{Sheet, StepRule, positive, size, names, firstFault, decode, byte, lettersIn, bodyAt, afterAt, stepsAt, stepOf}
+use Rattle.meaning.specs.Sheet.{Sheet, StepRule, positive, size, names, firstFault, decode, lettersIn, bodyAt, afterAt, stepsAt, stepOf}
 use Rattle.meaning.specs.Rules.{holds, trueIn, someTrue, allTrue, stepHolds}
 use Rattle.meaning.specs.Papers.{place}
 use Rattle.meaning.specs.Promises.{systemIn, Lent, Outcome, Judged}
 use Rattle.meaning.proofs.Demands.{kept-hands-over, kept-run-accepted, fault-number}
+use Rattle.reader.specs.Header.{stepsIn}
 use Rattle.reader.proofs.Good.{names-letter, good-header, step-good, step-record, step-at, steps-count}
 use Rattle.rules.specs.Book.{howMany}
 use Rattle.rules.proofs.Counting.{same-count}
@@ -152,7 +153,7 @@ pub record SidesNamed (n : ℕ) (rule : StepRule) : Type 0 where
 -- Every step rule of a good sheet is such.
 good-sides : (s : List ℕ) → firstFault s ≡ none → (i : ℕ) → i < length (decode s .steps) → SidesNamed (lettersIn s) (ruleOf (decode s) i)
 good-sides s good i h =
-    let k : i < byte s 6 = omega (arith, steps-count s) in
+    let k : i < stepsIn s = omega (arith, steps-count s) in
     let there = step-record s (good-header s good) i k in
     let body : List ℕ = bodyAt s (afterAt s i (stepsAt s)) in
     let g = step-good (lettersIn s) (afterAt s i (stepsAt s)) body (there .faultless) in
@@ -271,7 +272,7 @@ calls-from sheet good log account (piece ∷ pieces) a few =
 
 -- From the empty account on, the calls of a cutting are all answered 0 exactly if the whole log has at most 1,000,000 moments: what decides is the
 -- log and not how it is cut. (A byte counts the step rules, so no sheet of bytes has more than 255.)
-pub calls-exactly : (sheet : List ℕ) → firstFault sheet ≡ none → byte sheet 6 ≤ 255 → (pieces : List (List ℕ))
+pub calls-exactly : (sheet : List ℕ) → firstFault sheet ≡ none → stepsIn sheet ≤ 255 → (pieces : List (List ℕ))
     → ((last : Account) × Calls sheet empty pieces last) ↔ (length (joined pieces) ≤ mostMoments)
 calls-exactly sheet good few pieces =
     calls-from sheet good [] empty pieces (empty-account (decode sheet) (omega (arith, steps-count sheet))) (omega arith)

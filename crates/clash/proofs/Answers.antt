@@ -10,6 +10,7 @@ use Rattle.meaning.specs.Sheet.{byte, firstFault}
 use Rattle.meaning.specs.Promises.{Lent, over, zeros, cleared}
 use Rattle.reader.specs.declared.Fault as F
 use Rattle.reader.specs.Answer.{whyNumber}
+use Rattle.reader.specs.Header.{stepsByte}
 use Rattle.reader.proofs.Good.{Faulty, good-header}
 use Rattle.judge_answer.proofs.Wiping.{wiped-whole, zeros-same}
 use Rattle.clash_choice.specs.Proposals.{mostRules, noMarks, firstMarks, marksOf, Chosen, leftOut, Proposal, ProposalSays}
@@ -46,7 +47,7 @@ pub has-count : (sheet : List ℕ) → firstFault sheet ≡ none → 6 < length 
 has-count sheet good = omega (arith, good-header sheet good .least)
 
 -- It says how many they are.
-pub count-is : (sheet : List ℕ) → getD sheet 6 0 ≡ rulesIn sheet
+pub count-is : (sheet : List ℕ) → getD sheet stepsByte 0 ≡ rulesIn sheet
 unfolding byte
 count-is sheet = refl
 
@@ -127,14 +128,15 @@ pub checked-bad : {sheet : List ℕ} (numbers : List ℕ) (lent : Lent) {f : F.F
 checked-bad numbers lent bad e = C.faulty (bad .fault) (bad .first) (e ∙ bad .number) (bad .place) refl
 
 -- Numbers that are no proposal.
-pub checked-misnumbered : {sheet numbers : List ℕ} (lent : Lent) {r : Bool} → firstFault sheet ≡ none → ProposalSays (getD sheet 6 0) numbers r
+pub checked-misnumbered : {sheet numbers : List ℕ} (lent : Lent) {r : Bool} → firstFault sheet ≡ none
+    → ProposalSays (getD sheet stepsByte 0) numbers r
     → r ≡ false → ClashChecked sheet numbers lent 14 0 lent
 checked-misnumbered {sheet} {numbers} lent good says e =
     C.misnumbered good (λ p. says .never e (subst (λ (k : ℕ). Proposal k numbers) (sym (count-is sheet)) p)) refl refl refl
 
 -- A proposal weighed, and the slices cleared.
 pub checked-weighed : {sheet numbers marks t w c t′ w′ c′ : List ℕ} {n : ℕ} {after : Lent} → firstFault sheet ≡ none
-    → Proposal (getD sheet 6 0) numbers → marks ≡ marksOf numbers → Weighs sheet (lentThree t w c) marks n (lentThree t′ w′ c′)
+    → Proposal (getD sheet stepsByte 0) numbers → marks ≡ marksOf numbers → Weighs sheet (lentThree t w c) marks n (lentThree t′ w′ c′)
     → after ≡ cleared (lentThree t′ w′ c′) → ClashChecked sheet numbers (lentThree t w c) n 0 after
 checked-weighed {sheet} {numbers} {t = t} {w} {c} {n = n} good proposed same W e =
     C.weighed good (subst (λ (k : ℕ). Proposal k numbers) (count-is sheet) proposed)
@@ -160,7 +162,8 @@ drops-long {sheet} {marks} {marks′} {lent} {after} {count} D e all few =
     ∙ ap length all ∙ length-first count few
 
 -- the whole sheet tried, with no rule left out
-module _ {sheet marks : List ℕ} {lent later : Lent} {n : ℕ} (all : marks ≡ firstMarks (getD sheet 6 0)) (T : Trial sheet lent marks n later) where
+module _ {sheet marks : List ℕ} {lent later : Lent} {n : ℕ} (all : marks ≡ firstMarks (getD sheet stepsByte 0))
+    (T : Trial sheet lent marks n later) where
   whole-answered : Answered sheet lent (firstMarks (rulesIn sheet)) n
   whole-answered = subst (λ (m : List ℕ). Answered sheet lent m n) (all ∙ ap firstMarks (count-is sheet)) (T .answered)
 
@@ -173,13 +176,13 @@ module _ {sheet marks : List ℕ} {lent later : Lent} {n : ℕ} (all : marks ≡
 
   -- what is neither 11 nor 12 is 13, and dropping goes on from all rules
   module _ {marks′ : List ℕ} {after : Lent} {r : Bool} (good : firstFault sheet ≡ none) (no-run : lent .run ≡ []) (a : n ≡ 11 → ⊥) (b : n ≡ 12 → ⊥)
-      (D : Drops sheet later (getD sheet 6 0) marks r marks′ after) where
+      (D : Drops sheet later (getD sheet stepsByte 0) marks r marks′ after) where
     works-reduced : Reduced sheet lent (endOf r marks′)
     works-reduced = record {
       whole = answered-13 good no-run whole-answered a b;
       dropping = subst (λ (k : ℕ). Dropping sheet lent k (firstMarks k) (endOf r marks′)) (count-is sheet)
-          (subst (λ (m : List ℕ). Dropping sheet lent (getD sheet 6 0) m (endOf r marks′)) all
-          (dropping-later sheet (T .lengths) (getD sheet 6 0) marks (endOf r marks′) (D .dropping)));
+          (subst (λ (m : List ℕ). Dropping sheet lent (getD sheet stepsByte 0) m (endOf r marks′)) all
+          (dropping-later sheet (T .lengths) (getD sheet stepsByte 0) marks (endOf r marks′) (D .dropping)));
     }
 
     reduced-to : {x : Bool} → r ≡ x → Reduced sheet lent (endOf x marks′)

@@ -10,7 +10,7 @@ use native.Mathlib.Omega.{arith}
 use lib.ListN.{length, getD, length-replicate}
 use lib.Seq.{ext-getD}
 use Rattle.meaning.specs.System.{CanBeKept, Reachable, Number}
-use Rattle.meaning.specs.Sheet.{firstFault, decode, byte, lettersIn}
+use Rattle.meaning.specs.Sheet.{firstFault, decode, lettersIn}
 use Rattle.meaning.specs.Rules.{systemOf}
 use Rattle.meaning.specs.Promises.{systemIn, Lent, capacity, cleared}
 use Rattle.meaning.proofs.Demands as D
@@ -19,6 +19,7 @@ use Rattle.meaning.proofs.SheetSystem.{finite-in, reachable-lawful-in}
 use Rattle.meaning.proofs.Judging.{number-of-reachable}
 use Rattle.meaning.proofs.Promised.{bad-not-good}
 use Rattle.meaning.proofs.Parts.{lawful-below}
+use Rattle.reader.specs.Header.{lowIn}
 use Rattle.clash_choice.specs.Choice.{withChosen, onlyChosen}
 use Rattle.clash_choice.proofs.Chosen.{chosen-good, chosen-decoded, chosen-letters, all-chosen}
 use Rattle.clash_choice.proofs.Fewer.{among-kept}
@@ -52,7 +53,8 @@ meant sheet marks = ap (λ s. CanBeKept (systemOf s)) (chosen-decoded sheet mark
 
 -- With all its rules chosen it is the sheet itself, byte for byte. (Only the length's low byte is asked about, which is below 256 in every sheet
 -- that can be handed in.)
-pub whole-sheet : (sheet : List ℕ) → firstFault sheet ≡ none → byte sheet 2 < 256 → withChosen sheet (firstMarks (rulesIn sheet)) ≡ sheet
+pub whole-sheet : (sheet : List ℕ) → firstFault sheet ≡ none → lowIn sheet < 256
+    → withChosen sheet (firstMarks (rulesIn sheet)) ≡ sheet
 whole-sheet sheet good small =
     all-chosen sheet good small (firstMarks (rulesIn sheet))
     (λ i h e. let one : getD (firstMarks (rulesIn sheet)) i 0 ≡ 1 = first-marked (rulesIn sheet) (mostRules - rulesIn sheet) i h in omega (arith, one, e))

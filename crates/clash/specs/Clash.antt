@@ -1,18 +1,19 @@
--- Which rules fight. Document 02, order 5: what the check of a proposal and what the planner promise, for every input. Proposals and marks are
--- in crates/clash_choice/specs, `Answered` and `Dropping` in crates/clash_trials/specs. Both promises leave one outcome and every input has one, and what
--- follows from them is proved, in crates/clash/proofs. Assumes nothing.
+-- Which rules fight. Document 02, order 5: what the check of a proposal and what the planner promise, for every input. Proposals and marks
+-- are in crates/clash_choice/specs, `Answered` and `Dropping` in crates/clash_trials/specs. Both promises leave one outcome and every input
+-- has one, and what follows from them is proved, in crates/clash/proofs. Assumes nothing.
 use mathlib.Core.Path.{_≡_}
 use mathlib.Core.Option.{Option, none, some}
 use mathlib.Core.List.{List}
 use Prim.Native.Nat.{ℕ}
-use Rattle.meaning.specs.Sheet.{Fault, numberOf, byte, firstFault}
+use Rattle.meaning.specs.Sheet.{Fault, numberOf, firstFault}
 use Rattle.meaning.specs.Promises.{Lent, cleared}
+use Rattle.reader.specs.Header.{stepsIn}
 use Rattle.clash_choice.specs.Proposals.{noMarks, firstMarks, marksOf, Chosen, leftOut, Proposal}
 use Rattle.clash_trials.specs.Trials.{Answered, Dropping}
 
--- byte 6 counts a sheet's step rules
+-- how many step rules a sheet has
 abbrev pub rulesIn : List ℕ → ℕ
-rulesIn sheet = byte sheet 6
+rulesIn sheet = stepsIn sheet
 
 -- ---- the check of a proposal
 

@@ -2,8 +2,8 @@
 // cleared.
 use super::slices::clear;
 use clash_choice::RULES;
-use clash_choice::STEPS;
 use ground::State;
+use reader::header::STEPS_AT;
 ghost use mathlib.Core.Path.{_≡_};
 ghost use mathlib.Core.Option.{none};
 ghost use lib.ListN.{length};
@@ -54,7 +54,7 @@ pub fn check_good(
         (lentThree (now (table .entry)) (now (words .entry)) (now (scratch .entry))) n 0
         (lentThree (now (table .exit)) (now (words .exit)) (now (scratch .exit))) ⌝ }
 {
-    let count = sheet[STEPS] as u32;
+    let count = sheet[STEPS_AT] as u32;
     let proposed = clash_choice::proposals::is_proposal(rules, count);
     if proposed {
         let mut marks = clash_choice::proposals::mark(rules);

@@ -2,8 +2,8 @@
 // each rule left out, and the slices are cleared.
 use super::slices::clear;
 use clash_choice::RULES;
-use clash_choice::STEPS;
 use ground::State;
+use reader::header::STEPS_AT;
 ghost use mathlib.Core.Path.{_≡_};
 ghost use mathlib.Core.Option.{none};
 ghost use Rattle.meaning.specs.Sheet.{firstFault};
@@ -31,7 +31,7 @@ fn work(
     ensures { λ n. ⌜ Works (now (sheet .entry)) (lentThree (now (table .entry)) (now (words .entry)) (now (scratch .entry)))
         n (now (marks .exit)) (lentThree (now (table .exit)) (now (words .exit)) (now (scratch .exit))) ⌝ }
 {
-    let count = sheet[STEPS] as usize;
+    let count = sheet[STEPS_AT] as usize;
     clash_choice::proposals::mark_first(marks, count);
     let whole = clash_trials::trial(sheet, marks, table, words, scratch);
     if whole == 11 {

@@ -10,6 +10,7 @@ use Prim.Native.Nat.{ℕ, zero, suc, _≤_, _<_}
 use native.Mathlib.Omega.{arith}
 use lib.ListN.{length, getD, length-append}
 use Rattle.meaning.specs.Sheet.{Kind, stepOf, byte, lettersIn, stepsAt, firstFault, decode}
+use Rattle.reader.specs.Header.{lowIn, stepsIn}
 use Rattle.reader.proofs.Good.{length-bodies}
 use Rattle.records.specs.Records.{Records, recordsOf, section, header, bytesOf}
 use Rattle.records.proofs.Written.{Faultless, GoodRecords, sheetSaid, length-joined, good-records, bytes-good, records-back}
@@ -97,11 +98,11 @@ unfolding lettersIn byte withChosen pickedIn recordsOf bytesOf header
 chosen-letters s marks = refl
 
 -- With every rule chosen it is the sheet itself, byte by byte.
-pub all-chosen : (s : List ℕ) → firstFault s ≡ none → byte s 2 < 256
-    → (marks : List ℕ) → ((i : ℕ) → i < byte s 6 → getD marks i 0 ≡ 0 → ⊥) → withChosen s marks ≡ s
+pub all-chosen : (s : List ℕ) → firstFault s ≡ none → lowIn s < 256
+    → (marks : List ℕ) → ((i : ℕ) → i < stepsIn s → getD marks i 0 ≡ 0 → ⊥) → withChosen s marks ≡ s
 unfolding withChosen pickedIn recordsOf
 all-chosen s good small marks all =
-    let count = length-bodies s (byte s 6) (stepsAt s) in
+    let count = length-bodies s (stepsIn s) (stepsAt s) in
     let same : pickedIn marks (recordsOf s) ≡ recordsOf s =
     rw (picked-all marks (recordsOf s .steps) (λ i h. all i (omega (arith, h, count)))) in
     ap bytesOf same ∙ records-back s good small

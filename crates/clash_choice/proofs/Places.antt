@@ -8,7 +8,8 @@ use mathlib.Core.List.{List}
 use Prim.Native.Nat.{ℕ, zero, suc, _+_, _≤_, _<_}
 use native.Mathlib.Omega.{arith}
 use lib.ListN.{length, length-append}
-use Rattle.meaning.specs.Sheet.{Kind, byte, bodyAt, nextAt, afterAt, bodies, recordsFault, firstFault, firstsAt, stepsAt}
+use Rattle.meaning.specs.Sheet.{Kind, bodyAt, nextAt, afterAt, bodies, recordsFault, firstFault, firstsAt, stepsAt}
+use Rattle.reader.specs.Header.{recordsAt, limitsIn, firstsIn, stepsIn}
 use Rattle.reader.proofs.Good.{good-header, record-good, length-body, after-more}
 use Rattle.records.specs.Records.{section}
 use Rattle.clash_choice.specs.Writing.{Within}
@@ -46,11 +47,11 @@ after-next s i from here there =
 -- ---- a good sheet
 
 module _ (s : List ℕ) (good : firstFault s ≡ none) where
-  pub limits-in : Within s (byte s 4) 8
+  pub limits-in : Within s (limitsIn s) recordsAt
   limits-in = within-read _ _ (good-header s good .limits-read)
 
-  pub firsts-in : Within s (byte s 5) (firstsAt s)
+  pub firsts-in : Within s (firstsIn s) (firstsAt s)
   firsts-in = within-read _ _ (good-header s good .firsts-read)
 
-  pub steps-in : Within s (byte s 6) (stepsAt s)
+  pub steps-in : Within s (stepsIn s) (stepsAt s)
   steps-in = within-read _ _ (good-header s good .steps-read)

@@ -1,31 +1,22 @@
-// A sheet with a choice of its step rules, written down as a sheet of its own (document 02, order 5): the records of the other step rules are
-// dropped, and the count of step rules and the stated length are set right. All else stands as it stood.
+// A sheet with a choice of its step rules, written down as a sheet of its own (document 02, order 5): the records of the other step rules
+// are dropped, and the count of step rules and the stated length are set right. All else stands as it stood.
+use reader::header::FIRSTS_AT;
+use reader::header::LIMITS_AT;
 use reader::header::MOST_BYTES;
 use reader::header::RECORDS_AT;
+use reader::header::STEPS_AT;
 ghost use mathlib.Core.Path.{_≡_};
 ghost use mathlib.Core.Option.{none};
 ghost use Prim.Native.Nat.{_≤_};
 ghost use lib.ListN.{length};
 ghost use Rattle.meaning.specs.Sheet.{nextAt, afterAt, stepsAt, firstFault};
 ghost use Rattle.clash_choice.specs.Choice.{Wrote};
-ghost use Rattle.clash_choice.specs.Writing.{Within, RuleAsks, Added, marked, RulesWritten, stated};
+ghost use Rattle.clash_choice.specs.Writing.{Within, RuleAsks, Added, marked, RulesAsk, RulesWritten};
 
 pub mod proposals;
 
 // The most step rules that a sheet can have.
 pub const RULES: usize = ground::MOST_RULES;
-
-// Where a sheet counts its limits, its first rules and its step rules.
-const LIMITS: usize = 4;
-
-const FIRSTS: usize = 5;
-
-pub const STEPS: usize = 6;
-
-// Where it states its length, high byte first.
-const HIGH: usize = 1;
-
-const LOW: usize = 2;
 
 // How far the writing is: the place read next, the place written next, and how many step rules were written.
 struct Progress {
@@ -62,9 +53,9 @@ fn steps_at(sheet: &[u8]) -> usize
     requires { ⌜ firstFault (now sheet) ≡ none ⌝ }
     ensures { λ r. ⌜ r ≡ stepsAt (now (sheet .entry)) ⌝ }
 {
-    let limits = sheet[LIMITS];
+    let limits = sheet[LIMITS_AT];
     let at = skip(sheet, limits, RECORDS_AT);
-    let firsts = sheet[FIRSTS];
+    let firsts = sheet[FIRSTS_AT];
     skip(sheet, firsts, at)
 }
 
@@ -85,11 +76,12 @@ fn write_rule(sheet: &[u8], mark: u8, buffer: &mut [u8; MOST_BYTES], p: Progress
             rules,
         };
     }
-    let rule = &sheet[from..end];
-    ground::pieces::write(buffer, to, rule);
+    let start = from + 1;
+    let rule = &sheet[start..end];
+    let written = records::write_record(buffer, to, rule);
     Progress {
         from: end,
-        to: to + rule.len(),
+        to: written,
         rules: rules + 1,
     }
 }
@@ -102,7 +94,7 @@ fn write_rules(
     count: u8,
     at: usize,
 ) -> Progress
-    requires { ⌜ Within (now sheet) count at ⌝ }
+    requires { ⌜ RulesAsk (now sheet) count at ⌝ }
     ensures { λ r. ⌜ RulesWritten (now (sheet .entry)) (now (marks .entry)) count at (now (buffer .entry)) (now (buffer .exit)) r ⌝ }
 {
     let mut p = Progress {
@@ -119,30 +111,24 @@ fn write_rules(
     p
 }
 
-// Sets the stated length and the count of step rules.
-fn state(buffer: &mut [u8; MOST_BYTES], size: usize, rules: u8)
-    ensures { λ _. ⌜ now (buffer .exit) ≡ stated size rules (now (buffer .entry)) ⌝ }
-{
-    buffer[HIGH] = (size / 256 % 256) as u8;
-    buffer[LOW] = (size % 256) as u8;
-    buffer[STEPS] = rules;
-}
-
 // Writes the sheet with only those step rules whose mark is not 0 into the front of a buffer; how many bytes it has.
 pub fn write_chosen(sheet: &[u8], marks: &[u8; RULES], buffer: &mut [u8; MOST_BYTES]) -> usize
     requires { ⌜ firstFault (now sheet) ≡ none ⌝ }
     ensures { λ n. ⌜ Wrote (now (sheet .entry)) (now (marks .entry)) (now (buffer .exit)) n ⌝ }
 {
     let at = steps_at(sheet);
-    let front = &sheet[..at];
-    ground::pieces::write(buffer, 0, front);
-    let count = sheet[STEPS];
+    let front = &sheet[RECORDS_AT..at];
+    ground::pieces::write(buffer, RECORDS_AT, front);
+    let count = sheet[STEPS_AT];
     let p = write_rules(sheet, marks, buffer, count, at);
     let from = p.from;
     let to = p.to;
     let promises = &sheet[from..];
     ground::pieces::write(buffer, to, promises);
     let size = to + promises.len();
-    state(buffer, size, p.rules);
+    let mut stated = records::read_header(sheet);
+    stated.size = size as u16;
+    stated.steps = p.rules;
+    records::write_header(buffer, stated);
     size
 }

@@ -9,9 +9,10 @@ use native.Mathlib.Omega.{arith}
 use lib.Dec.{leb, ltb, eqb}
 use lib.ListN.{length, getD}
 use borrow.Author.Tests.{le-leb, leb-true, leb-false, eq-eqb, ne-eqb, le-ltb}
-use Rattle.meaning.specs.Sheet.{Limit, StepRule, firstFault, decode, byte, bodyAt, afterAt, lettersIn, limitOf, stepOf, promiseOf}
+use Rattle.meaning.specs.Sheet.{Limit, StepRule, firstFault, decode, bodyAt, afterAt, lettersIn, limitOf, stepOf, promiseOf}
 use Rattle.meaning.specs.Sheet.{promisesAt}
 use Rattle.meaning.specs.Rules.{trueIn, countTrue, someTrue, allTrue, limitHolds, every, lawful, firstState, stepHolds, moves, kept}
+use Rattle.reader.specs.Header.{limitsIn, firstsIn, stepsIn, promisesIn}
 use Rattle.reader.proofs.Good.{good-header, limit-at, first-at, step-at, promise-at, limits-count, firsts-count, steps-count}
 use Rattle.reader.proofs.Good.{promises-count, letters-count, promise-record, promise-good}
 use Rattle.rules.specs.Book.{Masks, Shaped, allBelow, countOf, someOf, allOf, someAt, allAt, limitAt, firstAt, stepAt, promiseAt}
@@ -107,7 +108,8 @@ lone-says s (b ∷ (b′ ∷ bs)) e = absurd (omega arith)
 
 -- ---- the whole book
 
-module _ (s book : List ℕ) (good : firstFault s ≡ none) (f5 : byte s 5 ≤ mostRules) (f6 : byte s 6 ≤ mostRules) (w : BookWritten s book) where
+module _ (s book : List ℕ) (good : firstFault s ≡ none) (f5 : firstsIn s ≤ mostRules) (f6 : stepsIn s ≤ mostRules)
+    (w : BookWritten s book) where
   limits-say : (t : ℕ) → limitsOk book t ≡ every (limitHolds t) (decode s .limits)
   unfolding limitsOk
   limits-say t =
@@ -116,7 +118,7 @@ module _ (s book : List ℕ) (good : firstFault s ≡ none) (f5 : byte s 5 ≤ m
     where
       row : (i : ℕ) → i < limitsOf book → limitOk book t i ≡ limitHolds t (getD (decode s .limits) i (limitOf []))
       row i h =
-          let k : i < byte s 4 = (let c = w .counts .limits in omega arith) in
+          let k : i < limitsIn s = (let c = w .counts .limits in omega arith) in
           limit-says book i (lettersIn s) _ (w .limits i k) (limit-sound s good i k .among) t ∙ ap (limitHolds t) (sym (limit-at s i (limitOf []) k))
 
   firsts-say : (t : ℕ) → firstsOk book t ≡ every (someTrue t) (decode s .firsts)
@@ -126,7 +128,7 @@ module _ (s book : List ℕ) (good : firstFault s ≡ none) (f5 : byte s 5 ≤ m
     where
       row : (i : ℕ) → i < firstsOf book → someAt book (firstAt i) t ≡ someTrue t (getD (decode s .firsts) i [])
       row i h =
-          let k : i < byte s 5 = (let c = w .counts .firsts in omega arith) in
+          let k : i < firstsIn s = (let c = w .counts .firsts in omega arith) in
           some-says book (firstAt i) (lettersIn s) _ (w .firsts i k) (first-sound s good i k .literals) t ∙ ap (someTrue t) (sym (first-at s i k))
 
   steps-say : (a t : ℕ) → stepsOk book a t ≡ every (stepHolds a t) (decode s .steps)
@@ -136,34 +138,34 @@ module _ (s book : List ℕ) (good : firstFault s ≡ none) (f5 : byte s 5 ≤ m
     where
       row : (i : ℕ) → i < stepsOf book → stepOk book a t i ≡ stepHolds a t (getD (decode s .steps) i (stepOf []))
       row i h =
-          let k : i < byte s 6 = (let c = w .counts .steps in omega arith) in
+          let k : i < stepsIn s = (let c = w .counts .steps in omega arith) in
           let o = step-sound s good i k in
           step-says book i (lettersIn s) _ (w .steps i k) (o .left) (o .right) a t ∙ ap (stepHolds a t) (sym (step-at s i (stepOf []) k))
 
   -- each side of a step rule by itself
   left-says : (i t : ℕ) → i < stepsOf book → allAt book (stepAt i) t ≡ allTrue t (ruleOf (decode s) i .left)
   left-says i t h =
-      let k : i < byte s 6 = (let c = w .counts .steps in omega arith) in
+      let k : i < stepsIn s = (let c = w .counts .steps in omega arith) in
       all-says book (stepAt i) (lettersIn s) _ (w .steps i k .left) (step-sound s good i k .left) t
       ∙ ap (λ (rule : StepRule). allTrue t (rule .left)) (sym (step-at s i (stepOf []) k))
 
   right-says : (i t : ℕ) → i < stepsOf book → someAt book (rightAt i) t ≡ someTrue t (ruleOf (decode s) i .right)
   right-says i t h =
-      let k : i < byte s 6 = (let c = w .counts .steps in omega arith) in
+      let k : i < stepsIn s = (let c = w .counts .steps in omega arith) in
       some-says book (rightAt i) (lettersIn s) _ (w .steps i k .right) (step-sound s good i k .right) t
       ∙ ap (λ (rule : StepRule). someTrue t (rule .right)) (sym (step-at s i (stepOf []) k))
 
   kept-says : (k t : ℕ) → bookKept book k t ≡ kept (decode s) k t
   unfolding bookKept kept
-  kept-says k t = by (decLt k (byte s 7))
+  kept-says k t = by (decLt k (promisesIn s))
     where
-      c : promisesOf book ≡ byte s 7
+      c : promisesOf book ≡ promisesIn s
       c = w .counts .promises
 
-      d : length (decode s .promises) ≡ byte s 7
+      d : length (decode s .promises) ≡ promisesIn s
       d = promises-count s
 
-      by : Dec (k < byte s 7) → bookKept book k t ≡ kept (decode s) k t
+      by : Dec (k < promisesIn s) → bookKept book k t ≡ kept (decode s) k t
       by (yes h) =
           let body : List ℕ = bodyAt s (afterAt s k (promisesAt s)) in
           let g = promise-good (lettersIn s) (afterAt s k (promisesAt s)) body (promise-record s (good-header s good) k h .faultless) in
@@ -208,19 +210,19 @@ module _ (s book : List ℕ) (good : firstFault s ≡ none) (f5 : byte s 5 ≤ m
         few-steps = (let b = c .steps in omega arith);
         few-promises = (let a = h .few-promises in let b = c .promises in omega arith);
         limits = λ i l.
-            let k : i < byte s 4 = (let b = c .limits in omega arith) in
+            let k : i < limitsIn s = (let b = c .limits in omega arith) in
             within (limitAt i) (masks-within book (limitAt i) (lettersIn s) _ (w .limits i k .masks) (limit-sound s good i k .among));
         firsts = λ i l.
-            let k : i < byte s 5 = (let b = c .firsts in omega arith) in
+            let k : i < firstsIn s = (let b = c .firsts in omega arith) in
             within (firstAt i) (masks-within book (firstAt i) (lettersIn s) _ (w .firsts i k) (first-sound s good i k .literals));
         lefts = λ i l.
-            let k : i < byte s 6 = (let b = c .steps in omega arith) in
+            let k : i < stepsIn s = (let b = c .steps in omega arith) in
             within (stepAt i) (masks-within book (stepAt i) (lettersIn s) _ (w .steps i k .left) (step-sound s good i k .left));
         rights = λ i l.
-            let k : i < byte s 6 = (let b = c .steps in omega arith) in
+            let k : i < stepsIn s = (let b = c .steps in omega arith) in
             within (rightAt i) (masks-within book (rightAt i) (lettersIn s) _ (w .steps i k .right) (step-sound s good i k .right));
         promises = λ i l.
-            let k : i < byte s 7 = (let b = c .promises in omega arith) in
+            let k : i < promisesIn s = (let b = c .promises in omega arith) in
             within (promiseAt i) (masks-within book (promiseAt i) (lettersIn s) _ (w .promises i k) (promise-sound s good i k .literals));
       }
 

@@ -3,13 +3,14 @@ use mathlib.Core.Path.{_≡_, refl, sym, _∙_, ap, subst}
 use mathlib.Core.Bool.{true}
 use mathlib.Core.Option.{none}
 use mathlib.Core.List.{List}
-use Prim.Native.Nat.{ℕ, suc, _+_, _*_, _≤_, _<_}
+use Prim.Native.Nat.{ℕ, suc, _+_, _≤_, _<_}
 use native.Mathlib.Decide.{ℕ-discrete}
 use native.Mathlib.Numerals.{add-one}
 use native.Mathlib.Omega.{arith}
 use lib.ListN.{length, getD}
-use Rattle.meaning.specs.Sheet.{firstFault, names, byte, bodyAt, nextAt, afterAt, lettersIn, limitOf, stepOf, promiseOf, mostLimits, leastBytes}
+use Rattle.meaning.specs.Sheet.{firstFault, names, byte, bodyAt, nextAt, afterAt, lettersIn, limitOf, stepOf, promiseOf, mostLimits}
 use Rattle.meaning.specs.Sheet.{firstsAt, stepsAt, promisesAt, Kind, aLimit, aFirst, aStep, aPromise}
+use Rattle.reader.specs.Header.{recordsAt, limitsIn, firstsIn, stepsIn, promisesIn}
 use Rattle.reader.proofs.Good.{good-header, limit-record, first-record, step-record, promise-record, limit-good, first-good, step-good}
 use Rattle.reader.proofs.Good.{promise-good, LiteralsGood, body-byte, after-more}
 use Rattle.rules.specs.Book.{bookSize, mostRules, limitAt, firstAt, stepAt, rowAt, widthOf, listWidth, limitWidth, stepWidth, leastAt, mostAt}
@@ -35,18 +36,18 @@ module _ (s : List ℕ) (good : firstFault s ≡ none) where
   few : lettersIn s < 128
   few = let h = good-header s good .few-letters in omega arith
 
-  pub limit-sound : (i : ℕ) → i < byte s 4 → LimitSound s (afterAt s i leastBytes)
+  pub limit-sound : (i : ℕ) → i < limitsIn s → LimitSound s (afterAt s i recordsAt)
   limit-sound i h =
       let r = limit-record s (good-header s good) i h in
-      let g = limit-good (lettersIn s) (afterAt s i leastBytes) (bodyAt s (afterAt s i leastBytes)) (r .faultless) in
+      let g = limit-good (lettersIn s) (afterAt s i recordsAt) (bodyAt s (afterAt s i recordsAt)) (r .faultless) in
       record {
         fits = r .fits;
         long = (let a = g .long in let b = r .sized in omega arith);
         few = good-header s good .few-letters;
-        among = in-order (lettersIn s) (limitOf (bodyAt s (afterAt s i leastBytes)) .among) few (g .among);
+        among = in-order (lettersIn s) (limitOf (bodyAt s (afterAt s i recordsAt)) .among) few (g .among);
       }
 
-  pub first-sound : (i : ℕ) → i < byte s 5 → ListRecordSound s (afterAt s i (firstsAt s))
+  pub first-sound : (i : ℕ) → i < firstsIn s → ListRecordSound s (afterAt s i (firstsAt s))
   first-sound i h =
       let r = first-record s (good-header s good) i h in
       record {
@@ -55,7 +56,7 @@ module _ (s : List ℕ) (good : firstFault s ≡ none) where
         literals = in-order (lettersIn s) _ few (first-good (lettersIn s) (afterAt s i (firstsAt s)) _ (r .faultless));
       }
 
-  pub step-sound : (i : ℕ) → i < byte s 6 → StepSound s (afterAt s i (stepsAt s))
+  pub step-sound : (i : ℕ) → i < stepsIn s → StepSound s (afterAt s i (stepsAt s))
   step-sound i h =
       let at : ℕ = afterAt s i (stepsAt s) in
       let r = step-record s (good-header s good) i h in
@@ -72,7 +73,7 @@ module _ (s : List ℕ) (good : firstFault s ≡ none) where
         right = in-order (lettersIn s) (stepOf (bodyAt s at) .right) few (g .right);
       }
 
-  pub promise-sound : (i : ℕ) → i < byte s 7 → ListRecordSound s (afterAt s i (promisesAt s))
+  pub promise-sound : (i : ℕ) → i < promisesIn s → ListRecordSound s (afterAt s i (promisesAt s))
   promise-sound i h =
       let at : ℕ = afterAt s i (promisesAt s) in
       let r = promise-record s (good-header s good) i h in
@@ -159,9 +160,9 @@ row-more kind s before l l′ i at next so w =
 
 -- Counts, then section behind section: nothing written is written over.
 pub all-written :
-    (s b1 b2 b3 b4 b5 : List ℕ) (r2 r3 r4 r5 : ℕ) → byte s 4 ≤ mostLimits → byte s 5 ≤ mostRules → byte s 6 ≤ mostRules
-    → Counts s b1 → length b1 ≡ bookSize → Section aLimit s b1 b2 (byte s 4) r2 → Section aFirst s b2 b3 (byte s 5) r3
-    → Section aStep s b3 b4 (byte s 6) r4 → Section aPromise s b4 b5 (byte s 7) r5
+    (s b1 b2 b3 b4 b5 : List ℕ) (r2 r3 r4 r5 : ℕ) → limitsIn s ≤ mostLimits → firstsIn s ≤ mostRules → stepsIn s ≤ mostRules
+    → Counts s b1 → length b1 ≡ bookSize → Section aLimit s b1 b2 (limitsIn s) r2 → Section aFirst s b2 b3 (firstsIn s) r3
+    → Section aStep s b3 b4 (stepsIn s) r4 → Section aPromise s b4 b5 (promisesIn s) r5
     → BookWritten s b5
 all-written s b1 b2 b3 b4 b5 r2 r3 r4 r5 f4 f5 f6 c n limits firsts steps promises =
     let k4 : KeptBelow promisesFrom b4 b5 = promises .keeps in

@@ -7,7 +7,8 @@ use mathlib.Core.Option.{none}
 use Prim.Native.Nat.{ℕ, suc, _+_, _≤_, _<_}
 use lib.ListN.{length, getD}
 use Rattle.meaning.specs.Sheet.{Limit, StepRule, limitOf, stepOf, byte, bodyAt, nextAt, afterAt, lettersIn, firstsAt, stepsAt, promisesAt}
-use Rattle.meaning.specs.Sheet.{Kind, aLimit, aFirst, aStep, aPromise, leastBytes, mostLetters, firstFault}
+use Rattle.meaning.specs.Sheet.{Kind, aLimit, aFirst, aStep, aPromise, mostLetters, firstFault}
+use Rattle.reader.specs.Header.{lettersByte, recordsAt, limitsIn, firstsIn, stepsIn, promisesIn}
 use Rattle.reader.specs.Place.{part}
 use Rattle.rules.specs.Book.{bookSize, leastAt, mostAt, rightOf, rowAt, CountsAre}
 use Rattle.compile.specs.Literals.{maskOf, Ordered}
@@ -86,16 +87,16 @@ pub record RowWritten (kind : Kind) (s : List ℕ) (at : ℕ) (before : List ℕ
 
 -- where the records of a kind begin in the sheet, and how many there are
 abbrev pub startOf : Kind → List ℕ → ℕ
-startOf aLimit s = leastBytes
+startOf aLimit s = recordsAt
 startOf aFirst s = firstsAt s
 startOf aStep s = stepsAt s
 startOf aPromise s = promisesAt s
 
 abbrev pub recordsOf : Kind → List ℕ → ℕ
-recordsOf aLimit s = byte s 4
-recordsOf aFirst s = byte s 5
-recordsOf aStep s = byte s 6
-recordsOf aPromise s = byte s 7
+recordsOf aLimit s = limitsIn s
+recordsOf aFirst s = firstsIn s
+recordsOf aStep s = stepsIn s
+recordsOf aPromise s = promisesIn s
 
 -- row j of a kind stands, from the sheet's j-th record of that kind
 abbrev pub RowOf : Kind → List ℕ → List ℕ → ℕ → Type 0
@@ -118,12 +119,12 @@ pub record Section (kind : Kind) (s before after : List ℕ) (i at : ℕ) : Type
 
 -- the five counts
 abbrev pub Counts : List ℕ → List ℕ → Type 0
-Counts s l = CountsAre l (byte s 3) (byte s 4) (byte s 5) (byte s 6) (byte s 7)
+Counts s l = CountsAre l (byte s lettersByte) (limitsIn s) (firstsIn s) (stepsIn s) (promisesIn s)
 
 pub record BookWritten (s book : List ℕ) : Type 0 where
   pub long : length book ≡ bookSize
   pub counts : Counts s book
-  pub limits : (j : ℕ) → j < byte s 4 → RowOf aLimit s book j
-  pub firsts : (j : ℕ) → j < byte s 5 → RowOf aFirst s book j
-  pub steps : (j : ℕ) → j < byte s 6 → RowOf aStep s book j
-  pub promises : (j : ℕ) → j < byte s 7 → RowOf aPromise s book j
+  pub limits : (j : ℕ) → j < limitsIn s → RowOf aLimit s book j
+  pub firsts : (j : ℕ) → j < firstsIn s → RowOf aFirst s book j
+  pub steps : (j : ℕ) → j < stepsIn s → RowOf aStep s book j
+  pub promises : (j : ℕ) → j < promisesIn s → RowOf aPromise s book j

@@ -1,7 +1,12 @@
 // A sheet's sections compiled in order, each record into its row, and the counts in front.
 use super::record;
 use reader::Kind;
+use reader::header::FIRSTS_AT;
+use reader::header::LETTERS_AT;
+use reader::header::LIMITS_AT;
+use reader::header::PROMISES_AT;
 use reader::header::RECORDS_AT;
+use reader::header::STEPS_AT;
 use rules::book::State;
 use rules::book::first_at;
 use rules::book::limit_at;
@@ -23,11 +28,11 @@ fn counts(sheet: &[u8], book: &mut [State])
     requires { ⌜ (firstFault (now sheet) ≡ none) × (length (now book) ≡ bookSize) ⌝ }
     ensures { λ _. ⌜ Counts (now (sheet .entry)) (now (book .exit)) × (length (now (book .exit)) ≡ bookSize) ⌝ }
 {
-    let letters = sheet[3] as State;
-    let limits = sheet[4] as State;
-    let firsts = sheet[5] as State;
-    let steps = sheet[6] as State;
-    let promises = sheet[7] as State;
+    let letters = sheet[LETTERS_AT] as State;
+    let limits = sheet[LIMITS_AT] as State;
+    let firsts = sheet[FIRSTS_AT] as State;
+    let steps = sheet[STEPS_AT] as State;
+    let promises = sheet[PROMISES_AT] as State;
     put_counts(book, letters, limits, firsts, steps, promises);
 }
 
@@ -66,8 +71,8 @@ pub fn compile(sheet: &[u8], book: &mut [State])
     ensures { λ _. ⌜ BookOf (decode (now (sheet .entry))) (now (book .exit)) ⌝ }
 {
     counts(sheet, book);
-    let first_rules = section(Kind::Limit, sheet, sheet[4], RECORDS_AT, book);
-    let step_rules = section(Kind::FirstRule, sheet, sheet[5], first_rules, book);
-    let promises = section(Kind::StepRule, sheet, sheet[6], step_rules, book);
-    section(Kind::Promise, sheet, sheet[7], promises, book);
+    let first_rules = section(Kind::Limit, sheet, sheet[LIMITS_AT], RECORDS_AT, book);
+    let step_rules = section(Kind::FirstRule, sheet, sheet[FIRSTS_AT], first_rules, book);
+    let promises = section(Kind::StepRule, sheet, sheet[STEPS_AT], step_rules, book);
+    section(Kind::Promise, sheet, sheet[PROMISES_AT], promises, book);
 }

@@ -9,7 +9,7 @@ use mathlib.Core.Path.{_≡_, refl, sym, _∙_, ap, subst}
 use mathlib.Core.Bool.{Bool, true, false, _&&_}
 use mathlib.Core.Option.{Option, none, some}
 use mathlib.Core.List.{List, [], _∷_, map}
-use Prim.Native.Nat.{ℕ, zero, suc, _+_, _-_, _*_, _≤_, _<_}
+use Prim.Native.Nat.{ℕ, zero, suc, _+_, _-_, _≤_, _<_}
 use native.Mathlib.Omega.{arith}
 use lib.Dec.{leb, eqb}
 use lib.ListN.{length, getD, drop, length-drop, length-map}
@@ -23,6 +23,8 @@ use Rattle.meaning.specs.Sheet.{Limit, StepRule, limitOf, stepOf, promiseOf, by
 use Rattle.meaning.specs.Sheet.{lettersIn, firstsAt, stepsAt, promisesAt, endAt, decode}
 use Rattle.meaning.proofs.FirstFault.{bounds}
 use Rattle.meaning.proofs.Placing.{place-within}
+use Rattle.reader.specs.Header.{versionByte, lengthByte, lettersByte, limitsByte, promisesByte, recordsAt}
+use Rattle.reader.specs.Header.{versionIn, lengthIn, limitsIn, firstsIn, stepsIn, promisesIn}
 use Rattle.reader.specs.declared.Fault as F
 use Rattle.reader.specs.declared.Answer.{Answer}
 use Rattle.reader.specs.declared.Answer.the-variants.{Good, Bad}
@@ -291,16 +293,16 @@ bodies-at s (suc count) at (suc i) h = bodies-at s count (nextAt s at) i (omega 
 pub record Header (s : List ℕ) : Type 0 where
   pub least : 8 ≤ length s
   pub most : length s ≤ 4096
-  pub version : byte s 0 ≡ 1
-  pub stated : byte s 1 * 256 + byte s 2 ≡ length s
+  pub version : versionIn s ≡ 1
+  pub stated : lengthIn s ≡ length s
   pub some-letter : 1 ≤ lettersIn s
   pub few-letters : lettersIn s ≤ 24
-  pub few-limits : byte s 4 ≤ 32
-  pub few-promises : byte s 7 ≤ 16
-  pub limits-read : recordsFault aLimit (lettersIn s) s (byte s 4) 8 ≡ none
-  pub firsts-read : recordsFault aFirst (lettersIn s) s (byte s 5) (firstsAt s) ≡ none
-  pub steps-read : recordsFault aStep (lettersIn s) s (byte s 6) (stepsAt s) ≡ none
-  pub promises-read : recordsFault aPromise (lettersIn s) s (byte s 7) (promisesAt s) ≡ none
+  pub few-limits : limitsIn s ≤ 32
+  pub few-promises : promisesIn s ≤ 16
+  pub limits-read : recordsFault aLimit (lettersIn s) s (limitsIn s) recordsAt ≡ none
+  pub firsts-read : recordsFault aFirst (lettersIn s) s (firstsIn s) (firstsAt s) ≡ none
+  pub steps-read : recordsFault aStep (lettersIn s) s (stepsIn s) (stepsAt s) ≡ none
+  pub promises-read : recordsFault aPromise (lettersIn s) s (promisesIn s) (promisesAt s) ≡ none
   pub whole : endAt s ≡ length s
 
 -- A good sheet's header is within its bounds, and its sections read without fault to its end.
@@ -308,26 +310,26 @@ pub good-header : (s : List ℕ) → firstFault s ≡ none → Header s
 unfolding firstFault
 good-header s e =
     let p1 = first-passed (leb 8 (length s) && leb (length s) 4096) badSize 0 _ e in
-    let p2 = first-passed (eqb (byte s 0) 1) badVersion 0 _ (p1 .1) in
-    let p3 = first-passed (eqb (byte s 1 * 256 + byte s 2) (length s)) badLength 1 _ (p2 .1) in
-    let p4 = first-passed (leb 1 (lettersIn s) && leb (lettersIn s) 24) badLetters 3 _ (p3 .1) in
-    let p5 = first-passed (leb (byte s 4) 32) tooMany 4 _ (p4 .1) in
-    let p6 = first-passed (leb (byte s 7) 16) tooMany 7 _ (p5 .1) in
-    let p7 = then-none (recordsFault aLimit (lettersIn s) s (byte s 4) 8) _ (p6 .1) in
-    let p8 = then-none (recordsFault aFirst (lettersIn s) s (byte s 5) (firstsAt s)) _ (p7 .1) in
-    let p9 = then-none (recordsFault aStep (lettersIn s) s (byte s 6) (stepsAt s)) _ (p8 .1) in
-    let p10 = then-none (recordsFault aPromise (lettersIn s) s (byte s 7) (promisesAt s)) _ (p9 .1) in
+    let p2 = first-passed (eqb (versionIn s) 1) badVersion versionByte _ (p1 .1) in
+    let p3 = first-passed (eqb (lengthIn s) (length s)) badLength lengthByte _ (p2 .1) in
+    let p4 = first-passed (leb 1 (lettersIn s) && leb (lettersIn s) 24) badLetters lettersByte _ (p3 .1) in
+    let p5 = first-passed (leb (limitsIn s) 32) tooMany limitsByte _ (p4 .1) in
+    let p6 = first-passed (leb (promisesIn s) 16) tooMany promisesByte _ (p5 .1) in
+    let p7 = then-none (recordsFault aLimit (lettersIn s) s (limitsIn s) recordsAt) _ (p6 .1) in
+    let p8 = then-none (recordsFault aFirst (lettersIn s) s (firstsIn s) (firstsAt s)) _ (p7 .1) in
+    let p9 = then-none (recordsFault aStep (lettersIn s) s (stepsIn s) (stepsAt s)) _ (p8 .1) in
+    let p10 = then-none (recordsFault aPromise (lettersIn s) s (promisesIn s) (promisesAt s)) _ (p9 .1) in
     let sizes = bounds 8 (length s) (length s) 4096 (p1 .0) in
     let letters = bounds 1 (lettersIn s) (lettersIn s) 24 (p4 .0) in
     record {
       least = sizes .0;
       most = sizes .1;
-      version = eqb-true (byte s 0) 1 (p2 .0);
-      stated = eqb-true (byte s 1 * 256 + byte s 2) (length s) (p3 .0);
+      version = eqb-true (versionIn s) 1 (p2 .0);
+      stated = eqb-true (lengthIn s) (length s) (p3 .0);
       some-letter = letters .0;
       few-letters = letters .1;
-      few-limits = leb-true (byte s 4) 32 (p5 .0);
-      few-promises = leb-true (byte s 7) 16 (p6 .0);
+      few-limits = leb-true (limitsIn s) 32 (p5 .0);
+      few-promises = leb-true (promisesIn s) 16 (p6 .0);
       limits-read = p7 .0;
       firsts-read = p8 .0;
       steps-read = p9 .0;
@@ -337,32 +339,32 @@ good-header s e =
 
 -- the sections of a good sheet, record by record
 module _ (s : List ℕ) (good : Header s) where
-  pub limit-record : (i : ℕ) → i < byte s 4 → RecordGood aLimit (lettersIn s) s (afterAt s i 8)
-  limit-record = record-good aLimit (lettersIn s) s (byte s 4) 8 (good .limits-read)
+  pub limit-record : (i : ℕ) → i < limitsIn s → RecordGood aLimit (lettersIn s) s (afterAt s i recordsAt)
+  limit-record = record-good aLimit (lettersIn s) s (limitsIn s) recordsAt (good .limits-read)
 
-  pub first-record : (i : ℕ) → i < byte s 5 → RecordGood aFirst (lettersIn s) s (afterAt s i (firstsAt s))
-  first-record = record-good aFirst (lettersIn s) s (byte s 5) (firstsAt s) (good .firsts-read)
+  pub first-record : (i : ℕ) → i < firstsIn s → RecordGood aFirst (lettersIn s) s (afterAt s i (firstsAt s))
+  first-record = record-good aFirst (lettersIn s) s (firstsIn s) (firstsAt s) (good .firsts-read)
 
-  pub step-record : (i : ℕ) → i < byte s 6 → RecordGood aStep (lettersIn s) s (afterAt s i (stepsAt s))
-  step-record = record-good aStep (lettersIn s) s (byte s 6) (stepsAt s) (good .steps-read)
+  pub step-record : (i : ℕ) → i < stepsIn s → RecordGood aStep (lettersIn s) s (afterAt s i (stepsAt s))
+  step-record = record-good aStep (lettersIn s) s (stepsIn s) (stepsAt s) (good .steps-read)
 
-  pub promise-record : (i : ℕ) → i < byte s 7 → RecordGood aPromise (lettersIn s) s (afterAt s i (promisesAt s))
-  promise-record = record-good aPromise (lettersIn s) s (byte s 7) (promisesAt s) (good .promises-read)
+  pub promise-record : (i : ℕ) → i < promisesIn s → RecordGood aPromise (lettersIn s) s (afterAt s i (promisesAt s))
+  promise-record = record-good aPromise (lettersIn s) s (promisesIn s) (promisesAt s) (good .promises-read)
 
   -- each section begins within the sheet
   pub firsts-within : firstsAt s ≤ length s
   unfolding firstsAt
-  firsts-within = after-within aLimit (lettersIn s) s (byte s 4) 8 (good .limits-read) (good .least) (byte s 4) (omega arith)
+  firsts-within = after-within aLimit (lettersIn s) s (limitsIn s) recordsAt (good .limits-read) (good .least) (limitsIn s) (omega arith)
 
   pub steps-within : stepsAt s ≤ length s
   unfolding stepsAt
   steps-within =
-      after-within aFirst (lettersIn s) s (byte s 5) (firstsAt s) (good .firsts-read) firsts-within (byte s 5) (omega arith)
+      after-within aFirst (lettersIn s) s (firstsIn s) (firstsAt s) (good .firsts-read) firsts-within (firstsIn s) (omega arith)
 
   pub promises-within : promisesAt s ≤ length s
   unfolding promisesAt
   promises-within =
-      after-within aStep (lettersIn s) s (byte s 6) (stepsAt s) (good .steps-read) steps-within (byte s 6) (omega arith)
+      after-within aStep (lettersIn s) s (stepsIn s) (stepsAt s) (good .steps-read) steps-within (stepsIn s) (omega arith)
 
 -- ---- the decoding, by number
 
@@ -381,39 +383,40 @@ rule-count : {A : Type 0} (f : List ℕ → A) (s : List ℕ) (count at : ℕ) �
 rule-count f s count at = length-map (bodies s count at) f ∙ length-bodies s count at
 
 -- The i-th limit, first rule, step rule and promise, each from its own record.
-pub limit-at : (s : List ℕ) (i : ℕ) (d : Limit) → i < byte s 4 → getD (decode s .limits) i d ≡ limitOf (bodyAt s (afterAt s i 8))
+pub limit-at : (s : List ℕ) (i : ℕ) (d : Limit) → i < limitsIn s → getD (decode s .limits) i d ≡ limitOf (bodyAt s (afterAt s i recordsAt))
 unfolding decode
-limit-at s i d h = rule-at limitOf s (byte s 4) 8 i d h
+limit-at s i d h = rule-at limitOf s (limitsIn s) recordsAt i d h
 
-pub first-at : (s : List ℕ) (i : ℕ) → i < byte s 5 → getD (decode s .firsts) i [] ≡ bodyAt s (afterAt s i (firstsAt s))
+pub first-at : (s : List ℕ) (i : ℕ) → i < firstsIn s → getD (decode s .firsts) i [] ≡ bodyAt s (afterAt s i (firstsAt s))
 unfolding decode
-first-at s i h = bodies-at s (byte s 5) (firstsAt s) i h
+first-at s i h = bodies-at s (firstsIn s) (firstsAt s) i h
 
-pub step-at : (s : List ℕ) (i : ℕ) (d : StepRule) → i < byte s 6 → getD (decode s .steps) i d ≡ stepOf (bodyAt s (afterAt s i (stepsAt s)))
+pub step-at : (s : List ℕ) (i : ℕ) (d : StepRule) → i < stepsIn s → getD (decode s .steps) i d ≡ stepOf (bodyAt s (afterAt s i (stepsAt s)))
 unfolding decode
-step-at s i d h = rule-at stepOf s (byte s 6) (stepsAt s) i d h
+step-at s i d h = rule-at stepOf s (stepsIn s) (stepsAt s) i d h
 
-pub promise-at : (s : List ℕ) (i d : ℕ) → i < byte s 7 → getD (decode s .promises) i d ≡ promiseOf (bodyAt s (afterAt s i (promisesAt s)))
+pub promise-at : (s : List ℕ) (i d : ℕ) → i < promisesIn s
+    → getD (decode s .promises) i d ≡ promiseOf (bodyAt s (afterAt s i (promisesAt s)))
 unfolding decode
-promise-at s i d h = rule-at promiseOf s (byte s 7) (promisesAt s) i d h
+promise-at s i d h = rule-at promiseOf s (promisesIn s) (promisesAt s) i d h
 
 -- How many there are of each, and of letters.
-pub limits-count : (s : List ℕ) → length (decode s .limits) ≡ byte s 4
+pub limits-count : (s : List ℕ) → length (decode s .limits) ≡ limitsIn s
 unfolding decode
-limits-count s = rule-count limitOf s (byte s 4) 8
+limits-count s = rule-count limitOf s (limitsIn s) recordsAt
 
-pub firsts-count : (s : List ℕ) → length (decode s .firsts) ≡ byte s 5
+pub firsts-count : (s : List ℕ) → length (decode s .firsts) ≡ firstsIn s
 unfolding decode
-firsts-count s = length-bodies s (byte s 5) (firstsAt s)
+firsts-count s = length-bodies s (firstsIn s) (firstsAt s)
 
-pub steps-count : (s : List ℕ) → length (decode s .steps) ≡ byte s 6
+pub steps-count : (s : List ℕ) → length (decode s .steps) ≡ stepsIn s
 unfolding decode
-steps-count s = rule-count stepOf s (byte s 6) (stepsAt s)
+steps-count s = rule-count stepOf s (stepsIn s) (stepsAt s)
 
-pub promises-count : (s : List ℕ) → length (decode s .promises) ≡ byte s 7
+pub promises-count : (s : List ℕ) → length (decode s .promises) ≡ promisesIn s
 unfolding decode
-promises-count s = rule-count promiseOf s (byte s 7) (promisesAt s)
+promises-count s = rule-count promiseOf s (promisesIn s) (promisesAt s)
 
-pub letters-count : (s : List ℕ) → decode s .letters ≡ byte s 3
+pub letters-count : (s : List ℕ) → decode s .letters ≡ byte s lettersByte
 unfolding decode lettersIn
 letters-count s = refl

@@ -3,7 +3,7 @@ use mathlib.Core.Path.{_≡_}
 use mathlib.Core.List.{List}
 use Prim.Native.Nat.{ℕ, _-_, _≤_, _<_}
 use lib.ListN.{length, take, drop}
-use Rattle.meaning.specs.Sheet.{byte, nextAt, leastBytes, mostLetters}
+use Rattle.meaning.specs.Sheet.{nextAt, lettersIn, leastBytes, mostLetters}
 
 -- the bytes of s from place a up to place e
 unfoldable pub part : ℕ → ℕ → List ℕ → List ℕ
@@ -29,4 +29,4 @@ pub record SectionAsks (s : List ℕ) (n at : ℕ) : Type 0 where
 pub record SheetAsks (s : List ℕ) (at : ℕ) : Type 0 where
   pub behind : at ≡ leastBytes
   pub least : leastBytes ≤ length s
-  pub letters : byte s 3 ≤ mostLetters
+  pub letters : lettersIn s ≤ mostLetters

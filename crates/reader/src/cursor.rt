@@ -2,6 +2,11 @@
 use super::Fault;
 use super::Kind;
 use super::Why;
+use super::header::FIRSTS_AT;
+use super::header::LETTERS_AT;
+use super::header::LIMITS_AT;
+use super::header::PROMISES_AT;
+use super::header::STEPS_AT;
 use super::literal::names_letter;
 use super::literal::signed_below;
 use super::parts::limit_parts;
@@ -187,11 +192,11 @@ impl Cursor {
         requires { ⌜ SheetAsks (now s) (self .at) ⌝ }
         ensures { λ r. ⌜ r ≡ stepTo (endAt (now (s .entry))) (sectionsFault (now (s .entry))) ⌝ }
     {
-        let n = s[3];
-        let limits = self.records(Kind::Limit, s, n, s[4]);
-        let firsts = limits.then_records(Kind::FirstRule, s, n, s[5]);
-        let steps = firsts.then_records(Kind::StepRule, s, n, s[6]);
-        let promises = steps.then_records(Kind::Promise, s, n, s[7]);
+        let n = s[LETTERS_AT];
+        let limits = self.records(Kind::Limit, s, n, s[LIMITS_AT]);
+        let firsts = limits.then_records(Kind::FirstRule, s, n, s[FIRSTS_AT]);
+        let steps = firsts.then_records(Kind::StepRule, s, n, s[STEPS_AT]);
+        let promises = steps.then_records(Kind::Promise, s, n, s[PROMISES_AT]);
         promises.then_end(s)
     }
 }

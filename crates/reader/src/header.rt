@@ -10,7 +10,7 @@ ghost use Rattle.meaning.specs.Sheet.{leastBytes};
 ghost use Rattle.reader.specs.Answer.{stepTo, refusal};
 ghost use Rattle.reader.specs.Whole.{headerFault};
 
-// Document 01's bounds. The records start behind the header.
+// Document 01's bounds.
 pub const LEAST_BYTES: usize = 8;
 
 pub const MOST_BYTES: usize = 4096;
@@ -20,6 +20,24 @@ pub const MOST_LETTERS: u8 = 24;
 pub const MOST_LIMITS: u8 = ground::MOST_LIMITS as u8;
 
 pub const MOST_PROMISES: u8 = ground::MOST_PROMISES as u8;
+
+// Where the header has what, for every crate (specs/Header.antt says it for specs and proofs): the version; the length, high byte and low
+// byte; the letters; how many limits, first rules, step rules and promises there are. The records start behind it.
+pub const VERSION_AT: usize = 0;
+
+pub const LENGTH_AT: usize = 1;
+
+pub const LENGTH_LOW_AT: usize = LENGTH_AT + 1;
+
+pub const LETTERS_AT: usize = 3;
+
+pub const LIMITS_AT: usize = 4;
+
+pub const FIRSTS_AT: usize = 5;
+
+pub const STEPS_AT: usize = 6;
+
+pub const PROMISES_AT: usize = 7;
 
 pub const RECORDS_AT: usize = LEAST_BYTES;
 
@@ -52,21 +70,21 @@ pub fn header(s: &[u8]) -> Step
     if len < LEAST_BYTES || len > MOST_BYTES {
         return refuse(Why::BadSize, 0);
     }
-    if !version_ok(s[0]) {
-        return refuse(Why::BadVersion, 0);
+    if !version_ok(s[VERSION_AT]) {
+        return refuse(Why::BadVersion, VERSION_AT);
     }
-    if stated_length(s[1], s[2]) != len {
-        return refuse(Why::BadLength, 1);
+    if stated_length(s[LENGTH_AT], s[LENGTH_LOW_AT]) != len {
+        return refuse(Why::BadLength, LENGTH_AT);
     }
-    let n = s[3];
+    let n = s[LETTERS_AT];
     if n < 1 || n > MOST_LETTERS {
-        return refuse(Why::BadLetters, 3);
+        return refuse(Why::BadLetters, LETTERS_AT);
     }
-    if s[4] > MOST_LIMITS {
-        return refuse(Why::TooMany, 4);
+    if s[LIMITS_AT] > MOST_LIMITS {
+        return refuse(Why::TooMany, LIMITS_AT);
     }
-    if s[7] > MOST_PROMISES {
-        return refuse(Why::TooMany, 7);
+    if s[PROMISES_AT] > MOST_PROMISES {
+        return refuse(Why::TooMany, PROMISES_AT);
     }
     Step::Moved(Cursor { at: RECORDS_AT })
 }

@@ -1,6 +1,14 @@
 // Sheets too large to write out, built in a local array. A write past its end is dropped.
 use super::show;
+use reader::header::FIRSTS_AT;
+use reader::header::LENGTH_AT;
+use reader::header::LENGTH_LOW_AT;
+use reader::header::LETTERS_AT;
+use reader::header::LIMITS_AT;
+use reader::header::PROMISES_AT;
 use reader::header::RECORDS_AT;
+use reader::header::STEPS_AT;
+use reader::header::VERSION_AT;
 
 const ROOM: usize = 4097;
 
@@ -32,17 +40,17 @@ fn on(at: usize, bytes: usize) -> usize {
 
 // The version, the length, n and the four counts.
 fn head(sheet: &mut [u8; ROOM], high: u8, low: u8, n: u8) {
-    put(sheet, 0, 1);
-    put(sheet, 1, high);
-    put(sheet, 2, low);
-    put(sheet, 3, n);
+    put(sheet, VERSION_AT, 1);
+    put(sheet, LENGTH_AT, high);
+    put(sheet, LENGTH_LOW_AT, low);
+    put(sheet, LETTERS_AT, n);
 }
 
 fn counts(sheet: &mut [u8; ROOM], limits: u8, firsts: u8, steps: u8, promises: u8) {
-    put(sheet, 4, limits);
-    put(sheet, 5, firsts);
-    put(sheet, 6, steps);
-    put(sheet, 7, promises);
+    put(sheet, LIMITS_AT, limits);
+    put(sheet, FIRSTS_AT, firsts);
+    put(sheet, STEPS_AT, steps);
+    put(sheet, PROMISES_AT, promises);
 }
 
 // The literals 1 to k in a row.
@@ -125,9 +133,9 @@ pub fn fullest() {
     show_front(b"7: the last promise", &sheet, 901);
     put(&mut sheet, 899, 2);
     show_front(b"6: the last promise", &sheet, 901);
-    put(&mut sheet, 7, 15);
+    put(&mut sheet, PROMISES_AT, 15);
     show_front(b"10: behind 15 promises", &sheet, 901);
-    put(&mut sheet, 7, 17);
+    put(&mut sheet, PROMISES_AT, 17);
     show_front(b"5: one promise more", &sheet, 901);
 }
 
@@ -147,6 +155,6 @@ pub fn long_records() {
     );
     counts(&mut sheet, 0, 0, 0, 1);
     show_front(b"7: a promise of 255 bytes", &sheet, 264);
-    put(&mut sheet, 2, 7);
+    put(&mut sheet, LENGTH_LOW_AT, 7);
     show_front(b"6: a promise of 255 bytes, the last missing", &sheet, 263);
 }

@@ -22,6 +22,8 @@ use Rattle.meaning.specs.Sheet.{mostBytes, mostLetters, mostLimits, mostPromise
 use Rattle.meaning.specs.Sheet.{names, signedBelow, literalsFault, listFault, recordFault, recordsFault, firstFault}
 use Rattle.meaning.specs.Sheet.{Kind, aLimit, aFirst, aStep, aPromise, limitOf, stepOf, promiseOf, byte, bodyAt, nextAt, afterAt, bodies}
 use Rattle.meaning.specs.Sheet.{lettersIn, firstsAt, stepsAt, promisesAt, endAt, Sheet, decode}
+use Rattle.reader.specs.Header.{versionByte, lengthByte, lettersByte, limitsByte, promisesByte, recordsAt}
+use Rattle.reader.specs.Header.{versionIn, highIn, lowIn, lengthIn, limitsIn, firstsIn, stepsIn, promisesIn}
 use Rattle.reader.proofs.Good.{then-none, first-passed, length-body, length-bodies, Header, good-header}
 use Rattle.reader.proofs.Whole.{between}
 use Rattle.records.specs.Records.{Records, recordsOf, section, joined, header, bytesOf}
@@ -195,15 +197,16 @@ length-joined r =
     length-append l (f ++ (t ++ p)) ∙ ap (λ (n : ℕ). length l + n) (length-append f (t ++ p) ∙ ap (λ (n : ℕ). length f + n) (length-append t p))
 
 -- and the whole sheet with them
-pub length-bytes : (r : Records) → length (bytesOf r) ≡ 8 + length (joined r)
+pub length-bytes : (r : Records) → length (bytesOf r) ≡ recordsAt + length (joined r)
 unfolding bytesOf header
 length-bytes r = omega arith
 
 -- the sections of a written sheet, one behind the other
 module _ (r : Records) where
-  limits-written : SectionRead (bytesOf r) 8 (r .limits) (section (r .firsts) ++ (section (r .steps) ++ section (r .promises)))
+  limits-written : SectionRead (bytesOf r) recordsAt (r .limits) (section (r .firsts) ++ (section (r .steps) ++ section (r .promises)))
   unfolding bytesOf header joined
-  limits-written = section-read (bytesOf r) 8 (r .limits) (section (r .firsts) ++ (section (r .steps) ++ section (r .promises))) refl
+  limits-written =
+      section-read (bytesOf r) recordsAt (r .limits) (section (r .firsts) ++ (section (r .steps) ++ section (r .promises))) refl
 
   firsts-written : SectionRead (bytesOf r) (firstsAt (bytesOf r)) (r .firsts) (section (r .steps) ++ section (r .promises))
   unfolding bytesOf header byte firstsAt
@@ -251,22 +254,23 @@ pub record GoodRecords (r : Records) : Type 0 where
   pub firsts-faultless : Faultless aFirst (r .letters) (r .firsts)
   pub steps-faultless : Faultless aStep (r .letters) (r .steps)
   pub promises-faultless : Faultless aPromise (r .letters) (r .promises)
-  pub fits : 8 + length (joined r) ≤ mostBytes
+  pub fits : recordsAt + length (joined r) ≤ mostBytes
 
 -- A sheet with a header within its bounds, whose sections read without fault to its end, is good.
 header-good : (s : List ℕ) → Header s → firstFault s ≡ none
 unfolding firstFault
 header-good s h =
     none-found (leb 8 (length s) && leb (length s) 4096) badSize 0 _ (between 8 (length s) 4096 (h .least) (h .most))
-    (none-found (eqb (byte s 0) 1) badVersion 0 _ (eq-eqb (byte s 0) 1 (h .version))
-    (none-found (eqb (byte s 1 * 256 + byte s 2) (length s)) badLength 1 _ (eq-eqb (byte s 1 * 256 + byte s 2) (length s) (h .stated))
-    (none-found (leb 1 (lettersIn s) && leb (lettersIn s) 24) badLetters 3 _ (between 1 (lettersIn s) 24 (h .some-letter) (h .few-letters))
-    (none-found (leb (byte s 4) 32) tooMany 4 _ (le-leb (byte s 4) 32 (h .few-limits))
-    (none-found (leb (byte s 7) 16) tooMany 7 _ (le-leb (byte s 7) 16 (h .few-promises))
-    (none-either (recordsFault aLimit (lettersIn s) s (byte s 4) 8) _ (h .limits-read)
-    (none-either (recordsFault aFirst (lettersIn s) s (byte s 5) (firstsAt s)) _ (h .firsts-read)
-    (none-either (recordsFault aStep (lettersIn s) s (byte s 6) (stepsAt s)) _ (h .steps-read)
-    (none-either (recordsFault aPromise (lettersIn s) s (byte s 7) (promisesAt s)) _ (h .promises-read)
+    (none-found (eqb (versionIn s) 1) badVersion versionByte _ (eq-eqb (versionIn s) 1 (h .version))
+    (none-found (eqb (lengthIn s) (length s)) badLength lengthByte _ (eq-eqb (lengthIn s) (length s) (h .stated))
+    (none-found (leb 1 (lettersIn s) && leb (lettersIn s) 24) badLetters lettersByte _
+    (between 1 (lettersIn s) 24 (h .some-letter) (h .few-letters))
+    (none-found (leb (limitsIn s) 32) tooMany limitsByte _ (le-leb (limitsIn s) 32 (h .few-limits))
+    (none-found (leb (promisesIn s) 16) tooMany promisesByte _ (le-leb (promisesIn s) 16 (h .few-promises))
+    (none-either (recordsFault aLimit (lettersIn s) s (limitsIn s) recordsAt) _ (h .limits-read)
+    (none-either (recordsFault aFirst (lettersIn s) s (firstsIn s) (firstsAt s)) _ (h .firsts-read)
+    (none-either (recordsFault aStep (lettersIn s) s (stepsIn s) (stepsAt s)) _ (h .steps-read)
+    (none-either (recordsFault aPromise (lettersIn s) s (promisesIn s) (promisesAt s)) _ (h .promises-read)
     (ap (λ (t : Bool). unless t surplus (endAt s)) (eq-eqb (endAt s) (length s) (h .whole))))))))))))
 
 bytes-header : (r : Records) → GoodRecords r → Header (bytesOf r)
@@ -280,7 +284,7 @@ bytes-header r g = record {
   few-letters = g .few-letters;
   few-limits = g .few-limits;
   few-promises = g .few-promises;
-  limits-read = faultless-section aLimit (r .letters) (bytesOf r) 8 (r .limits) _ (limits-written r .stands) (g .limits-faultless);
+  limits-read = faultless-section aLimit (r .letters) (bytesOf r) recordsAt (r .limits) _ (limits-written r .stands) (g .limits-faultless);
   firsts-read =
       faultless-section aFirst (r .letters) (bytesOf r) (firstsAt (bytesOf r)) (r .firsts) _ (firsts-written r .stands) (g .firsts-faultless);
   steps-read =
@@ -296,26 +300,26 @@ pub bytes-good : (r : Records) → GoodRecords r → firstFault (bytesOf r) ≡ 
 bytes-good r g = header-good (bytesOf r) (bytes-header r g)
 
 -- Behind its header a good sheet is its own records, joined.
-joined-back : (s : List ℕ) → Header s → drop 8 s ≡ joined (recordsOf s)
+joined-back : (s : List ℕ) → Header s → drop recordsAt s ≡ joined (recordsOf s)
 unfolding recordsOf joined firstsAt stepsAt promisesAt endAt
 joined-back s h =
     let n = lettersIn s in
     let r = recordsOf s in
     let ended : drop (endAt s) s ≡ [] = ap (λ (i : ℕ). drop i s) (h .whole) ∙ drop-length s in
     let p : drop (promisesAt s) s ≡ section (r .promises) =
-    section-of aPromise n s (byte s 7) (promisesAt s) (h .promises-read) ∙ ap (λ (l : List ℕ). section (r .promises) ++ l) ended
+    section-of aPromise n s (promisesIn s) (promisesAt s) (h .promises-read) ∙ ap (λ (l : List ℕ). section (r .promises) ++ l) ended
     ∙ append-nil (section (r .promises)) in
     let t : drop (stepsAt s) s ≡ section (r .steps) ++ section (r .promises) =
-    section-of aStep n s (byte s 6) (stepsAt s) (h .steps-read) ∙ ap (λ (l : List ℕ). section (r .steps) ++ l) p in
+    section-of aStep n s (stepsIn s) (stepsAt s) (h .steps-read) ∙ ap (λ (l : List ℕ). section (r .steps) ++ l) p in
     let f : drop (firstsAt s) s ≡ section (r .firsts) ++ (section (r .steps) ++ section (r .promises)) =
-    section-of aFirst n s (byte s 5) (firstsAt s) (h .firsts-read) ∙ ap (λ (l : List ℕ). section (r .firsts) ++ l) t in
-    section-of aLimit n s (byte s 4) 8 (h .limits-read) ∙ ap (λ (l : List ℕ). section (r .limits) ++ l) f
+    section-of aFirst n s (firstsIn s) (firstsAt s) (h .firsts-read) ∙ ap (λ (l : List ℕ). section (r .firsts) ++ l) t in
+    section-of aLimit n s (limitsIn s) recordsAt (h .limits-read) ∙ ap (λ (l : List ℕ). section (r .limits) ++ l) f
 
 -- so the records' length is the sheet's
-length-back : (s : List ℕ) → Header s → 8 + length (joined (recordsOf s)) ≡ length s
+length-back : (s : List ℕ) → Header s → recordsAt + length (joined (recordsOf s)) ≡ length s
 length-back s h =
-    let e : length (drop 8 s) ≡ length (joined (recordsOf s)) = ap length (joined-back s h) in
-    omega (arith, e, h .least, length-drop 8 s)
+    let e : length (drop recordsAt s) ≡ length (joined (recordsOf s)) = ap length (joined-back s h) in
+    omega (arith, e, h .least, length-drop recordsAt s)
 
 -- A good sheet's records are good.
 pub good-records : (s : List ℕ) → firstFault s ≡ none → GoodRecords (recordsOf s)
@@ -326,12 +330,12 @@ good-records s good =
     record {
       some-letter = h .some-letter;
       few-letters = h .few-letters;
-      few-limits = omega (arith, h .few-limits, length-bodies s (byte s 4) 8);
-      few-promises = omega (arith, h .few-promises, length-bodies s (byte s 7) (promisesAt s));
-      limits-faultless = section-faultless aLimit n s (byte s 4) 8 (h .limits-read);
-      firsts-faultless = section-faultless aFirst n s (byte s 5) (firstsAt s) (h .firsts-read);
-      steps-faultless = section-faultless aStep n s (byte s 6) (stepsAt s) (h .steps-read);
-      promises-faultless = section-faultless aPromise n s (byte s 7) (promisesAt s) (h .promises-read);
+      few-limits = omega (arith, h .few-limits, length-bodies s (limitsIn s) recordsAt);
+      few-promises = omega (arith, h .few-promises, length-bodies s (promisesIn s) (promisesAt s));
+      limits-faultless = section-faultless aLimit n s (limitsIn s) recordsAt (h .limits-read);
+      firsts-faultless = section-faultless aFirst n s (firstsIn s) (firstsAt s) (h .firsts-read);
+      steps-faultless = section-faultless aStep n s (stepsIn s) (stepsAt s) (h .steps-read);
+      promises-faultless = section-faultless aPromise n s (promisesIn s) (promisesAt s) (h .promises-read);
       fits = omega (arith, length-back s h, h .most);
     }
 
@@ -355,22 +359,22 @@ stated-low : (high low n : ℕ) → high * 256 + low ≡ n → low < 256 → n %
 stated-low high low n e h = omega arith
 
 -- A good sheet is that of its own records. (Of a list of numbers it is asked only that the length's low byte is one.)
-pub records-back : (s : List ℕ) → firstFault s ≡ none → byte s 2 < 256 → bytesOf (recordsOf s) ≡ s
+pub records-back : (s : List ℕ) → firstFault s ≡ none → lowIn s < 256 → bytesOf (recordsOf s) ≡ s
 unfolding recordsOf bytesOf header lettersIn bytesFrom
 records-back s good small =
     let h = good-header s good in
-    let high = stated-high (byte s 1) (byte s 2) (length s) (h .stated) small in
-    let low = stated-low (byte s 1) (byte s 2) (length s) (h .stated) small in
-    let same : s ≡ 1 ∷ byte s 1 ∷ byte s 2 ∷ byte s 3 ∷ byte s 4 ∷ byte s 5 ∷ byte s 6 ∷ byte s 7 ∷ drop 8 s =
-    byte-by-byte 8 s 0 (omega (arith, h .least)) ∙ ap (λ (v : ℕ). v ∷ bytesFrom 7 s 1) (h .version) in
+    let high = stated-high (highIn s) (lowIn s) (length s) (h .stated) small in
+    let low = stated-low (highIn s) (lowIn s) (length s) (h .stated) small in
+    let same : s ≡ 1 ∷ highIn s ∷ lowIn s ∷ byte s lettersByte ∷ limitsIn s ∷ firstsIn s ∷ stepsIn s ∷ promisesIn s ∷ drop recordsAt s =
+    byte-by-byte recordsAt s 0 (omega (arith, h .least)) ∙ ap (λ (v : ℕ). v ∷ bytesFrom 7 s 1) (h .version) in
     rw (
       length-back s h,
       high,
       low,
-      length-bodies s (byte s 4) 8,
-      length-bodies s (byte s 5) (firstsAt s),
-      length-bodies s (byte s 6) (stepsAt s),
-      length-bodies s (byte s 7) (promisesAt s),
+      length-bodies s (limitsIn s) recordsAt,
+      length-bodies s (firstsIn s) (firstsAt s),
+      length-bodies s (stepsIn s) (stepsAt s),
+      length-bodies s (promisesIn s) (promisesAt s),
       ← (joined-back s h),
     ) (sym same)
 

@@ -3,6 +3,7 @@ use mathlib.Core.Path.{_∙_, ap}
 use Prim.Native.Nat.{ℕ}
 use native.Mathlib.Omega.{arith}
 use Rattle.meaning.specs.Sheet.{byte, afterAt, firstsAt, stepsAt}
+use Rattle.reader.specs.Header.{firstsIn}
 use Rattle.reader.proofs.Good.{good-header}
 use Rattle.clash_choice.proofs.Places.{limits-in, firsts-in}
 use Rattle.clash_choice.proofs.steps_at.Statement.{statement}
@@ -27,7 +28,7 @@ returns : tie.Need-returns
 unfolding byte firstsAt stepsAt
 returns c =
     let sheet = c .before .before .before .before .before .args .sheet .now in
-    c .skip2 .ensures ∙ ap (λ (n : ℕ). afterAt sheet (byte sheet 5) n) (c .before .before .skip .ensures)
+    c .skip2 .ensures ∙ ap (λ (n : ℕ). afterAt sheet (firstsIn sheet) n) (c .before .before .skip .ensures)
 
 pub steps-at-spec : {M : Type 1} → statement M
 steps-at-spec =

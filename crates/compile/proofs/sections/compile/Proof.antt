@@ -3,9 +3,10 @@ use mathlib.Core.Path.{_≡_, refl, _∙_}
 use mathlib.Core.Option.{none}
 use native.Mathlib.Omega.{arith}
 use Prim.Native.Nat.{_≤_}
-use lib.ListN.{length, getD}
+use lib.ListN.{length}
 use borrow.Author.Needs.{needs}
 use Rattle.meaning.specs.Sheet.{firstFault, byte, firstsAt, stepsAt, promisesAt}
+use Rattle.reader.specs.Header.{firstsByte, stepsByte, recordsAt, firstsIn, stepsIn}
 use Rattle.reader.proofs.Good.{good-header}
 use Rattle.rules.specs.Book.{bookSize, mostRules}
 use Rattle.compile.proofs.SectionLaws.{all-written}
@@ -27,7 +28,7 @@ abbrev firsts : tie.After-section3 → tie.After-section2
 firsts c = c .before .before .before .before .before
 
 -- what the start asks
-asks : (start : tie.Start) → (firstFault (start .args .sheet .now) ≡ none) × (8 ≤ length (start .args .sheet .now))
+asks : (start : tie.Start) → (firstFault (start .args .sheet .now) ≡ none) × (recordsAt ≤ length (start .args .sheet .now))
 asks start = let good = start .pre .0 in (good, good-header _ good .least)
 
 -- the book keeps its length
@@ -75,8 +76,8 @@ returns c =
     let known = n .before .before .before in
     let s = known .before .args .sheet .now in
     let good = asks (known .before) .0 in
-    let f5 : getD s 5 0 ≤ mostRules = omega (arith, known .shared-slice-known .given 5) in
-    let f6 : getD s 6 0 ≤ mostRules = omega (arith, known .shared-slice-known .given 6) in
+    let f5 : firstsIn s ≤ mostRules = omega (arith, known .shared-slice-known .given firstsByte) in
+    let f6 : stepsIn s ≤ mostRules = omega (arith, known .shared-slice-known .given stepsByte) in
     written-book s _ good f5 f6
     (all-written s _ _ _ _ _ _ _ _ _ (good-header s good .few-limits) f5 f6 (n .counts .ensures .0) (n .counts .ensures .1)
     (l .section .ensures) (f .section2 .ensures) (t .section3 .ensures) (p .section4 .ensures))

@@ -3,6 +3,7 @@ use native.Mathlib.Omega.{arith}
 use Prim.Native.Nat.{_≤_}
 use lib.ListN.{length}
 use Rattle.meaning.specs.Sheet.{byte}
+use Rattle.reader.specs.Header.{lettersByte, limitsByte, firstsByte, stepsByte, promisesByte, recordsAt}
 use Rattle.reader.proofs.Good.{good-header}
 use borrow.Author.Needs.{needs}
 use Rattle.compile.proofs.sections.counts.Statement.{statement}
@@ -22,7 +23,7 @@ abbrev from-steps : tie.After-shared-slice-known5 → tie.Start
 from-steps c = from-firsts (c .before)
 
 -- a good sheet has its header
-header : (c : tie.Start) → 8 ≤ length (c .args .sheet .now)
+header : (c : tie.Start) → recordsAt ≤ length (c .args .sheet .now)
 header c = good-header (c .args .sheet .now) (c .pre .0) .least
 
 returns : tie.Need-returns
@@ -34,15 +35,15 @@ counts-spec =
     tie.close
     (tie.spec
     (λ c. omega (arith, header (from-letters c)))
-    (λ c. omega (arith, c .shared-slice-known2 .given 3))
+    (λ c. omega (arith, c .shared-slice-known2 .given lettersByte))
     (λ c. omega (arith, header (from-limits c)))
-    (λ c. omega (arith, c .shared-slice-known3 .given 4))
+    (λ c. omega (arith, c .shared-slice-known3 .given limitsByte))
     (λ c. omega (arith, header (from-firsts c)))
-    (λ c. omega (arith, c .shared-slice-known4 .given 5))
+    (λ c. omega (arith, c .shared-slice-known4 .given firstsByte))
     (λ c. omega (arith, header (from-steps c)))
-    (λ c. omega (arith, c .shared-slice-known5 .given 6))
+    (λ c. omega (arith, c .shared-slice-known5 .given stepsByte))
     (λ c. omega (arith, header (from-steps (c .before))))
-    (λ c. omega (arith, c .shared-slice-known6 .given 7))
+    (λ c. omega (arith, c .shared-slice-known6 .given promisesByte))
     (λ c κs. search needs)
     (λ c. search needs)
     returns)

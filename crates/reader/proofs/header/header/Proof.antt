@@ -2,13 +2,14 @@
 use mathlib.Core.Path.{_≡_, _∙_, sym}
 use mathlib.Core.Bool.{true, _&&_}
 use mathlib.Core.Logic.{⊎-elim}
-use Prim.Native.Nat.{_+_, _*_}
 use lib.Dec.{leb, eqb}
 use lib.ListN.{length}
 use borrow.Author.Tests.{ltb-true, ltb-false, not-true, not-false, eq-eqb, ne-eqb, le-leb, lt-leb}
 use borrow.Author.Needs.{needs}
-use Rattle.meaning.specs.Sheet.{byte, leastBytes, mostBytes, mostLetters, mostLimits, mostPromises}
-use Rattle.reader.proofs.Whole.{between, below, above, size-bad, version-bad, length-bad, letters-bad, limits-bad, promises-bad, header-good}
+use Rattle.meaning.specs.Sheet.{byte, lettersIn, leastBytes, mostBytes, mostLetters, mostLimits, mostPromises}
+use Rattle.reader.specs.Header.{versionIn, lengthIn, limitsIn}
+use Rattle.reader.proofs.Whole.{between, below, above}
+use Rattle.reader.proofs.Whole.{size-bad, version-bad, length-bad, letters-bad, limits-bad, promises-bad, header-good}
 use Rattle.reader.proofs.header.header.Statement.{statement}
 use Rattle.reader.proofs.header.header.Tie as tie
 
@@ -32,19 +33,20 @@ letters c = c .before .before
 sized : (c : tie.Else2) → let s = start c .args .s .now in leb leastBytes (length s) && leb (length s) mostBytes ≡ true
 sized c = between leastBytes (length (start c .args .s .now)) mostBytes (c .before .if1 .left) (ltb-false mostBytes _ (c .if2 .left))
 
-versioned : (c : tie.Else3) → eqb (byte (start (size c) .args .s .now) 0) 1 ≡ true
+versioned : (c : tie.Else3) → eqb (versionIn (start (size c) .args .s .now)) 1 ≡ true
 unfolding byte
 versioned c = sym (c .before .version-ok .ensures) ∙ not-false _ (c .if3 .left)
 
-stated : (c : tie.Else4) → let s = start (size (version c)) .args .s .now in eqb (byte s 1 * 256 + byte s 2) (length s) ≡ true
+stated : (c : tie.Else4) → let s = start (size (version c)) .args .s .now in eqb (lengthIn s) (length s) ≡ true
 unfolding byte
 stated c = eq-eqb _ _ (sym (c .before .stated-length .ensures) ∙ c .if4 .left)
 
-lettered : (c : tie.Else6) → let s = start (size (version (long c))) .args .s .now in leb 1 (byte s 3) && leb (byte s 3) mostLetters ≡ true
-unfolding byte
+lettered : (c : tie.Else6) → let s = start (size (version (long c))) .args .s .now in
+    leb 1 (lettersIn s) && leb (lettersIn s) mostLetters ≡ true
+unfolding byte lettersIn
 lettered c = between 1 _ mostLetters (c .before .if5 .left) (ltb-false mostLetters _ (c .if6 .left))
 
-limited : (c : tie.Else7) → leb (byte (start (size (version (long (letters c)))) .args .s .now) 4) mostLimits ≡ true
+limited : (c : tie.Else7) → leb (limitsIn (start (size (version (long (letters c)))) .args .s .now)) mostLimits ≡ true
 unfolding byte
 limited c = le-leb _ mostLimits (c .if7 .left)
 
@@ -52,13 +54,15 @@ returns : tie.Need-returns
 returns c =
     let s = c .before .before .before .args .s .now in
     c .refuse .ensures
-    ∙ size-bad s (⊎-elim (λ w. below 8 (length s) 4096 (w .taken)) (λ w. above 8 (length s) 4096 (ltb-true _ _ (w .1 .taken))) (c .before .if1 .came))
+    ∙ size-bad s
+    (⊎-elim (λ w. below 8 (length s) 4096 (w .taken)) (λ w. above 8 (length s) 4096 (ltb-true _ _ (w .1 .taken))) (c .before .if1 .came))
 
 returns-2 : tie.Need-returns-2
 unfolding byte
 returns-2 c =
     let d = c .before in
-    c .refuse2 .ensures ∙ version-bad _ (sized (d .before .before .before)) (sym (d .before .version-ok .ensures) ∙ not-true _ (d .if3 .taken))
+    c .refuse2 .ensures
+    ∙ version-bad _ (sized (d .before .before .before)) (sym (d .before .version-ok .ensures) ∙ not-true _ (d .if3 .taken))
 
 returns-3 : tie.Need-returns-3
 unfolding byte
@@ -69,12 +73,12 @@ returns-3 c =
     ∙ length-bad _ (sized (size v)) (versioned v) (ne-eqb _ _ (λ e. d .if4 .taken (d .before .stated-length .ensures ∙ e)))
 
 returns-4 : tie.Need-returns-4
-unfolding byte
+unfolding byte lettersIn
 returns-4 c =
     let d = c .before in
     let l = d .before .before in
     let v = version l in
-    let n = byte (start (size v) .args .s .now) 3 in
+    let n = lettersIn (start (size v) .args .s .now) in
     c .refuse4 .ensures
     ∙ letters-bad _ (sized (size v)) (versioned v) (stated l)
     (⊎-elim (λ w. below 1 n 24 (w .taken)) (λ w. above 1 n 24 (ltb-true _ _ (w .1 .taken))) (d .if5 .came))

@@ -2,7 +2,8 @@
 use mathlib.Core.Path.{_≡_, _∙_, ap}
 use native.Mathlib.Omega.{arith}
 use borrow.Author.Needs.{needs}
-use Rattle.meaning.specs.Sheet.{byte, aLimit, aFirst, aStep}
+use Rattle.meaning.specs.Sheet.{byte, lettersIn, aLimit, aFirst, aStep}
+use Rattle.reader.specs.Header.{recordsAt, limitsIn, firstsIn, stepsIn}
 use Rattle.reader.specs.Answer.{recordsStep, Within}
 use Rattle.reader.proofs.Whole.{sections-chain, limits-within, further-within}
 use Rattle.reader.proofs.cursor.Cursor.sections.Statement.{statement}
@@ -10,12 +11,12 @@ use Rattle.reader.proofs.cursor.Cursor.sections.Tie as tie
 
 limits-read :
     (c : tie.After-records) → let s = c .before .before .before .before .args .s .now in
-    c .records .result ≡ recordsStep aLimit (byte s 3) s (byte s 4) 8
-unfolding byte
+    c .records .result ≡ recordsStep aLimit (lettersIn s) s (limitsIn s) recordsAt
+unfolding byte lettersIn
 limits-read c =
     let c4 = c .before .before .before .before in
     let s = c4 .args .s .now in
-    c .records .ensures ∙ ap (recordsStep aLimit (byte s 3) s (byte s 4)) (c4 .pre .behind)
+    c .records .ensures ∙ ap (recordsStep aLimit (lettersIn s) s (limitsIn s)) (c4 .pre .behind)
 
 -- each section ends within the sheet
 limits-in : (c : tie.After-records) → Within (c .before .before .before .before .args .s .now) (c .records .result)
@@ -24,43 +25,43 @@ limits-in c =
     limits-within (c4 .args .s .now) (c .records .result) (limits-read c) (c4 .pre .least)
 
 firsts-in : (c : tie.After-then-records) → Within (c .before .before .before .before .before .before .args .s .now) (c .then-records .result)
-unfolding byte
+unfolding byte lettersIn
 firsts-in c =
     let s = c .before .before .before .before .before .before .args .s .now in
-    further-within s aFirst (byte s 3) (byte s 5) (c .before .before .records .result) (c .then-records .result)
+    further-within s aFirst (lettersIn s) (firstsIn s) (c .before .before .records .result) (c .then-records .result)
     (c .then-records .ensures) (limits-in (c .before .before))
 
 steps-in : (c : tie.After-then-records2) → Within (c .before .before .before .before .before .before .before .before .args .s .now) (c .then-records2 .result)
-unfolding byte
+unfolding byte lettersIn
 steps-in c =
     let s = c .before .before .before .before .before .before .before .before .args .s .now in
-    further-within s aStep (byte s 3) (byte s 6) (c .before .before .then-records .result) (c .then-records2 .result)
+    further-within s aStep (lettersIn s) (stepsIn s) (c .before .before .then-records .result) (c .then-records2 .result)
     (c .then-records2 .ensures) (firsts-in (c .before .before))
 
 records-requires : tie.Need-records-requires
-unfolding byte
+unfolding byte lettersIn
 records-requires c κs =
     let asks = c .before .before .before .pre in
     record { letters = omega (arith, asks .letters); within = omega (arith, asks .least, asks .behind) }
 
 then-records-requires : tie.Need-then-records-requires
-unfolding byte
+unfolding byte lettersIn
 then-records-requires c κs = record { letters = omega (arith, c .before .before .before .before .before .pre .letters); within = limits-in (c .before) }
 
 then-records-requires-2 : tie.Need-then-records-requires-2
-unfolding byte
+unfolding byte lettersIn
 then-records-requires-2 c κs =
     let c7 = c .before .before .before .before .before .before .before in
     record { letters = omega (arith, c7 .pre .letters); within = firsts-in (c .before) }
 
 then-records-requires-3 : tie.Need-then-records-requires-3
-unfolding byte
+unfolding byte lettersIn
 then-records-requires-3 c κs =
     let c9 = c .before .before .before .before .before .before .before .before .before in
     record { letters = omega (arith, c9 .pre .letters); within = steps-in (c .before) }
 
 returns : tie.Need-returns
-unfolding byte
+unfolding byte lettersIn
 returns c =
     let c3 = c .before .before .before in
     let c5 = c3 .before .before in
