@@ -1,6 +1,6 @@
 -- A test of every number below a bound, as loops make it. Assumes nothing.
 use mathlib.Core.Path.{_≡_, refl, sym, _∙_, ap, ap₂, subst}
-use mathlib.Core.Bool.{Bool, true, false, _&&_, and-false}
+use mathlib.Core.Bool.{Bool, true, false, not, _&&_, and-false}
 use mathlib.Core.List.{List}
 use Prim.Native.Nat.{ℕ, zero, suc, _+_, _/_, _^_, _≤_, _<_}
 use native.Mathlib.Nat.{div-lt-iff-lt-mul}
@@ -8,9 +8,10 @@ use native.Mathlib.Decide.{ℕ-discrete, decLt}
 use lib.Pow.{pow-pos}
 use native.Mathlib.Numerals.{add-one}
 use native.Mathlib.Omega.{arith}
-use lib.Dec.{ltb, leb}
-use borrow.Author.Tests.{lt-ltb, le-ltb}
-use Rattle.rules.specs.Book.{allBelow, countOf, limitOk, LimitRead}
+use lib.Dec.{ltb}
+use borrow.Author.Tests.{lt-ltb, le-ltb, not-true, not-false}
+use Rattle.rules.specs.Book.{allBelow, limitRow, rowHolds, limitOk}
+use Rattle.rules.specs.declared.book.Bounded.{Bounded}
 
 module _ (test : ℕ → Bool) where
   -- One more number passes.
@@ -32,16 +33,27 @@ pub all-same : (f g : ℕ → Bool) (n : ℕ) → ((i : ℕ) → i < n → f i �
 all-same f g zero h = refl
 all-same f g (suc n) h = ap₂ (λ (a b : Bool). a && b) (all-same f g n (λ i l. h i (omega arith))) (h n (omega arith))
 
--- A loop that ran to its end has tested all.
-pub all-done : (test : ℕ → Bool) (i n : ℕ) → i ≤ n → n ≤ i → allBelow i test ≡ true → allBelow n test ≡ true
-all-done test i n h k e = let q : i ≡ n = omega arith in subst (λ (x : ℕ). allBelow x test ≡ true) q e
+-- What a loop over `count` numbers keeps that returns at the first which fails: those below i have passed.
+pub record Tested (test : ℕ → Bool) (count i : ℕ) : Type 0 where
+  pub within : i ≤ count
+  pub passed : allBelow i test ≡ true
 
--- What a loop over `count` numbers returns, n being how many there are: one failed, or all passed.
-pub one-failed : (test : ℕ → Bool) {count n i : ℕ} → count ≡ n → i < count → test i ≡ false → false ≡ allBelow n test
-one-failed test {n = n} {i} e h f = sym (all-broken test n i (omega arith) f)
+module _ (test : ℕ → Bool) {count : ℕ} where
+  pub none-tested : Tested test count 0
+  none-tested = record { within = omega arith; passed = refl }
 
-pub all-passed : (test : ℕ → Bool) {count n i : ℕ} → count ≡ n → i ≤ count → count ≤ i → allBelow i test ≡ true → true ≡ allBelow n test
-all-passed test {n = n} {i} e h k all = sym (all-done test i n (omega arith) (omega arith) all)
+  -- One more: its test r was not false.
+  pub one-passed : {i : ℕ} {r : Bool} → Tested test count i → i < count → r ≡ test i → not r ≡ false → Tested test count (i + 1)
+  one-passed {i} {r} t h e f = record { within = omega arith; passed = all-more test i (t .passed) (sym e ∙ not-false r f) }
+
+  -- What it returns, n being how many numbers there are: one failed, or all passed.
+  pub one-failed : {n i : ℕ} {r : Bool} → count ≡ n → i < count → r ≡ test i → not r ≡ true → false ≡ allBelow n test
+  one-failed {n} {i} {r} e h d f = sym (all-broken test n i (omega arith) (sym d ∙ not-true r f))
+
+  pub all-passed : {n i : ℕ} → count ≡ n → Tested test count i → count ≤ i → true ≡ allBelow n test
+  all-passed {n} {i} e t h =
+      let q : i ≡ n = omega (arith, t .within) in
+      sym (subst (λ (x : ℕ). allBelow x test ≡ true) q (t .passed))
 
 -- A number is below 2 ^ n if nothing is left of it above its n lowest bits.
 pub shifted-out : (s n : ℕ) → s / 2 ^ n ≡ 0 → s < 2 ^ n
@@ -74,10 +86,6 @@ pub not-past : (k n r : ℕ) (rest : Bool) → r ≡ n → k < r → rest ≡ (l
 not-past k n r rest e h = sym (ap (λ (t : Bool). t && rest) (lt-ltb k n (omega arith)))
 
 -- A limit's row, read, says what the limit says.
-pub limit-read :
-    {book : List ℕ} {i held unheld least most : ℕ} (s : ℕ) → LimitRead book i held unheld least most
-    → (leb least (countOf s held unheld) && leb (countOf s held unheld) most) ≡ limitOk book s i
+pub limit-read : (book : List ℕ) (i s : ℕ) {row : Bounded} → row ≡ limitRow book i → rowHolds s row ≡ limitOk book s i
 unfolding limitOk
-limit-read s r =
-    let count = ap₂ (countOf s) (r .masks .held-is) (r .masks .unheld-is) in
-    λ k. leb (r .least-is k) (count k) && leb (count k) (r .most-is k)
+limit-read book i s e = ap (rowHolds s) e

@@ -1,5 +1,5 @@
 -- Rules gathered one by one. `Sofar` is what the loops of crates/rules/src/gather.rt keep: the n rows gathered say of every state what the
--- first i rules say. A row is taken or its rule is passed over, where the rule asks nothing. Assumes nothing.
+-- first i rules say. A row is taken or its rule is passed over, where the rule allows every move. Assumes nothing.
 use mathlib.Core.Path.{_≡_, refl, sym, _∙_, ap, ap₂, subst, subst₂}
 use mathlib.Core.Bool.{Bool, true, false, not, _&&_, _||_, and-true}
 use mathlib.Core.List.{List}
@@ -9,7 +9,7 @@ use native.Mathlib.Numerals.{add-one}
 use native.Mathlib.Omega.{arith}
 use lib.ListN.{getD}
 use Rattle.rules.specs.Book.{Masks, Shaped, allBelow, someOf, someAt, allAt, firstAt, stepAt, rightAt, gatheredAt, stepOk, stepsOk, firstsOk}
-use Rattle.rules.specs.Book.{lettersOf, firstsOf, stepsOf, clausesOk, FirstClauses, NextClauses}
+use Rattle.rules.specs.Book.{lettersOf, firstsOf, stepsOf, clausesOk, Binds, FirstClauses, NextClauses}
 use Rattle.rules.specs.Rows.{Copied}
 use Rattle.rules.proofs.Asking.{all-same}
 
@@ -26,7 +26,7 @@ module _ (test : ℕ → ℕ → ℕ → Bool) (asks : ℕ → ℕ → Bool) (le
   pub none-yet : (l : List ℕ) → Sofar test asks letters l 0 0
   none-yet l = record { few = omega arith; masks = λ j h. absurd (omega arith); says = λ t. refl }
 
-  -- A rule that asks nothing is passed over.
+  -- A rule that is true of every state is passed over.
   pub passed-over : (l : List ℕ) (n i : ℕ) → Sofar test asks letters l n i → ((t : ℕ) → asks t i ≡ true) → Sofar test asks letters l n (i + 1)
   passed-over l n i so free = subst (Sofar test asks letters l n) (sym (add-one i)) (record {
     few = omega arith;
@@ -89,14 +89,10 @@ module _ (book : List ℕ) (shaped : Shaped book) where
       let so′ : FirstSofar book l (firstsOf book) = subst (FirstSofar book l) (let e : i ≡ firstsOf book = omega arith in e) so in
       record { gathered = record { few = shaped .few-firsts; masks = so′ .masks }; says = λ t. so′ .says t }
 
-  -- A rule that asks something is said by its right side; one that asks nothing allows every step.
+  -- A rule that asks something is said by its right side.
   right-says : (s i t : ℕ) → allAt book (stepAt i) s ≡ true → stepOk book s t i ≡ someOf t (getD book (rightAt i) 0) (getD book (rightAt i + 1) 0)
   unfolding stepOk
   right-says s i t e = ap (λ (x : Bool). not x || someAt book (rightAt i) t) e
-
-  nothing-asked : (s i t : ℕ) → allAt book (stepAt i) s ≡ false → stepOk book s t i ≡ true
-  unfolding stepOk
-  nothing-asked s i t e = ap (λ (x : Bool). not x || someAt book (rightAt i) t) e
 
   pub step-copied :
       (s : ℕ) (l l′ : List ℕ) (n i : ℕ) → i < stepsOf book → StepSofar book s l n i → allAt book (stepAt i) s ≡ true
@@ -104,9 +100,10 @@ module _ (book : List ℕ) (shaped : Shaped book) where
   step-copied s l l′ n i h so e c =
       copied-row someOf (stepOk book s) (lettersOf book) book (rightAt i) l l′ n i so c (shaped .rights i h) (λ t. right-says s i t e)
 
-  pub step-passed :
-      (s : ℕ) (l : List ℕ) (n i : ℕ) → StepSofar book s l n i → allAt book (stepAt i) s ≡ false → StepSofar book s l n (i + 1)
-  step-passed s l n i so e = passed-over someOf (stepOk book s) (lettersOf book) l n i so (λ t. nothing-asked s i t e)
+  -- A rule that allows every move is passed over.
+  pub step-free :
+      (s : ℕ) (l : List ℕ) (n i : ℕ) {r : Bool} → StepSofar book s l n i → Binds book s i r → r ≡ false → StepSofar book s l n (i + 1)
+  step-free s l n i so binds f = passed-over someOf (stepOk book s) (lettersOf book) l n i so (binds .free f)
 
   pub steps-gathered :
       (s : ℕ) (l : List ℕ) (n i : ℕ) → i ≤ stepsOf book → stepsOf book ≤ i → StepSofar book s l n i → NextClauses book s l n

@@ -1,5 +1,6 @@
 pub mod Asking
 pub mod Rows
+pub mod Binding
 pub mod Gathering
 pub mod Counting
 pub mod Facts

@@ -12,6 +12,8 @@ use lib.Dec.{T, leb, ltb, eqb}
 use lib.ListN.{length, getD}
 use Rattle.meaning.specs.System.{System}
 use Rattle.meaning.specs.Sheet.{mostLetters, mostLimits, mostPromises, Kind, aLimit, aFirst, aStep, aPromise}
+use Rattle.rules.specs.declared.book.Pair.{Pair}
+use Rattle.rules.specs.declared.book.Bounded.{Bounded}
 
 -- ---- where things stand in a book
 
@@ -107,15 +109,19 @@ pub record CountsAre (l : List ℕ) (a b c d e : ℕ) : Type 0 where
   pub steps : stepsOf l ≡ d
   pub promises : promisesOf l ≡ e
 
--- numbers that were read: the two masks at a place, and limit i's row
-pub record MasksRead (l : List ℕ) (at held unheld : ℕ) : Type 0 where
-  pub held-is : held ≡ getD l at 0
-  pub unheld-is : unheld ≡ getD l (at + 1) 0
+-- the two masks at a place were read
+pub record MasksRead (l : List ℕ) (at : ℕ) (m : Pair) : Type 0 where
+  pub held-is : m .held ≡ getD l at 0
+  pub unheld-is : m .unheld ≡ getD l (at + 1) 0
 
-pub record LimitRead (book : List ℕ) (i held unheld least most : ℕ) : Type 0 where
-  pub masks : MasksRead book (limitAt i) held unheld
-  pub least-is : least ≡ getD book (leastAt (limitAt i)) 0
-  pub most-is : most ≡ getD book (mostAt (limitAt i)) 0
+-- limit i's row
+abbrev pub limitRow : List ℕ → ℕ → Bounded
+limitRow book i = record {
+  held = getD book (limitAt i) 0;
+  unheld = getD book (limitAt i + 1) 0;
+  least = getD book (leastAt (limitAt i)) 0;
+  most = getD book (mostAt (limitAt i)) 0;
+}
 
 -- ---- two masks against a state
 
@@ -149,11 +155,14 @@ someAt l at s = someOf s (getD l at 0) (getD l (at + 1) 0)
 abbrev pub allAt : List ℕ → ℕ → ℕ → Bool
 allAt l at s = allOf s (getD l at 0) (getD l (at + 1) 0)
 
+-- what a limit's row says of s: no fewer of its literals are true than the least and no more than the most
+abbrev pub rowHolds : ℕ → Bounded → Bool
+rowHolds s row =
+    leb (row .least) (countOf s (row .held) (row .unheld)) && leb (countOf s (row .held) (row .unheld)) (row .most)
+
 -- limit i holds in s
 unfoldable pub limitOk : List ℕ → ℕ → ℕ → Bool
-limitOk book s i =
-    leb (getD book (leastAt (limitAt i)) 0) (countOf s (getD book (limitAt i) 0) (getD book (limitAt i + 1) 0))
-    && leb (countOf s (getD book (limitAt i) 0) (getD book (limitAt i + 1) 0)) (getD book (mostAt (limitAt i)) 0)
+limitOk book s i = rowHolds s (limitRow book i)
 
 unfoldable pub limitsOk : List ℕ → ℕ → Bool
 limitsOk book s = allBelow (limitsOf book) (limitOk book s)
@@ -217,6 +226,11 @@ pub record Shaped (book : List ℕ) : Type 0 where
 abbrev pub asksToward : Bool → List ℕ → (s i : ℕ) → Bool
 asksToward true book s i = allAt book (stepAt i) s
 asksToward false book s i = not (someAt book (rightAt i) s)
+
+-- step rule i's left side is true in s, or the rule allows every move from s
+pub record Binds (book : List ℕ) (s i : ℕ) (r : Bool) : Type 0 where
+  pub asks : r ≡ true → allAt book (stepAt i) s ≡ true
+  pub free : r ≡ false → (t : ℕ) → stepOk book s t i ≡ true
 
 -- gathered lists stand one behind another, and there is room for one of each rule
 abbrev pub gatheredAt : ℕ → ℕ

@@ -7,7 +7,7 @@ ghost use mathlib.Core.Path.{_≡_};
 ghost use Prim.Native.Nat.{_+_, _≤_, _<_};
 ghost use lib.ListN.{length};
 ghost use Rattle.rules.specs.Book.{bookSize, gatherSize, mostRules, limitWidth, leastAt, limitAt, firstAt, stepAt, rightAt, promiseAt, gatheredAt};
-ghost use Rattle.rules.specs.Book.{lettersOf, limitsOf, firstsOf, stepsOf, promisesOf, CountsAre, Shaped, LimitRead, MasksRead};
+ghost use Rattle.rules.specs.Book.{lettersOf, limitsOf, firstsOf, stepsOf, promisesOf, CountsAre, Shaped, MasksRead, limitRow};
 ghost use Rattle.rules.specs.Rows.{Put};
 
 // A book's numbers are as wide as a state.
@@ -164,7 +164,7 @@ pub fn gathered_at(i: usize) -> usize
 // The two masks that stand at a place.
 pub fn masks_at(l: &[State], at: usize) -> Pair
     requires { ⌜ at + 1 < length (now l) ⌝ }
-    ensures { λ r. ⌜ MasksRead (now (l .entry)) at (r .held) (r .unheld) ⌝ }
+    ensures { λ r. ⌜ MasksRead (now (l .entry)) at r ⌝ }
 {
     let next = at + 1;
     let held = l[at];
@@ -196,7 +196,7 @@ pub fn put_bounds(book: &mut [State], row: usize, least: State, most: State)
 // Gathered list i.
 pub fn gathered(l: &[State], i: usize) -> Pair
     requires { ⌜ (length (now l) ≡ gatherSize) × (i < mostRules) ⌝ }
-    ensures { λ r. ⌜ MasksRead (now (l .entry)) (gatheredAt i) (r .held) (r .unheld) ⌝ }
+    ensures { λ r. ⌜ MasksRead (now (l .entry)) (gatheredAt i) r ⌝ }
 {
     let at = gathered_at(i);
     masks_at(l, at)
@@ -205,7 +205,7 @@ pub fn gathered(l: &[State], i: usize) -> Pair
 // Limit i.
 pub fn limit(book: &[State], i: usize) -> Bounded
     requires { ⌜ Shaped (now book) × (i < limitsOf (now book)) ⌝ }
-    ensures { λ r. ⌜ LimitRead (now (book .entry)) i (r .held) (r .unheld) (r .least) (r .most) ⌝ }
+    ensures { λ r. ⌜ r ≡ limitRow (now (book .entry)) i ⌝ }
 {
     let at = limit_at(i);
     let m = masks_at(book, at);

@@ -12,7 +12,7 @@ use super::book::steps;
 ghost use mathlib.Core.Path.{_≡_};
 ghost use Prim.Native.Nat.{_+_, _<_, _≤_};
 ghost use lib.ListN.{length};
-ghost use Rattle.rules.specs.Book.{clausesOk, gatherSize, mostRules, FirstClauses, NextClauses, Shaped};
+ghost use Rattle.rules.specs.Book.{clausesOk, gatherSize, mostRules, stepsOf, Binds, FirstClauses, NextClauses, Shaped};
 ghost use Rattle.rules.specs.Rows.{Copied};
 
 // Copies the two masks at a place of the book to place `to`.
@@ -40,7 +40,21 @@ pub fn gather_first(book: &[State], clauses: &mut [State]) -> usize
     count
 }
 
-// Gathers the clauses that a state after s must make true, into a slice of GATHER_SIZE numbers; how many there are.
+// False only if step rule i allows every move from s: its left side is false there, or its right side names a letter and its opposite.
+fn binds(book: &[State], i: usize, s: State) -> bool
+    requires { ⌜ Shaped (now book) × (i < stepsOf (now book)) ⌝ }
+    ensures { λ r. ⌜ Binds (now (book .entry)) s i r ⌝ }
+{
+    if !step_asks(book, i, s) {
+        return false;
+    }
+    let at = right_at(i);
+    let right = masks_at(book, at);
+    right.held & right.unheld == 0
+}
+
+// Gathers the clauses that a state after s must make true, without those that every state makes true, into a slice of GATHER_SIZE numbers;
+// how many there are. Each clause costs something at every state that is walked or counted.
 pub fn gather_next(book: &[State], s: State, clauses: &mut [State]) -> usize
     requires { ⌜ Shaped (now book) × (length (now clauses) ≡ gatherSize) ⌝ }
     ensures { λ r. ⌜ NextClauses (now (book .entry)) s (now (clauses .exit)) r × (length (now (clauses .exit)) ≡ gatherSize) ⌝ }
@@ -49,7 +63,7 @@ pub fn gather_next(book: &[State], s: State, clauses: &mut [State]) -> usize
     let mut i: usize = 0;
     let mut n: usize = 0;
     while i < count {
-        if step_asks(book, i, s) {
+        if binds(book, i, s) {
             let from = right_at(i);
             let to = gathered_at(n);
             copy(book, from, clauses, to);

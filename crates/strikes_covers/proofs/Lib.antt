@@ -1,4 +1,3 @@
 pub mod Counting
 pub mod Covering
 pub mod Tallying
-pub mod Binding

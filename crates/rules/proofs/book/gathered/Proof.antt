@@ -9,8 +9,7 @@ use Rattle.rules.proofs.book.gathered.Tie as tie
 returns : tie.Need-returns
 returns c =
     let l = c .before .before .before .args .l .now in
-    let m = c .masks-at .result in
-    subst (λ (at : ℕ). MasksRead l at (m .held) (m .unheld)) (c .before .gathered-at .ensures) (c .masks-at .ensures)
+    subst (λ (at : ℕ). MasksRead l at (c .masks-at .result)) (c .before .gathered-at .ensures) (c .masks-at .ensures)
 
 pub gathered-spec : {M : Type 1} → statement M
 gathered-spec = tie.close (tie.spec (λ c κs. search needs) (λ c κs. search needs) returns)

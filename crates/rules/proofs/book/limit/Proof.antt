@@ -1,9 +1,9 @@
 -- The row's four numbers, from its place on. Assumes nothing.
-use mathlib.Core.Path.{ap, subst}
+use mathlib.Core.Path.{_≡_, _∙_, ap}
 use Prim.Native.Nat.{ℕ, _+_}
 use lib.ListN.{getD}
 use borrow.Author.Needs.{needs}
-use Rattle.rules.specs.Book.{MasksRead, leastAt, mostAt}
+use Rattle.rules.specs.Book.{leastAt, mostAt, limitRow}
 use Rattle.rules.proofs.book.limit.Statement.{statement}
 use Rattle.rules.proofs.book.limit.Tie as tie
 
@@ -12,13 +12,11 @@ returns c =
     let after-masks-at = c .before .before in
     let after-limit-at = after-masks-at .before in
     let book = after-limit-at .before .before .args .book .now in
-    let m = after-masks-at .masks-at in
+    let m = after-masks-at .masks-at .ensures in
     let e = after-limit-at .limit-at .ensures in
-    record {
-      masks = subst (λ (at : ℕ). MasksRead book at (m .result .held) (m .result .unheld)) e (m .ensures);
-      least-is = ap (λ (at : ℕ). getD book (leastAt at) 0) e;
-      most-is = ap (λ (at : ℕ). getD book (mostAt at) 0) e;
-    }
+    let held = m .held-is ∙ ap (λ (at : ℕ). getD book at 0) e in
+    let unheld = m .unheld-is ∙ ap (λ (at : ℕ). getD book (at + 1) 0) e in
+    λ k. record { held = held k; unheld = unheld k; least = getD book (leastAt (e k)) 0; most = getD book (mostAt (e k)) 0 }
 
 pub limit-spec : {M : Type 1} → statement M
 limit-spec =

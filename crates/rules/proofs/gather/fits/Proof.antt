@@ -1,16 +1,15 @@
 -- The loop has tested every number below i. Assumes nothing.
-use mathlib.Core.Path.{_≡_, refl, sym, _∙_, ap}
-use mathlib.Core.Bool.{Bool, true}
-use Prim.Native.Nat.{ℕ, _-_, _≤_}
+use mathlib.Core.Path.{_≡_, refl, _∙_, ap}
+use mathlib.Core.Bool.{Bool}
+use Prim.Native.Nat.{ℕ, _-_}
 use native.Mathlib.Omega.{arith}
-use borrow.Author.Tests.{not-true, not-false}
-use Rattle.rules.proofs.Asking.{all-more, all-broken, all-done}
-use Rattle.rules.specs.Book.{allBelow, someAt, gatheredAt, clausesOk}
+use Rattle.rules.proofs.Asking.{Tested, none-tested, one-passed, one-failed, all-passed}
+use Rattle.rules.specs.Book.{someAt, gatheredAt, clausesOk}
 use Rattle.rules.proofs.gather.fits.Statement.{statement}
 use Rattle.rules.proofs.gather.fits.Tie as tie
 
 abbrev Inv-loop : tie.InvT-loop
-Inv-loop clauses count t i₀ i = (i ≤ count) × (allBelow i (λ i. someAt clauses (gatheredAt i) t) ≡ true)
+Inv-loop clauses count t i₀ i = Tested (λ i. someAt clauses (gatheredAt i) t) count i
 
 abbrev μ-loop : tie.MeasureT-loop
 μ-loop clauses count t i₀ i = count - i
@@ -22,24 +21,10 @@ test start = λ i. someAt (start .args .clauses .now) (gatheredAt i) (start .arg
 -- what a turn's call says of its clause
 turn-says :
     (c : tie.After-some-at Inv-loop μ-loop) → let head = c .before .before .before in
-    test (head .before .before) (head .loop .i) ≡ c .some-at .result
+    c .some-at .result ≡ test (head .before .before) (head .loop .i)
 turn-says c =
     let a = c .before .before .before .before .before .args in
-    sym (c .some-at .ensures ∙ ap (λ (at : ℕ). someAt (a .clauses .now) at (a .t)) (c .before .gathered-at .ensures))
-
-returns : tie.Need-returns Inv-loop μ-loop
-unfolding clausesOk
-returns c =
-    let turn = c .before .before .before in
-    let head = turn .before in
-    let fails = turn-says (c .before) ∙ not-true _ (c .if1 .taken) in
-    sym (all-broken (test (head .before .before)) _ (head .loop .i) (turn .loop-test .taken) fails)
-
-loop-again : tie.Need-loop-again Inv-loop μ-loop
-loop-again c =
-    let head = c .before .before .before .before in
-    let passes = turn-says (c .before) ∙ not-false _ (c .if1 .left) in
-    (omega arith, all-more (test (head .before .before)) (head .loop .i) (head .loop .inv .1) passes)
+    c .some-at .ensures ∙ ap (λ (at : ℕ). someAt (a .clauses .now) at (a .t)) (c .before .gathered-at .ensures)
 
 pub fits-spec : {M : Type 1} → statement M
 unfolding clausesOk
@@ -48,11 +33,12 @@ fits-spec =
     (tie.spec
     Inv-loop
     μ-loop
-    (λ c. (omega arith, refl))
+    (λ c. none-tested _)
     (λ c κs. omega arith)
     (λ c κs. omega arith)
-    returns
+    (λ c. one-failed _ refl (c .before .before .before .loop-test .taken) (turn-says (c .before)) (c .if1 .taken))
     (λ c. omega arith)
     (λ c. omega arith)
-    loop-again
-    (λ c. sym (all-done _ _ _ (c .before .loop .inv .0) (c .loop-test .left) (c .before .loop .inv .1))))
+    (λ c. let turn = c .before .before .before in
+    one-passed _ (turn .before .loop .inv) (turn .loop-test .taken) (turn-says (c .before)) (c .if1 .left))
+    (λ c. all-passed _ refl (c .before .loop .inv) (c .loop-test .left)))

@@ -1,11 +1,11 @@
 -- What the first i step rules ask is gathered. Assumes nothing.
-use mathlib.Core.Path.{_≡_, sym, _∙_, subst₂}
+use mathlib.Core.Path.{_≡_, subst₂}
 use Prim.Native.Nat.{ℕ, _-_, _≤_, _<_}
 use native.Mathlib.Omega.{arith}
 use lib.ListN.{length}
 use Rattle.rules.specs.Book.{gatherSize, stepsOf}
 use Rattle.rules.specs.Rows.{Copied}
-use Rattle.rules.proofs.Gathering.{StepSofar, none-yet, step-copied, step-passed, steps-gathered}
+use Rattle.rules.proofs.Gathering.{StepSofar, none-yet, step-copied, step-free, steps-gathered}
 use Rattle.rules.proofs.gather.gather_next.Statement.{statement}
 use Rattle.rules.proofs.gather.gather_next.Tie as tie
 
@@ -46,7 +46,7 @@ loop-again c =
     let l = turn .before .loop in
     let w = subst₂ (λ (from to : ℕ). Copied (a .book .now) from (l .clauses) to (copied .copy .last .1 .1 .0)) (from .right-at .ensures)
     (to .gathered-at .ensures) (copied .copy .ensures) in
-    let asked = sym (branch .before .step-asks .ensures) ∙ branch .if1 .taken in (
+    let asked = branch .before .binds .ensures .asks (branch .if1 .taken) in (
       omega arith,
       omega (arith, w .keeps .long, l .inv .1),
       step-copied _ (start turn .pre .0) (a .s) _ _ (l .n) (l .i) (turn-rule turn) (l .inv .2) asked w,
@@ -57,8 +57,7 @@ loop-again-2 c =
     let entry = start (c .before .before) in
     let a = entry .args in
     let l = c .before .before .before .loop in
-    let none = sym (c .before .step-asks .ensures) ∙ c .if1 .left in
-    (omega arith, l .inv .1, step-passed _ (entry .pre .0) (a .s) _ (l .n) (l .i) (l .inv .2) none)
+    (omega arith, l .inv .1, step-free _ (entry .pre .0) (a .s) _ (l .n) (l .i) (l .inv .2) (c .before .binds .ensures) (c .if1 .left))
 
 returns : tie.Need-returns Inv-loop μ-loop
 returns c =
