@@ -8,7 +8,7 @@ use native.Mathlib.Omega.{arith}
 use lib.ListN.{getD}
 use Rattle.meaning.specs.System.{System}
 use Rattle.meaning.specs.Strike.{Way}
-use Rattle.distances.specs.Far.{UnstruckIn, far, gone, Place, near, never, struck}
+use Rattle.distances.specs.Far.{Unstruck, UnstruckIn, far, gone, Place, near, never, struck}
 use Rattle.distances.specs.Values.{farAt, fars, Reaches, as-was, reached, Spread, Sure, Near}
 use Rattle.distances.proofs.Totals.{total-less, total-none}
 
@@ -50,15 +50,15 @@ module _ (S : System) (G : ℕ → Type 0) (table words : List ℕ) (r : ℕ) wh
 
   -- every move to a place with a number is known
   abbrev pub Shut : List ℕ → Type 0
-  Shut old = (i m : ℕ) → i < r → m < r → getD words i 0 ≡ 0 → getD words m 0 ≡ 0 → S .Move (getD table i 0) (getD table m 0)
+  Shut old = (i m : ℕ) → i < r → m < r → Unstruck words i → Unstruck words m → S .Move (getD table i 0) (getD table m 0)
       → getD old m 0 < gone → getD old i 0 ≤ suc (getD old m 0)
 
   module _ (old : List ℕ) (sure : Sure S G table words r old) where
     -- A place with a number is unstruck.
-    pub near-live : (i : ℕ) → i < r → getD old i 0 < gone → getD words i 0 ≡ 0
+    pub near-live : (i : ℕ) → i < r → getD old i 0 < gone → Unstruck words i
     near-live i h l = by (ℕ-discrete (getD words i 0) 0)
       where
-        by : Dec (getD words i 0 ≡ 0) → getD words i 0 ≡ 0
+        by : Dec (Unstruck words i) → Unstruck words i
         by (yes z) = z
         by (no n) = absurd (let g = sure .struck i h n in omega arith)
 
@@ -82,7 +82,7 @@ module _ (S : System) (G : ℕ → Type 0) (table words : List ℕ) (r : ℕ) wh
             let u = reached-near j (getD old j 0) (sure .each j inside (near-live j inside (omega arith))) (λ e. omega arith) in
             subst (λ (x : ℕ). WayAt x j) here (u .1)
 
-        at : (i : ℕ) → i < r → getD words i 0 ≡ 0 → Reaches (P i) (suc d) (getD old i 0) (getD new i 0)
+        at : (i : ℕ) → i < r → Unstruck words i → Reaches (P i) (suc d) (getD old i 0) (getD new i 0)
             → Reached i (getD old i 0) → Reached i (getD new i 0)
         at i h z (as-was e f) (inl q) = inl (e ∙ q)
         at i h z (as-was e f) (inr (a, w)) = inr (omega arith, subst (λ (x : ℕ). WayAt x i) (sym e) w)
@@ -92,7 +92,7 @@ module _ (S : System) (G : ℕ → Type 0) (table words : List ℕ) (r : ℕ) wh
 
     -- What moves to the place spread from is at most one farther, if no number was larger than that.
     pub spread-here : (P : ℕ → Type 0) (d : ℕ) (new : List ℕ) (more : ℕ) → suc d < gone → Spread P (suc d) r old new more
-        → (i : ℕ) → i < r → getD words i 0 ≡ 0 → P i → (getD old i 0 < gone → getD old i 0 ≤ suc d) → getD new i 0 ≤ suc d
+        → (i : ℕ) → i < r → Unstruck words i → P i → (getD old i 0 < gone → getD old i 0 ≤ suc d) → getD new i 0 ≤ suc d
     spread-here P d new more small s i h z p low = by (s .each i h) (sure .each i h z)
       where
         by : Reaches (P i) (suc d) (getD old i 0) (getD new i 0) → Reached i (getD old i 0) → getD new i 0 ≤ suc d
@@ -101,7 +101,7 @@ module _ (S : System) (G : ℕ → Type 0) (table words : List ℕ) (r : ℕ) wh
         by (reached e q f) o = omega arith
 
     -- no way is shorter than what shut values say
-    shut-low : Shut old → (n i : ℕ) → i < r → getD words i 0 ≡ 0 → WayAt n i → (getD old i 0 ≤ n) × (getD old i 0 < gone)
+    shut-low : Shut old → (n i : ℕ) → i < r → Unstruck words i → WayAt n i → (getD old i 0 ≤ n) × (getD old i 0 < gone)
     shut-low shut zero i h z w = let b = sure .base i h z (w .1) in (omega arith, omega arith)
     shut-low shut (suc n) i h z w = by (start n (w .1 .2)) (shut-low shut n)
       where
@@ -109,7 +109,8 @@ module _ (S : System) (G : ℕ → Type 0) (table words : List ℕ) (r : ℕ) wh
         start zero w = w .0
         start (suc n) w = w .0
 
-        by : UnstruckIn table words r (w .1 .0) → ((i : ℕ) → i < r → getD words i 0 ≡ 0 → WayAt n i → (getD old i 0 ≤ n) × (getD old i 0 < gone))
+        by : UnstruckIn table words r
+            (w .1 .0) → ((i : ℕ) → i < r → Unstruck words i → WayAt n i → (getD old i 0 ≤ n) × (getD old i 0 < gone))
             → (getD old i 0 ≤ suc n) × (getD old i 0 < gone)
         by (m, k, e, y) rec =
             let q = rec m k y (subst (λ (x : ℕ). Way S (UnstruckIn table words r) G n x) (sym e) (w .1 .2)) in
@@ -122,11 +123,12 @@ module _ (S : System) (G : ℕ → Type 0) (table words : List ℕ) (r : ℕ) wh
     pub shut-near : Shut old → Near S G table words r old
     shut-near shut = record { long = sure .long; places = λ i h. by i h (ℕ-discrete (getD words i 0) 0) }
       where
-        at : (i : ℕ) → i < r → getD words i 0 ≡ 0 → Reached i (getD old i 0)
+        at : (i : ℕ) → i < r → Unstruck words i → Reached i (getD old i 0)
             → Place S (UnstruckIn table words r) G (getD table i 0) (getD words i 0) (getD old i 0)
         at i h z (inl e) = never z e (λ n w. let q = shut-low shut n i h z w .1 in omega arith)
         at i h z (inr (a, w)) = near z a w (λ n v. shut-low shut n i h z v .0)
 
-        by : (i : ℕ) → i < r → Dec (getD words i 0 ≡ 0) → Place S (UnstruckIn table words r) G (getD table i 0) (getD words i 0) (getD old i 0)
+        by : (i : ℕ) → i < r → Dec (Unstruck words i) → Place S (UnstruckIn table words r) G (getD table i 0) (getD words i 0)
+            (getD old i 0)
         by i h (yes z) = at i h z (sure .each i h z)
         by i h (no n) = struck n (sure .struck i h n)

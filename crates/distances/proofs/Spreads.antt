@@ -10,7 +10,7 @@ use lib.Seq.{getD-set-same, getD-set-other}
 use Rattle.meaning.specs.Strike.{Way}
 use Rattle.rules.specs.Book.{bookSystem}
 use Rattle.rules.proofs.Facts.{kept-is, kept-true}
-use Rattle.distances.specs.Far.{UnstruckIn, far, gone}
+use Rattle.distances.specs.Far.{Unstruck, UnstruckIn, far, gone}
 use Rattle.distances.specs.Values.{Begun, out, there, waits, fars, Reaches, as-was, reached, Spread, Opening, keptIn}
 use Rattle.distances.proofs.Totals.{total-set}
 
@@ -18,7 +18,12 @@ use Rattle.distances.proofs.Totals.{total-set}
 
 -- A spread that reaches nothing changes nothing, if its reason holds nowhere yet.
 pub spread-none : (P : ℕ → Type 0) (d r : ℕ) (near : List ℕ) → ((m : ℕ) → P m → ⊥) → Spread P d r near near 0
-spread-none P d r near never = record { long = refl; each = λ m h. as-was refl (λ o p. never m p); rest = λ m h. refl; counted = omega arith }
+spread-none P d r near never = record {
+  long = refl;
+  each = λ m h. as-was refl (λ o p. never m p);
+  rest = λ m h. refl;
+  counted = omega arith;
+}
 
 module _ (P Q : ℕ → Type 0) (d r : ℕ) (old near : List ℕ) (got : ℕ) (s : Spread P d r old near got) where
   -- A spread for one reason is one for another, if both hold at the same places that are not reached.
@@ -47,7 +52,8 @@ module _ (P Q : ℕ → Type 0) (d r : ℕ) (old near : List ℕ) (got : ℕ) (s
         omega arith
 
     -- A spread that reaches one place more.
-    pub spread-one : d < gone → Q x → ((m : ℕ) → P m → Q m) → ((m : ℕ) → (m ≡ x → ⊥) → Q m → P m) → Spread Q d r old (set near x d) (got + 1)
+    pub spread-one : d < gone → Q x → ((m : ℕ) → P m → Q m) → ((m : ℕ) → (m ≡ x → ⊥) → Q m → P m)
+        → Spread Q d r old (set near x d) (got + 1)
     spread-one small here to from = record {
       long = length-set near x d ∙ s .long;
       rest = λ m h. getD-set-other near x m d 0 (λ q. omega arith) ∙ s .rest m h;
@@ -74,7 +80,8 @@ pub record Begins (book : List ℕ) (k : ℕ) (table words : List ℕ) (r i : �
   pub each : (m : ℕ) → m < i → Begun (keptIn book k (getD table m 0)) (getD words m 0) (getD near m 0)
 
 -- Before the first turn no place has begun.
-pub begins-none : (book : List ℕ) (k : ℕ) (table words : List ℕ) (r : ℕ) (near : List ℕ) → length near ≡ r → Begins book k table words r 0 near
+pub begins-none : (book : List ℕ) (k : ℕ) (table words : List ℕ) (r : ℕ) (near : List ℕ) → length near ≡ r
+    → Begins book k table words r 0 near
 begins-none book k table words r near e = record { long = e; each = λ m h. absurd (omega arith) }
 
 -- one more place begins with v
@@ -128,9 +135,10 @@ begins-opening book k table words r i near b e = record {
     -- what an unstruck place's value says before the first layer is spread
     Says : ℕ → Type 0
     Says m = (getD near m 0 ≡ far)
-        ⊎ ((getD near m 0 < gone) × Way (bookSystem book) (UnstruckIn table words r) (bookSystem book .Kept k) (getD near m 0) (getD table m 0))
+        ⊎ ((getD near m 0 < gone) × Way (bookSystem book) (UnstruckIn table words r) (bookSystem book .Kept k) (getD near m 0)
+        (getD table m 0))
 
-    by : (m : ℕ) → m < r → getD words m 0 ≡ 0 → (getD near m 0 ≡ far) ⊎ ((getD near m 0 ≡ 0) × keptIn book k (getD table m 0)) → Says m
+    by : (m : ℕ) → m < r → Unstruck words m → (getD near m 0 ≡ far) ⊎ ((getD near m 0 ≡ 0) × keptIn book k (getD table m 0)) → Says m
     by m h z (inl q) = inl q
     by m h z (inr (q, t)) = inr (
       omega arith,

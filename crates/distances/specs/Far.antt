@@ -6,9 +6,13 @@ use lib.ListN.{length, getD}
 use Rattle.meaning.specs.System.{System}
 use Rattle.meaning.specs.Strike.{Way}
 
--- s is one of the table's first r states and unstruck: its word is 0
+-- place i is unstruck: its word is 0
+abbrev pub Unstruck : (words : List ℕ) (i : ℕ) → Type 0
+Unstruck words i = getD words i 0 ≡ 0
+
+-- s is one of the table's first r states and unstruck
 abbrev pub UnstruckIn : (table words : List ℕ) (r s : ℕ) → Type 0
-UnstruckIn table words r s = (i : ℕ) × (i < r) × (getD table i 0 ≡ s) × (getD words i 0 ≡ 0)
+UnstruckIn table words r s = (i : ℕ) × (i < r) × (getD table i 0 ≡ s) × Unstruck words i
 
 -- no distance: from here no path of unstruck states meets the promise
 abbrev pub far : ℕ

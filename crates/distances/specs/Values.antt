@@ -11,7 +11,7 @@ use Rattle.meaning.specs.System.{System}
 use Rattle.meaning.specs.Strike.{Way}
 use Rattle.rules.specs.Book.{promisesOf, bookKept, bookSystem}
 use Rattle.rules.specs.Table.{LawfulTable}
-use Rattle.distances.specs.Far.{UnstruckIn, far, gone, Place}
+use Rattle.distances.specs.Far.{Unstruck, UnstruckIn, far, gone, Place}
 
 -- what `sample_step::measure` asks of the sheet and the table
 pub record Measurable (book : List ℕ) (k : ℕ) (table words : List ℕ) (r : ℕ) : Type 0 where
@@ -41,8 +41,8 @@ farAt near i = getD near i 0 - gone
 abbrev pub fars : List ℕ → ℕ → ℕ
 fars near n = total (farAt near) n
 
--- of the first n places exactly those with value v stand in the list's first `tail`, ascending; beside those at 0 there is room for those not
--- reached yet, and of these there are as many as are counted
+-- of the first n places exactly those with value v stand in the list's first `tail`, ascending; beside those at 0 there is room for those
+-- not reached yet, and of these there are as many as are counted
 pub record LinedUp (v : ℕ) (near : List ℕ) (n tail : ℕ) (list : List ℕ) : Type 0 where
   pub few : tail ≤ n
   pub room : v ≡ 0 → tail + fars near n ≤ n
@@ -63,14 +63,14 @@ pub record Spread (P : ℕ → Type 0) (d n : ℕ) (old new : List ℕ) (got : �
   pub rest : (i : ℕ) → n ≤ i → getD new i 0 ≡ getD old i 0
   pub counted : got + fars new n ≡ fars old n
 
--- what the values say at any time, whichever way they are found: a struck place is gone, an unstruck one has no number yet or that of a way,
--- and one at the goal has 0
+-- what the values say at any time, whichever way they are found: a struck place is gone, an unstruck one has no number yet or that of a
+-- way, and one at the goal has 0
 pub record Sure (S : System) (G : ℕ → Type 0) (table words : List ℕ) (r : ℕ) (near : List ℕ) : Type 0 where
   pub long : length near ≡ r
-  pub struck : (i : ℕ) → i < r → (getD words i 0 ≡ 0 → ⊥) → getD near i 0 ≡ gone
-  pub each : (i : ℕ) → i < r → getD words i 0 ≡ 0
+  pub struck : (i : ℕ) → i < r → (Unstruck words i → ⊥) → getD near i 0 ≡ gone
+  pub each : (i : ℕ) → i < r → Unstruck words i
       → (getD near i 0 ≡ far) ⊎ ((getD near i 0 < gone) × Way S (UnstruckIn table words r) G (getD near i 0) (getD table i 0))
-  pub base : (i : ℕ) → i < r → getD words i 0 ≡ 0 → G (getD table i 0) → getD near i 0 ≡ 0
+  pub base : (i : ℕ) → i < r → Unstruck words i → G (getD table i 0) → getD near i 0 ≡ 0
 
 -- the beginning: the goal's places are at 0, and no other is reached
 pub record Opened (S : System) (G : ℕ → Type 0) (table words : List ℕ) (r : ℕ) (near : List ℕ) : Type 0 where

@@ -1,5 +1,5 @@
-// What distances to a promise are, and where both ways of finding them start: struck places are gone, the goal's are at 0, all others are not
-// reached yet, and the places with one value can be listed.
+// What distances to a promise are, and where both ways of finding them start: struck places are gone, the goal's are at 0, all others are
+// not reached yet, and the places with one value can be listed.
 
 use ground::State;
 ghost use mathlib.Core.Path.{_≡_};

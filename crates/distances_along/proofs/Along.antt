@@ -1,5 +1,5 @@
--- The queue: what the values and the queue say after the rows of its first places were followed. At its end the values are shut, so they are
--- the distances. Assumes nothing.
+-- The queue: what the values and the queue say after the rows of its first places were followed. At its end the values are shut, so they
+-- are the distances. Assumes nothing.
 use mathlib.Core.Path.{_≡_, refl, sym, ap, subst, _∙_}
 use mathlib.Core.List.{List}
 use Prim.Native.Nat.{ℕ, suc, _+_, _≤_, _<_}
@@ -13,7 +13,7 @@ use Rattle.meaning.specs.Promises.{mostStates}
 use Rattle.rules.specs.Book.{bookSystem}
 use Rattle.moves.specs.Moves.{Back}
 use Rattle.moves.specs.Layout.{movesSize, mostCells, startAt, endAt, cellAt, Backed, Ascending}
-use Rattle.distances.specs.Far.{gone}
+use Rattle.distances.specs.Far.{Unstruck, gone}
 use Rattle.distances.specs.Values.{fars, LinedUp, Reaches, as-was, reached, Sure, Opened, Near}
 use Rattle.distances_along.specs.Follow.{RowReady, Followed}
 use Rattle.distances.proofs.Shut.{reaches-keeps, sure-spread, spread-here, shut-near}
@@ -37,7 +37,7 @@ module _ (S : System) (G : ℕ → Type 0) (table words : List ℕ) (r : ℕ) wh
     pub rises : (t u : ℕ) → t ≤ u → u < tail → getD near (getD queue t 0) 0 ≤ getD near (getD queue u 0) 0
     pub whole : (i : ℕ) → i < r → getD near i 0 < gone → Between queue 0 tail i
     pub ahead : head < tail → (i : ℕ) → i < r → getD near i 0 < gone → getD near i 0 ≤ suc (getD near (getD queue head 0) 0)
-    pub steps : (t i : ℕ) → t < head → i < r → getD words i 0 ≡ 0 → S .Move (getD table i 0) (getD table (getD queue t 0) 0)
+    pub steps : (t i : ℕ) → t < head → i < r → Unstruck words i → S .Move (getD table i 0) (getD table (getD queue t 0) 0)
         → getD near i 0 ≤ suc (getD near (getD queue t 0) 0)
 
   -- The places at 0 are lined up, and no row was followed.
@@ -59,7 +59,7 @@ module _ (S : System) (G : ℕ → Type 0) (table words : List ℕ) (r : ℕ) wh
     pub along-done : tail ≤ head → Near S G table words r near
     along-done over = shut-near S G table words r near (a .sure) (λ i m h k z y v l. by i h z m v (a .whole m k l))
       where
-        by : (i : ℕ) → i < r → getD words i 0 ≡ 0 → (m : ℕ) → S .Move (getD table i 0) (getD table m 0) → Between queue 0 tail m
+        by : (i : ℕ) → i < r → Unstruck words i → (m : ℕ) → S .Move (getD table i 0) (getD table m 0) → Between queue 0 tail m
             → getD near i 0 ≤ suc (getD near m 0)
         by i h z m v (t, _, b, e) =
             let g = a .steps t i (omega arith) h z (subst (λ (x : ℕ). S .Move (getD table i 0) (getD table x 0)) (sym e) v) in
@@ -175,7 +175,7 @@ module _ (S : System) (G : ℕ → Type 0) (table words : List ℕ) (r : ℕ) wh
             by (as-was e f) = old (a .whole i h (omega arith))
             by (reached o p n) = joins (all .joined .whole i h o n)
 
-        steps′ : (t i : ℕ) → t < head + 1 → i < r → getD words i 0 ≡ 0 → S .Move (getD table i 0) (getD table (getD queue′ t 0) 0)
+        steps′ : (t i : ℕ) → t < head + 1 → i < r → Unstruck words i → S .Move (getD table i 0) (getD table (getD queue′ t 0) 0)
             → getD new i 0 ≤ suc (getD new (getD queue′ t 0) 0)
         steps′ t i h k z m = by (ℕ-discrete t head)
           where
@@ -187,7 +187,8 @@ module _ (S : System) (G : ℕ → Type 0) (table words : List ℕ) (r : ℕ) wh
 
             by : Dec (t ≡ head) → getD new i 0 ≤ suc (getD new (getD queue′ t 0) 0)
             by (yes q) =
-                let p = rows .whole i next k (along-next .0) (subst (λ (x : ℕ). S .Move (getD table i 0) (getD table (getD queue x 0) 0)) q moves) in
+                let p = rows .whole i next k (along-next .0)
+                (subst (λ (x : ℕ). S .Move (getD table i 0) (getD table (getD queue x 0) 0)) q moves) in
                 let b = spread-here S G table words r near (a .sure) Row number new got small (all .spread) i k z p (a .ahead more i k) in
                 let e = stays t inside in
                 let f : getD near (getD queue t 0) 0 ≡ number = ap (λ (x : ℕ). getD near (getD queue x 0) 0) q in

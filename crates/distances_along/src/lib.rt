@@ -11,8 +11,8 @@ ghost use Rattle.distances.specs.Far.{Measured};
 ghost use Rattle.distances.specs.Values.{Measurable, Near};
 ghost use Rattle.distances_along.specs.Follow.{Ready, RowReady, Followed};
 
-// Gives d to the places on the chain that begins with place c that are not reached yet, and puts them into the queue behind its first `tail`; how
-// many those are.
+// Gives d to the places on the chain that begins with place c that are not reached yet, and puts them into the queue behind its first
+// `tail`; how many those are.
 fn follow_chain(
     moves: &[u16],
     c: usize,
@@ -22,8 +22,8 @@ fn follow_chain(
     queue: &mut [u16],
 ) -> usize
     requires { ⌜ Ready (now moves) d (length (now near)) (now near) (now queue) tail × (c < length (now near)) ⌝ }
-    ensures { λ got. ⌜ Followed (λ i. Linked (now (moves .entry)) c i) d (length (now (near .entry))) (now (near .entry)) (now (near .exit)) tail
-        (now (queue .entry)) (now (queue .exit)) got ⌝ }
+    ensures { λ got. ⌜ Followed (λ i. Linked (now (moves .entry)) c i) d (length (now (near .entry))) (now (near .entry)) (now (near .exit))
+        tail (now (queue .entry)) (now (queue .exit)) got ⌝ }
 {
     let mut got: usize = 0;
     let mut i = c;
@@ -51,8 +51,8 @@ fn follow_row(
     queue: &mut [u16],
 ) -> usize
     requires { ⌜ RowReady (now moves) j d (length (now near)) (now near) (now queue) tail ⌝ }
-    ensures { λ got. ⌜ Followed (λ i. Backed (now (moves .entry)) i j) d (length (now (near .entry))) (now (near .entry)) (now (near .exit)) tail
-        (now (queue .entry)) (now (queue .exit)) got ⌝ }
+    ensures { λ got. ⌜ Followed (λ i. Backed (now (moves .entry)) i j) d (length (now (near .entry))) (now (near .entry)) (now (near .exit))
+        tail (now (queue .entry)) (now (queue .exit)) got ⌝ }
 {
     let end = moves::row_end(moves, j);
     let mut got: usize = 0;
@@ -67,8 +67,8 @@ fn follow_row(
     got
 }
 
-// The distances of the table's first r places, in a slice of that length, by the stored moves back: from each place of the queue in turn, its
-// row is followed.
+// The distances of the table's first r places, in a slice of that length, by the stored moves back: from each place of the queue in turn,
+// its row is followed.
 fn measure_back(
     book: &[State],
     k: usize,
@@ -81,8 +81,8 @@ fn measure_back(
 )
     requires { ⌜ Measurable (now book) k (now table) (now words) r × (length (now near) ≡ r)
         × Back (now book) (now table) r (now back) × (r ≤ length (now queue)) ⌝ }
-    ensures { λ _. ⌜ Near (bookSystem (now (book .entry))) (bookSystem (now (book .entry)) .Kept k) (now (table .entry)) (now (words .entry)) r
-        (now (near .exit)) × (length (now (queue .exit)) ≡ length (now (queue .entry))) ⌝ }
+    ensures { λ _. ⌜ Near (bookSystem (now (book .entry))) (bookSystem (now (book .entry)) .Kept k) (now (table .entry))
+        (now (words .entry)) r (now (near .exit)) × (length (now (queue .exit)) ≡ length (now (queue .entry))) ⌝ }
 {
     distances::begin(book, k, table, words, r, near);
     let mut tail = distances::line_up(near, r, 0, queue);
@@ -110,8 +110,8 @@ pub fn follow(
 )
     requires { ⌜ Measurable (now book) k (now table) (now words) r × (from + r ≤ length (now dist))
         × Back (now book) (now table) r (now back) × (r ≤ length (now queue)) ⌝ }
-    ensures { λ _. ⌜ Measured (bookSystem (now (book .entry))) (bookSystem (now (book .entry)) .Kept k) (now (table .entry)) (now (words .entry)) r from
-        (now (dist .entry)) (now (dist .exit)) × (length (now (queue .exit)) ≡ length (now (queue .entry))) ⌝ }
+    ensures { λ _. ⌜ Measured (bookSystem (now (book .entry))) (bookSystem (now (book .entry)) .Kept k) (now (table .entry))
+        (now (words .entry)) r from (now (dist .entry)) (now (dist .exit)) × (length (now (queue .exit)) ≡ length (now (queue .entry))) ⌝ }
 {
     let end = from + r;
     measure_back(book, k, table, words, r, back, queue, &mut dist[from..end]);

@@ -1,5 +1,5 @@
--- The layers: what the values say from place to place and from layer to layer; a layer that adds nothing or leaves nothing shuts them, so that they
--- are the distances. Assumes nothing.
+-- The layers: what the values say from place to place and from layer to layer; a layer that adds nothing or leaves nothing shuts them, so
+-- that they are the distances. Assumes nothing.
 use mathlib.Core.Path.{_≡_, subst}
 use mathlib.Core.Logic.{inl, inr}
 use mathlib.Core.List.{List}
@@ -8,9 +8,19 @@ use native.Mathlib.Decide.{decLt, ℕ-discrete}
 use native.Mathlib.Omega.{arith}
 use lib.ListN.{getD}
 use Rattle.meaning.specs.System.{System}
-use Rattle.distances.specs.Far.{gone}
+use Rattle.distances.specs.Far.{Unstruck, gone}
 use Rattle.distances.specs.Values.{fars, Reaches, as-was, reached, Spread, Opened, Near}
-use Rattle.distances.proofs.Shut.{Shut, reaches-keeps, spread-counts, none-far, reached-near, near-live, sure-spread, spread-here, shut-near}
+use Rattle.distances.proofs.Shut.{
+  Shut,
+  reaches-keeps,
+  spread-counts,
+  none-far,
+  reached-near,
+  near-live,
+  sure-spread,
+  spread-here,
+  shut-near,
+}
 use Rattle.distances_tests.specs.Layers.{Done, Layered}
 
 module _ (S : System) (G : ℕ → Type 0) (table words : List ℕ) (r : ℕ) where
@@ -56,7 +66,7 @@ module _ (S : System) (G : ℕ → Type 0) (table words : List ℕ) (r : ℕ) wh
         at-most : getD old k 0 ≤ d
         at-most = most (getD old k 0) known
 
-        step : (i m : ℕ) → i < r → m < r → getD words i 0 ≡ 0 → getD words m 0 ≡ 0 → S .Move (getD table i 0) (getD table m 0)
+        step : (i m : ℕ) → i < r → m < r → Unstruck words i → Unstruck words m → S .Move (getD table i 0) (getD table m 0)
             → Dec (m ≡ j) → Done d (j + 1) m (getD old m 0) → getD old i 0 ≤ suc (getD old m 0)
         step i m h g a b v q (inl l) = L .steps i m h g a b v (inl l)
         step i m h g a b v (no q) (inr (e, l)) = L .steps i m h g a b v (inr (e, omega arith))
@@ -74,7 +84,7 @@ module _ (S : System) (G : ℕ → Type 0) (table words : List ℕ) (r : ℕ) wh
       steps = λ i m h k a b v done. by i m h k a b v done;
     }
       where
-        by : (i m : ℕ) → i < r → m < r → getD words i 0 ≡ 0 → getD words m 0 ≡ 0 → S .Move (getD table i 0) (getD table m 0)
+        by : (i m : ℕ) → i < r → m < r → Unstruck words i → Unstruck words m → S .Move (getD table i 0) (getD table m 0)
             → Done d r m (getD old m 0) → getD old i 0 ≤ suc (getD old m 0)
         by i m h k a b v (inl l) = L .steps i m h k a b v (inl l)
         by i m h k a b v (inr (e, l)) =
@@ -103,7 +113,7 @@ module _ (S : System) (G : ℕ → Type 0) (table words : List ℕ) (r : ℕ) wh
             → getD new i 0 ≤ suc (getD new m 0)
         known i m h e b l = let k = reaches-keeps (s .each i h) (omega arith) in omega arith
 
-        step : (i m : ℕ) → i < r → m < r → getD words i 0 ≡ 0 → getD words m 0 ≡ 0 → S .Move (getD table i 0) (getD table m 0)
+        step : (i m : ℕ) → i < r → m < r → Unstruck words i → Unstruck words m → S .Move (getD table i 0) (getD table m 0)
             → Dec (m ≡ j) → Reaches (P m) (suc d) (getD old m 0) (getD new m 0) → Done d (j + 1) m (getD new m 0)
             → getD new i 0 ≤ suc (getD new m 0)
         step i m h k a b v q (reached e p f) (inl g) = absurd (omega arith)

@@ -1,5 +1,5 @@
--- What the functions that find distances by tests promise one another: which places are listed, what one spread does to them, who serves for
--- whom, and what the values say while a layer is being spread. Assumes nothing.
+-- What the functions that find distances by tests promise one another: which places are listed, what one spread does to them, who serves
+-- for whom, and what the values say while a layer is being spread. Assumes nothing.
 use mathlib.Core.Path.{_≡_}
 use mathlib.Core.Logic.{_⊎_}
 use mathlib.Core.List.{List}
@@ -10,7 +10,7 @@ use Rattle.meaning.specs.Promises.{mostStates}
 use Rattle.rules.specs.Book.{bookSystem}
 use Rattle.rules.specs.Table.{To}
 use Rattle.rules_signs.specs.Signs.{Signed}
-use Rattle.distances.specs.Far.{far, gone}
+use Rattle.distances.specs.Far.{Unstruck, far, gone}
 use Rattle.distances.specs.Values.{fars, LinedUp, Spread, Sure, Opening, Near}
 
 -- the places not reached yet, and no other, are the first `left` of the list
@@ -45,7 +45,7 @@ pub record Served (book table : List ℕ) (r d j : ℕ) (near : List ℕ) : Type
 pub record Layered (S : System) (G : ℕ → Type 0) (table words : List ℕ) (r d j got : ℕ) (near : List ℕ) : Type 0 where
   pub sure : Sure S G table words r near
   pub low : (i : ℕ) → i < r → getD near i 0 < gone → (getD near i 0 ≤ suc d) × (getD near i 0 ≤ d + got)
-  pub steps : (i m : ℕ) → i < r → m < r → getD words i 0 ≡ 0 → getD words m 0 ≡ 0 → S .Move (getD table i 0) (getD table m 0)
+  pub steps : (i m : ℕ) → i < r → m < r → Unstruck words i → Unstruck words m → S .Move (getD table i 0) (getD table m 0)
       → Done d j m (getD near m 0) → getD near i 0 ≤ suc (getD near m 0)
 
 -- layer d may be spread: pairs can be tested, the `left` places not reached yet are listed, and there is room for the numbers

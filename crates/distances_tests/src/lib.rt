@@ -1,5 +1,5 @@
-// Distances to a promise by tests of pairs, layer by layer: each state of the last layer is looked at once, and only against the states that are
-// not reached yet, which are listed, unless another state did as much before it.
+// Distances to a promise by tests of pairs, layer by layer: each state of the last layer is looked at once, and only against the states
+// that are not reached yet, which are listed, unless another state did as much before it.
 
 use ground::State;
 ghost use mathlib.Core.Path.{_≡_};
@@ -82,8 +82,8 @@ fn serves(
     false
 }
 
-// Whether it is sure that another place serves for place j, so that it need not be spread from: the last one that was, of those with the same
-// slot. Not looked for where few places are left, since they are soon tested. If none does, j is the last one.
+// Whether it is sure that another place serves for place j, so that it need not be spread from: the last one that was, of those with the
+// same slot. Not looked for where few places are left, since they are soon tested. If none does, j is the last one.
 fn served(
     book: &[State],
     table: &[State],
@@ -111,8 +111,8 @@ fn served(
     false
 }
 
-// Spreads layer d: gives d + 1 to the listed places, which are not reached yet, that move into it; how many are left in the list. Stops where
-// none is. A place for which another serves is passed by.
+// Spreads layer d: gives d + 1 to the listed places, which are not reached yet, that move into it; how many are left in the list. Stops
+// where none is. A place for which another serves is passed by.
 fn layer(
     book: &[State],
     table: &[State],
@@ -177,8 +177,8 @@ fn layers(
 }
 
 // The distances of the table's first r places, in a slice of that length, with room for a list of places. Where few places are left at the
-// beginning the table of those spread from is never asked, so it is not made. What a slot holds is tested before it is believed, so that zeros will
-// do at first.
+// beginning the table of those spread from is never asked, so it is not made. What a slot holds is tested before it is believed, so that
+// zeros will do at first.
 fn measure(
     book: &[State],
     k: usize,
@@ -191,8 +191,8 @@ fn measure(
 )
     requires { ⌜ Measurable (now book) k (now table) (now words) r × (length (now near) ≡ r) × (r ≤ length (now list))
         × Signed (now book) (now table) r (now signs) ⌝ }
-    ensures { λ _. ⌜ Near (bookSystem (now (book .entry))) (bookSystem (now (book .entry)) .Kept k) (now (table .entry)) (now (words .entry)) r
-        (now (near .exit)) × (length (now (list .exit)) ≡ length (now (list .entry))) ⌝ }
+    ensures { λ _. ⌜ Near (bookSystem (now (book .entry))) (bookSystem (now (book .entry)) .Kept k) (now (table .entry))
+        (now (words .entry)) r (now (near .exit)) × (length (now (list .exit)) ≡ length (now (list .entry))) ⌝ }
 {
     distances::begin(book, k, table, words, r, near);
     let left = distances::line_up(near, r, distances::FAR, list);
@@ -219,8 +219,8 @@ pub fn by_tests(
 )
     requires { ⌜ Measurable (now book) k (now table) (now words) r × (from + r ≤ length (now dist)) × (r ≤ length (now queue))
         × Signed (now book) (now table) r (now signs) ⌝ }
-    ensures { λ _. ⌜ Measured (bookSystem (now (book .entry))) (bookSystem (now (book .entry)) .Kept k) (now (table .entry)) (now (words .entry)) r from
-        (now (dist .entry)) (now (dist .exit)) × (length (now (queue .exit)) ≡ length (now (queue .entry))) ⌝ }
+    ensures { λ _. ⌜ Measured (bookSystem (now (book .entry))) (bookSystem (now (book .entry)) .Kept k) (now (table .entry))
+        (now (words .entry)) r from (now (dist .entry)) (now (dist .exit)) × (length (now (queue .exit)) ≡ length (now (queue .entry))) ⌝ }
 {
     let end = from + r;
     measure(book, k, table, words, r, queue, &mut dist[from..end], signs);

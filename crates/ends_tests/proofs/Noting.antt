@@ -7,6 +7,7 @@ use native.Mathlib.Omega.{arith}
 use lib.ListN.{length, getD, set, length-set}
 use lib.Seq.{getD-set-same, getD-set-other}
 use Rattle.ground.specs.Listed.{Between}
+use Rattle.distances.specs.Far.{Unstruck}
 use Rattle.watch.specs.Witness.{Log}
 
 module _ (r : ℕ) (old before : List ℕ) (m : ℕ) where
@@ -16,7 +17,7 @@ module _ (r : ℕ) (old before : List ℕ) (m : ℕ) where
     pub kept : (t : ℕ) → t < m → getD log t 0 ≡ getD before t 0
     pub grows : m ≤ end
     pub places : (t : ℕ) → t < end → getD log t 0 < r
-    pub noted : (i : ℕ) → i < r → getD old i 0 ≡ 0 → (getD words i 0 ≡ 0 → ⊥) → Between log m end i
+    pub noted : (i : ℕ) → i < r → Unstruck old i → (Unstruck words i → ⊥) → Between log m end i
 
   -- Before the first place nothing fell.
   pub noting-none : Log old r before m → Noting m old before
@@ -29,7 +30,8 @@ module _ (r : ℕ) (old before : List ℕ) (m : ℕ) where
   }
 
   -- Place i falls, and is written behind the last.
-  pub noting-more : (end i v : ℕ) (words log : List ℕ) → Noting end words log → i < r → end < length log → Noting (end + 1) (set words i v) (set log end i)
+  pub noting-more : (end i v : ℕ) (words log : List ℕ) → Noting end words log → i < r → end < length log
+      → Noting (end + 1) (set words i v) (set log end i)
   noting-more end i v words log N inside room = record {
     long = length-set log end i ∙ N .long;
     kept = λ t h. let a = N .grows in getD-set-other log end t i 0 (λ e. omega arith) ∙ N .kept t h;
@@ -39,12 +41,13 @@ module _ (r : ℕ) (old before : List ℕ) (m : ℕ) where
   }
     where
       place-at : (t : ℕ) → t < end + 1 → Dec (t ≡ end) → getD (set log end i) t 0 < r
-      place-at t h (yes e) = subst (λ (x : ℕ). getD (set log end i) x 0 < r) (sym e) (subst (λ (x : ℕ). x < r) (sym (getD-set-same log end i 0 room)) inside)
+      place-at t h (yes e) = subst (λ (x : ℕ). getD (set log end i) x 0 < r) (sym e)
+          (subst (λ (x : ℕ). x < r) (sym (getD-set-same log end i 0 room)) inside)
       place-at t h (no e) = subst (λ (x : ℕ). x < r) (sym (getD-set-other log end t i 0 e)) (N .places t (omega arith))
 
       longer : (j : ℕ) → Between log m end j → Between (set log end i) m (end + 1) j
       longer j (t, a, b, e) = (t, a, omega arith, getD-set-other log end t i 0 (λ q. omega arith) ∙ e)
 
-      noted-at : (j : ℕ) → j < r → getD old j 0 ≡ 0 → (getD (set words i v) j 0 ≡ 0 → ⊥) → Dec (j ≡ i) → Between (set log end i) m (end + 1) j
+      noted-at : (j : ℕ) → j < r → Unstruck old j → (Unstruck (set words i v) j → ⊥) → Dec (j ≡ i) → Between (set log end i) m (end + 1) j
       noted-at j h z n (yes e) = (end, N .grows, omega arith, getD-set-same log end i 0 room ∙ sym e)
       noted-at j h z n (no e) = longer j (N .noted j h z (λ y. n (getD-set-other words i j v 0 e ∙ y)))

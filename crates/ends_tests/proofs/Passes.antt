@@ -13,7 +13,7 @@ use Rattle.meaning.specs.Strike.{SavedBy}
 use Rattle.ground.proofs.Tests.{passes}
 use Rattle.rules.specs.Book.{bookSystem}
 use Rattle.rules.specs.Table.{To}
-use Rattle.distances.specs.Far.{UnstruckIn}
+use Rattle.distances.specs.Far.{Unstruck, UnstruckIn}
 use Rattle.watch.specs.Witness.{freeIn}
 use Rattle.ends_tests.specs.Phases.{
   Counts,
@@ -47,11 +47,11 @@ module _ (book table : List ℕ) (r v : ℕ) (old : List ℕ) (from : ℕ) where
   SavedAt i = SavedBy (bookSystem book) (UnstruckIn table old r) 0 (getD table i 0)
 
   -- a move to a place that was unstruck saves
-  saved-to : (i j : ℕ) → j < r → getD old j 0 ≡ 0 → To book table i j → SavedAt i
+  saved-to : (i j : ℕ) → j < r → Unstruck old j → To book table i j → SavedAt i
   saved-to i j h z t = (getD table j 0, t, (j, h, refl, z))
 
   -- what is saved has such a move
-  saved-from : (i : ℕ) → ((m : ℕ) → m < r → getD old m 0 ≡ 0 → To book table i m → ⊥) → SavedAt i → ⊥
+  saved-from : (i : ℕ) → ((m : ℕ) → m < r → Unstruck old m → To book table i m → ⊥) → SavedAt i → ⊥
   saved-from i no-move (t, m, (j, h, e, z)) = no-move j h z (subst (λ (x : ℕ). bookSystem book .Move (getD table i 0) x) (sym e) m)
 
   -- the first i places are judged, and as many of them fell as the log has grown since `from`
@@ -59,7 +59,7 @@ module _ (book table : List ℕ) (r v : ℕ) (old : List ℕ) (from : ℕ) where
     pub long : length words ≡ length old
     pub each : (m : ℕ) → m < i → Falls (SavedAt m) v (getD old m 0) (getD words m 0)
     pub rest : (m : ℕ) → i ≤ m → getD words m 0 ≡ getD old m 0
-    pub pointers : (m : ℕ) → m < r → getD words m 0 ≡ 0 → Points book table old r m (getD row m 0)
+    pub pointers : (m : ℕ) → m < r → Unstruck words m → Points book table old r m (getD row m 0)
     pub counted : (end - from) + freeIn words r ≡ freeIn old r
 
   -- Before the first place nothing is judged.
@@ -74,23 +74,23 @@ module _ (book table : List ℕ) (r v : ℕ) (old : List ℕ) (from : ℕ) where
 
   module _ (u : Unphased old r v) (i end : ℕ) (words row : List ℕ) (P : Passing i end words row) where
     -- A place counts exactly if it was unstruck before the phase.
-    counts-was : (m : ℕ) → m < r → Counts v (getD words m 0) → getD old m 0 ≡ 0
+    counts-was : (m : ℕ) → m < r → Counts v (getD words m 0) → Unstruck old m
     counts-was m h k = by (decLt m i) k
       where
-        same : getD words m 0 ≡ getD old m 0 → Counts v (getD words m 0) → getD old m 0 ≡ 0
+        same : getD words m 0 ≡ getD old m 0 → Counts v (getD words m 0) → Unstruck old m
         same e (inl z) = sym e ∙ z
         same e (inr q) = absurd (let b = u .below m h in omega arith)
 
-        judged : Falls (SavedAt m) v (getD old m 0) (getD words m 0) → Counts v (getD words m 0) → getD old m 0 ≡ 0
+        judged : Falls (SavedAt m) v (getD old m 0) (getD words m 0) → Counts v (getD words m 0) → Unstruck old m
         judged (was a e) c = same e c
         judged (stays a b s) c = a
         judged (falls a b s) c = a
 
-        by : Dec (m < i) → Counts v (getD words m 0) → getD old m 0 ≡ 0
+        by : Dec (m < i) → Counts v (getD words m 0) → Unstruck old m
         by (yes l) c = judged (P .each m l) c
         by (no l) c = same (P .rest m (omega arith)) c
 
-    was-counts : (m : ℕ) → m < r → getD old m 0 ≡ 0 → Counts v (getD words m 0)
+    was-counts : (m : ℕ) → m < r → Unstruck old m → Counts v (getD words m 0)
     was-counts m h z = by (decLt m i)
       where
         judged : Falls (SavedAt m) v (getD old m 0) (getD words m 0) → Counts v (getD words m 0)
@@ -104,7 +104,7 @@ module _ (book table : List ℕ) (r v : ℕ) (old : List ℕ) (from : ℕ) where
 
     -- Place i is judged, and its word stays.
     kept-word : Falls (SavedAt i) v (getD old i 0) (getD words i 0) → (new : List ℕ)
-        → ((m : ℕ) → m < r → getD words m 0 ≡ 0 → Points book table old r m (getD new m 0)) → Passing (i + 1) end words new
+        → ((m : ℕ) → m < r → Unstruck words m → Points book table old r m (getD new m 0)) → Passing (i + 1) end words new
     kept-word f new points = record {
       long = P .long;
       each = λ m h. at m h (ℕ-discrete m i);
@@ -118,7 +118,8 @@ module _ (book table : List ℕ) (r v : ℕ) (old : List ℕ) (from : ℕ) where
         at m h (no q) = P .each m (omega arith)
 
     -- what the pointer of an unstruck place says of the places below it, if its own place does not count
-    clear-below : (q : ℕ) → Points book table old r i q → (Pointing words q v → ⊥) → (m : ℕ) → m < q → m < r → getD old m 0 ≡ 0 → To book table i m → ⊥
+    clear-below : (q : ℕ) → Points book table old r i q → (Pointing words q v → ⊥) → (m : ℕ) → m < q → m < r → Unstruck old m
+        → To book table i m → ⊥
     clear-below q (fresh e) shut m l h z t = omega arith
     clear-below q (target j e k to low) shut m l h z t = by (ℕ-discrete m j)
       where
@@ -160,7 +161,7 @@ module _ (book table : List ℕ) (r v : ℕ) (old : List ℕ) (from : ℕ) where
         mine : Points book table old r i (getD row i 0)
         mine = P .pointers i inside z
 
-        nothing : (m : ℕ) → m < j → getD old m 0 ≡ 0 → To book table i m → ⊥
+        nothing : (m : ℕ) → m < j → Unstruck old m → To book table i m → ⊥
         nothing m l y to = by (decLt m (getD row i 0))
           where
             by : Dec (m < getD row i 0) → ⊥
@@ -170,7 +171,7 @@ module _ (book table : List ℕ) (r v : ℕ) (old : List ℕ) (from : ℕ) where
         here : Points book table old r i (getD (set row i q) i 0)
         here = target j (getD-set-same row i q 0 long ∙ f) h t nothing
 
-        at : (m : ℕ) → m < r → getD words m 0 ≡ 0 → Dec (m ≡ i) → Points book table old r m (getD (set row i q) m 0)
+        at : (m : ℕ) → m < r → Unstruck words m → Dec (m ≡ i) → Points book table old r m (getD (set row i q) m 0)
         at m k y (yes d) = subst (λ (x : ℕ). Points book table old r x (getD (set row i q) x 0)) (sym d) here
         at m k y (no d) = subst (λ (x : ℕ). Points book table old r m x) (sym (getD-set-other row i m q 0 d)) (P .pointers m k y)
 
@@ -191,7 +192,7 @@ module _ (book table : List ℕ) (r v : ℕ) (old : List ℕ) (from : ℕ) where
         mine : Points book table old r i (getD row i 0)
         mine = P .pointers i inside z
 
-        nothing : (m : ℕ) → m < r → getD old m 0 ≡ 0 → To book table i m → ⊥
+        nothing : (m : ℕ) → m < r → Unstruck old m → To book table i m → ⊥
         nothing m h y to = by (decLt m (getD row i 0))
           where
             by : Dec (m < getD row i 0) → ⊥
@@ -203,17 +204,19 @@ module _ (book table : List ℕ) (r v : ℕ) (old : List ℕ) (from : ℕ) where
 
         at : (m : ℕ) → m < i + 1 → Dec (m ≡ i) → Falls (SavedAt m) v (getD old m 0) (getD (set words i v) m 0)
         at m h (yes d) = subst (λ (x : ℕ). Falls (SavedAt x) v (getD old x 0) (getD (set words i v) x 0)) (sym d) here
-        at m h (no d) = subst (λ (x : ℕ). Falls (SavedAt m) v (getD old m 0) x) (sym (getD-set-other words i m v 0 d)) (P .each m (omega arith))
+        at m h (no d) = subst (λ (x : ℕ). Falls (SavedAt m) v (getD old m 0) x) (sym (getD-set-other words i m v 0 d))
+            (P .each m (omega arith))
 
-        points : (m : ℕ) → m < r → getD (set words i v) m 0 ≡ 0 → Dec (m ≡ i) → Points book table old r m (getD row m 0)
+        points : (m : ℕ) → m < r → Unstruck (set words i v) m → Dec (m ≡ i) → Points book table old r m (getD row m 0)
         points m h y (no d) = P .pointers m h (sym (getD-set-other words i m v 0 d) ∙ y)
         points m h y (yes d) =
-            let a : getD (set words i v) m 0 ≡ v = subst (λ (x : ℕ). getD (set words i v) x 0 ≡ v) (sym d) (getD-set-same words i v 0 (within inside)) in
+            let a : getD (set words i v) m 0 ≡ v = subst (λ (x : ℕ). getD (set words i v) x 0 ≡ v) (sym d)
+            (getD-set-same words i v 0 (within inside)) in
             let b = u .some in
             absurd (omega arith)
 
     -- the pointer of an unstruck place lies within the table
-    pub pointer-within : i < r → getD words i 0 ≡ 0 → getD row i 0 ≤ r
+    pub pointer-within : i < r → Unstruck words i → getD row i 0 ≤ r
     pointer-within inside z = by (P .pointers i inside z)
       where
         by : Points book table old r i (getD row i 0) → getD row i 0 ≤ r
@@ -230,12 +233,14 @@ module _ (book table : List ℕ) (r v : ℕ) (old : List ℕ) (from : ℕ) where
     passing-phased e = record { long = P .long; counted = P .counted; each = λ m h. P .each m (omega arith) }
 
     pub passing-pointers : i ≡ r → Pointers book table words row r
-    passing-pointers e m h z = points-fewer book table old words r m (getD row m 0) (phased-free (passing-phased e) (u .some)) (P .pointers m h z)
+    passing-pointers e m h z = points-fewer book table old words r m (getD row m 0) (phased-free (passing-phased e) (u .some))
+        (P .pointers m h z)
 
 -- With the log that was written, the phase is done.
 pub passing-done : {book table words row signs before : List ℕ} {from v : ℕ} → Striking book table words row signs before from v
     → (i end : ℕ) (words′ row′ log : List ℕ) → i ≡ length row → Passing book table (length row) v words from i end words′ row′
-    → Noting (length row) words before from end words′ log → length row′ ≡ length row → DeadDone book table v words words′ row row′ before log from end
+    → Noting (length row) words before from end words′ log → length row′ ≡ length row → DeadDone book table v words words′ row row′ before
+    log from end
 passing-done {book} {table} {words} {row} {signs} {before} {from} {v} K i end words′ row′ log e P N long = record {
   phased = passing-phased book table (length row) v words from (K .unphased) i end words′ row′ P e;
   pointers = passing-pointers book table (length row) v words from (K .unphased) i end words′ row′ P e;

@@ -12,7 +12,7 @@ use Rattle.meaning.specs.Promises.{mostStates}
 use Rattle.rules.specs.Book.{bookSystem}
 use Rattle.rules.specs.Table.{To}
 use Rattle.rules_signs.specs.Signs.{Signed}
-use Rattle.distances.specs.Far.{UnstruckIn}
+use Rattle.distances.specs.Far.{Unstruck, UnstruckIn}
 use Rattle.watch.specs.Witness.{freeIn, Log}
 
 -- A word that counts as unstruck in the phase that gives the word v: 0, or v itself, since states fall together.
@@ -22,12 +22,12 @@ Counts v x = (x ≡ 0) ⊎ (x ≡ v)
 -- A place's pointer: 0, or one more than the place of a next state, below which no next state is unstruck.
 pub data Points (book table words : List ℕ) (r i q : ℕ) : Type 0 where
   fresh : q ≡ 0 → Points book table words r i q
-  target : (j : ℕ) → q ≡ suc j → j < r → To book table i j → ((m : ℕ) → m < j → getD words m 0 ≡ 0 → To book table i m → ⊥)
+  target : (j : ℕ) → q ≡ suc j → j < r → To book table i j → ((m : ℕ) → m < j → Unstruck words m → To book table i m → ⊥)
       → Points book table words r i q
 
 -- the pointers of all unstruck places
 abbrev pub Pointers : (book table words row : List ℕ) (r : ℕ) → Type 0
-Pointers book table words row r = (i : ℕ) → i < r → getD words i 0 ≡ 0 → Points book table words r i (getD row i 0)
+Pointers book table words row r = (i : ℕ) → i < r → Unstruck words i → Points book table words r i (getD row i 0)
 
 -- the place that the pointer q names counts
 abbrev pub Pointing : (words : List ℕ) (q v : ℕ) → Type 0
@@ -35,9 +35,9 @@ Pointing words q v = (0 < q) × Counts v (getD words (q - 1) 0)
 
 -- whether place i's pointer, q, must move: the place is struck, the pointer's place still counts, or neither
 pub data Pending (words : List ℕ) (i q v : ℕ) (b : Bool) : Type 0 where
-  hit : b ≡ false → (getD words i 0 ≡ 0 → ⊥) → Pending words i q v b
-  settled : b ≡ false → getD words i 0 ≡ 0 → Pointing words q v → Pending words i q v b
-  open-yet : b ≡ true → getD words i 0 ≡ 0 → (Pointing words q v → ⊥) → Pending words i q v b
+  hit : b ≡ false → (Unstruck words i → ⊥) → Pending words i q v b
+  settled : b ≡ false → Unstruck words i → Pointing words q v → Pending words i q v b
+  open-yet : b ≡ true → Unstruck words i → (Pointing words q v → ⊥) → Pending words i q v b
 
 -- the place after the first one from `lo` on that counts and that s moves to, or 0
 pub data Sought (book table words : List ℕ) (v r s lo q : ℕ) : Type 0 where
@@ -90,4 +90,4 @@ pub record DeadDone (book table : List ℕ) (v : ℕ) (words words′ row row′
   pub kept : (t : ℕ) → t < m → getD log′ t 0 ≡ getD log t 0
   pub grows : m ≤ m′
   pub log-is : Log words′ (length row) log′ m′
-  pub noted : (i : ℕ) → i < length row → getD words i 0 ≡ 0 → (getD words′ i 0 ≡ 0 → ⊥) → Between log′ m m′ i
+  pub noted : (i : ℕ) → i < length row → Unstruck words i → (Unstruck words′ i → ⊥) → Between log′ m m′ i

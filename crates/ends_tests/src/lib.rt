@@ -1,5 +1,6 @@
-// Dead ends: reason 0 of a round strikes together the states with no move to an unstruck state. Each unstruck place keeps a pointer to its first
-// next state that is unstruck; only where that one has been struck since is the next one sought. A state without a next state is found by listing.
+// Dead ends: reason 0 of a round strikes together the states with no move to an unstruck state. Each unstruck place keeps a pointer to its
+// first next state that is unstruck; only where that one has been struck since is the next one sought. A state without a next state is
+// found by listing.
 
 use ground::State;
 ghost use mathlib.Core.Path.{_≡_};
@@ -8,6 +9,7 @@ ghost use lib.ListN.{length, getD};
 ghost use Rattle.ground.specs.Says.{Says};
 ghost use Rattle.rules.specs.Table.{To};
 ghost use Rattle.table_lookup.specs.Lookup.{StandsAt};
+ghost use Rattle.distances.specs.Far.{Unstruck};
 ghost use Rattle.ends_tests.specs.Phases.{Striking, DeadDone, Seekable, Counts, Sought, Pointing, Pending};
 
 // So many places are tested before the next states are listed: mostly a next state stands among them, and a listing costs more than a test.
@@ -80,8 +82,8 @@ fn still_stands(table: &[State], words: &[u32], r: usize, p: usize, x: State, wo
     false
 }
 
-// The place after the first one that counts and that place i moves to, if it is known that none before `lo` is such; 0 if there is none. The
-// least next state is listed: no place before it is a next state, since the table rises.
+// The place after the first one that counts and that place i moves to, if it is known that none before `lo` is such; 0 if there is none.
+// The least next state is listed: no place before it is a next state, since the table rises.
 fn seek_listed(
     book: &[State],
     table: &[State],
@@ -153,7 +155,7 @@ fn points(words: &[u32], q: usize, word: u32) -> bool
 
 // Whether place i is unstruck and its pointer, q, must move.
 fn pending(words: &[u32], i: usize, q: usize, word: u32) -> bool
-    requires { ⌜ (i < length (now words)) × (getD (now words) i 0 ≡ 0 → q ≤ length (now words)) ⌝ }
+    requires { ⌜ (i < length (now words)) × (Unstruck (now words) i → q ≤ length (now words)) ⌝ }
     ensures { λ b. ⌜ Pending (now (words .entry)) i q word b ⌝ }
 {
     if words[i] != 0 {

@@ -9,7 +9,7 @@ ghost use lib.ListN.{length};
 ghost use Rattle.meaning.specs.Promises.{mostStates};
 ghost use Rattle.rules.specs.Book.{bookSystem};
 ghost use Rattle.rules_signs.specs.Signs.{Signed};
-ghost use Rattle.moves.specs.Moves.{tinyStates};
+ghost use Rattle.rules_signs.specs.Sizes.{tinyStates};
 ghost use Rattle.judge_answer.specs.Judging.{lentOf, outcomeOf, JudgedBy};
 ghost use Rattle.judge_book.specs.Kept.{Kept, HandedOver};
 

@@ -30,7 +30,7 @@ fn judge_reached(
         (lentOf (now (table .entry)) (now (words .entry)) (now (scratch .entry)) (now (run .entry)))
         (outcomeOf j (lentOf (now (table .exit)) (now (words .exit)) (now (scratch .exit)) (now (run .exit)))) ⌝ }
 {
-    if r <= moves::TINY_STATES {
+    if r <= rules_signs::TINY_STATES {
         return judge_tiny(book, table, words, scratch, run, r);
     }
     let left = strike::strike(book, table, words, r);

@@ -9,14 +9,11 @@ ghost use lib.ListN.{length};
 ghost use Rattle.rules.specs.Book.{bookSystem};
 ghost use Rattle.rules.specs.Table.{LawfulTable};
 ghost use Rattle.rules_signs.specs.Signs.{headSize, Signed};
-ghost use Rattle.moves.specs.Moves.{tinyStates};
+ghost use Rattle.rules_signs.specs.Sizes.{tinyStates};
 ghost use Rattle.table_order.specs.Arranged.{InFront};
 ghost use Rattle.table_order.specs.Placing.{Keepable};
 ghost use Rattle.judge_answer.specs.Judging.{lentOf, outcomeOf, JudgedBy};
 ghost use Rattle.judge_book.specs.Reached.{Reached};
-
-// Room for the signs of tiny tables: of 256 step rules for each state.
-const TINY_SIGNS: usize = rules_signs::HEAD + moves::TINY_STATES * 8;
 
 // Once striking left some of the r states: puts those in front, and tells how many they are. Their signs are written anew only where some state
 // was struck.
@@ -80,6 +77,6 @@ pub fn judge_tiny(
         (lentOf (now (table .entry)) (now (words .entry)) (now (scratch .entry)) (now (run .entry)))
         (outcomeOf j (lentOf (now (table .exit)) (now (words .exit)) (now (scratch .exit)) (now (run .exit)))) ⌝ }
 {
-    let mut signs = [0u64; TINY_SIGNS];
+    let mut signs = [0u64; rules_signs::TINY_SIGNS];
     judge_signed(book, table, words, scratch, run, r, &mut signs)
 }

@@ -1,5 +1,5 @@
--- Where stored moves stand in one list of numbers: for each place the cell that its row starts at, then for each place the cell that its row
--- ends before, then the cells, then for each place a link to another place of its class. Assumes nothing.
+-- Where stored moves stand in one list of numbers: for each place the cell that its row starts at, then for each place the cell that its
+-- row ends before, then the cells, then for each place a link to another place of its class. Assumes nothing.
 use mathlib.Core.Path.{_≡_}
 use mathlib.Core.List.{List}
 use mathlib.Core.Logic.{_⊎_}
@@ -22,6 +22,10 @@ cellsFrom = 32768
 
 abbrev pub linksFrom : ℕ
 linksFrom = 49152
+
+-- the greatest number that a place of the list holds
+abbrev pub mostNumber : ℕ
+mostNumber = 65535
 
 -- the link that leads nowhere
 abbrev pub noLink : ℕ

@@ -8,18 +8,6 @@ use Rattle.rules.specs.Freer.{Freer}
 use Rattle.rules.specs.Table.{LawfulTable, To}
 use Rattle.moves.specs.Layout.{mostCells, movesSize, noLink, startsOf, endsOf, cellsOf, startAt, endAt, cellAt, Backed, Ascending}
 
--- up to so many states need next to no room
-abbrev pub tinyStates : ℕ
-tinyStates = 32
-
--- up to so many states moves are not stored
-abbrev pub fewStates : ℕ
-fewStates = 512
-
--- up to so many states whose moves are not stored need room of a middle size
-abbrev pub someStates : ℕ
-someStates = 2048
-
 -- The rows of a relation over the first r places: the places that i stands in R to are the cells from `starts i` up to `ends i`.
 pub record Rows (R : ℕ → ℕ → Type 0) (r : ℕ) (starts ends cells : List ℕ) : Type 0 where
   pub in-starts : r ≤ length starts

@@ -1,12 +1,13 @@
-// Where stored moves stand in one slice: for each place the cell that its row starts at, then for each place the cell that its row ends before,
-// then the cells, then for each place a link to another place of its class. Whoever reads or writes stored moves asks here. Beside the code
-// stands what is stored: rows of moves forth, and of moves back.
+// Where stored moves stand in one slice: for each place the cell that its row starts at, then for each place the cell that its row ends
+// before, then the cells, then for each place a link to another place of its class. Whoever reads or writes stored moves asks here. Beside
+// the code stands what is stored: rows of moves forth, and of moves back.
 
 ghost use mathlib.Core.Path.{_≡_};
 ghost use Prim.Native.Nat.{_<_, _≤_};
 ghost use lib.ListN.{length};
 ghost use Rattle.meaning.specs.Promises.{mostStates};
-ghost use Rattle.moves.specs.Layout.{mostCells, movesSize, noLink, startAt, endAt, cellAt, linkAt, RowSet, LinkSet, PlaceSet, Appended};
+ghost use Rattle.moves.specs.Layout.{mostCells, movesSize, mostNumber, noLink, startAt, endAt, cellAt, linkAt};
+ghost use Rattle.moves.specs.Layout.{RowSet, LinkSet, PlaceSet, Appended};
 
 // The most cells. Moves are stored for as many places as states are judged.
 pub const MOST_CELLS: usize = 16384;
@@ -20,15 +21,6 @@ pub const LINKS: usize = CELLS + MOST_CELLS;
 
 // How long the slice is.
 pub const SIZE: usize = LINKS + ground::MOST_STATES;
-
-// Up to so many states need next to no room.
-pub const TINY_STATES: usize = 32;
-
-// Up to so many states storing their moves would cost more than it saves.
-pub const FEW_STATES: usize = 512;
-
-// Up to so many states whose moves are not stored need room of a middle size.
-pub const SOME_STATES: usize = 2048;
 
 // The link that leads nowhere.
 pub const NONE: usize = 65535;
@@ -44,7 +36,7 @@ pub fn row_start(moves: &[u16], i: usize) -> usize
 // The cell that place i's row ends before.
 pub fn row_end(moves: &[u16], i: usize) -> usize
     requires { ⌜ (length (now moves) ≡ movesSize) × (i < mostStates) ⌝ }
-    ensures { λ e. ⌜ (e ≡ endAt (now (moves .entry)) i) × (e ≤ 65535) ⌝ }
+    ensures { λ e. ⌜ (e ≡ endAt (now (moves .entry)) i) × (e ≤ mostNumber) ⌝ }
 {
     let at = ENDS + i;
     moves[at] as usize

@@ -11,7 +11,7 @@ use lib.Seq.{length-take-le, getD-take}
 use Rattle.meaning.specs.System.{System, Reachable, Lists, Livable}
 use Rattle.meaning.specs.Strike.{SavedBy, reasonOf, wordOf, Left, Struck}
 use Rattle.meaning.proofs.Rounds.{left-reachable, left-earlier, saved-map, phase-word-rises, left-livable}
-use Rattle.distances.specs.Far.{UnstruckIn}
+use Rattle.distances.specs.Far.{Unstruck, UnstruckIn}
 use Rattle.distances.proofs.Totals.{total-less}
 use Rattle.ends_tests.specs.Phases.{Falls, was, stays, falls, Phased, Unphased}
 
@@ -38,7 +38,8 @@ pub record Standing (S : System) (table : List ℕ) (r : ℕ) (words : List ℕ)
 word-some : (S : System) (n : ℕ) → 0 < wordOf S n
 word-some S n = omega arith
 
-module _ (S : System) (table : List ℕ) (r : ℕ) (inside : r ≤ length table) (L : Lists (Reachable S) (take r table)) (few : S .promises < 32) where
+module _ (S : System) (table : List ℕ) (r : ℕ) (inside : r ≤ length table) (L : Lists (Reachable S) (take r table))
+    (few : S .promises < 32) where
   -- Each of the first r states is reachable, and each reachable state is among them.
   pub place-reachable : (i : ℕ) → i < r → Reachable S (getD table i 0)
   place-reachable i h = subst (Reachable S) (getD-take r table i 0 h) (L .sound i (let a = length-take-le r table inside in omega arith))
@@ -71,7 +72,11 @@ module _ (S : System) (table : List ℕ) (r : ℕ) (inside : r ≤ length table)
 
     -- No place has the next phase's word yet.
     pub marks-unphased : (v : ℕ) → wordOf S n ≡ v → r ≤ length words → Unphased words r v
-    marks-unphased v e long = record { in-words = long; some = let a = word-some S n in omega arith; below = λ i h. by (getD words i 0) (M i h) }
+    marks-unphased v e long = record {
+      in-words = long;
+      some = let a = word-some S n in omega arith;
+      below = λ i h. by (getD words i 0) (M i h);
+    }
       where
         by : {s : ℕ} (w : ℕ) → Mark S n s w → w < v
         by w (inl (z, l)) = let a = word-some S n in omega arith
@@ -105,12 +110,13 @@ module _ (S : System) (table : List ℕ) (r : ℕ) (inside : r ≤ length table)
         no-more : (i : ℕ) → i < r → freeAt new i ≤ freeAt words i
         no-more i h = at (p .each i h)
           where
-            at : Falls (SavedBy S (UnstruckIn table words r) reason (getD table i 0)) v (getD words i 0) (getD new i 0) → freeAt new i ≤ freeAt words i
+            at : Falls (SavedBy S (UnstruckIn table words r) reason (getD table i 0)) v (getD words i 0) (getD new i 0)
+                → freeAt new i ≤ freeAt words i
             at (was a q) = let b : freeAt new i ≡ freeAt words i = ap (λ (x : ℕ). 1 - x) q in omega arith
             at (stays z q x) = let b : freeAt words i ≡ 1 = ap (λ (x : ℕ). 1 - x) z in omega arith
             at (falls z q x) = let b : freeAt words i ≡ 1 = ap (λ (x : ℕ). 1 - x) z in omega arith
 
-        still : (i : ℕ) → i < r → getD words i 0 ≡ 0 → Dec (getD new i 0 ≡ 0) → getD new i 0 ≡ 0
+        still : (i : ℕ) → i < r → Unstruck words i → Dec (Unstruck new i) → Unstruck new i
         still i h z (yes q) = q
         still i h z (no q) =
             let b : freeAt words i ≡ 1 = ap (λ (x : ℕ). 1 - x) z in
@@ -143,7 +149,8 @@ module _ (S : System) (table : List ℕ) (r : ℕ) (inside : r ≤ length table)
   }
 
   -- After as many quiet phases as there are reasons what is left is livable.
-  pub standing-livable : (words : List ℕ) (n quiet : ℕ) → Standing S table r words n quiet → quiet ≡ suc (S .promises) → (s : ℕ) → Left S n s → Livable S s
+  pub standing-livable : (words : List ℕ) (n quiet : ℕ) → Standing S table r words n quiet → quiet ≡ suc (S .promises) → (s : ℕ)
+      → Left S n s → Livable S s
   standing-livable words n quiet st e s l =
       let whole : n ≡ suc (S .promises) + st .rest-from = let a = st .rest-is in omega arith in
       left-livable (st .rest-from) (λ t k. subst (λ (x : ℕ). Left S x t) whole (st .at-rest t k))

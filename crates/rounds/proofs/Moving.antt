@@ -1,4 +1,5 @@
--- The rounds, turn by turn: what the promises' rows, the log and the news are between two phases, along stored moves or by tests. Assumes nothing.
+-- The rounds, turn by turn: what the promises' rows, the log and the news are between two phases, along stored moves or by tests.
+-- Assumes nothing.
 use mathlib.Core.Path.{_≡_, refl, sym, ap, subst, _∙_}
 use mathlib.Core.Logic.{_⊎_, inl, inr}
 use mathlib.Core.Bool.{Bool, true, false, cond}
@@ -12,13 +13,13 @@ use Rattle.ground.specs.Listed.{Between}
 use Rattle.ground.specs.Wiping.{Zeros}
 use Rattle.meaning.specs.Promises.{mostStates}
 use Rattle.rules.specs.Book.{bookSystem, promisesOf, bookKept}
-use Rattle.distances.specs.Far.{far, gone}
+use Rattle.distances.specs.Far.{Unstruck}
 use Rattle.distances.specs.Values.{keptIn}
-use Rattle.watch.specs.Witness.{Log, BegunRow}
+use Rattle.watch.specs.Witness.{nobody, itself, Log, BegunRow}
 use Rattle.watch.specs.Turns.{FallsAt, was, keeps, falls, FellTo, Before, first, again, Watched}
 use Rattle.ends_tests.specs.Phases.{Phased}
 use Rattle.rounds.specs.Phases.{Strikable}
-use Rattle.rounds.specs.Rows.{rowOf, RoomForRows, Beginnable, BegunRows}
+use Rattle.rounds.specs.Rows.{neverYet, rowOf, RoomForRows, Beginnable, BegunRows}
 use Rattle.rounds.proofs.Running.{free-all, strikable-lawful}
 use Rattle.rounds.proofs.Rows.{row-long, row-inside}
 use Rattle.rounds.proofs.Saved.{Moves, Keeps, watched-phased}
@@ -27,12 +28,12 @@ use Rattle.rounds.proofs.Saved.{Moves, Keeps, watched-phased}
 
 -- more places are struck: they stand in the log behind its first m
 pub record Fallen (words words′ : List ℕ) (r : ℕ) (log log′ : List ℕ) (m m′ : ℕ) : Type 0 where
-  pub free-before : (i : ℕ) → i < r → getD words′ i 0 ≡ 0 → getD words i 0 ≡ 0
+  pub free-before : (i : ℕ) → i < r → Unstruck words′ i → Unstruck words i
   pub grows : m ≤ m′
   pub kept : (t : ℕ) → t < m → getD log′ t 0 ≡ getD log t 0
   pub log-is : Log words′ r log′ m′
   pub log-long : length log′ ≡ length log
-  pub noted : (i : ℕ) → i < r → getD words i 0 ≡ 0 → (getD words′ i 0 ≡ 0 → ⊥) → Between log′ m m′ i
+  pub noted : (i : ℕ) → i < r → Unstruck words i → (Unstruck words′ i → ⊥) → Between log′ m m′ i
 
 -- Who stood alone fell.
 pub fell-fallen : {row words words′ log log′ : List ℕ} {r word m m′ : ℕ} → length row ≡ r → FellTo row word words words′ log log′ m m′
@@ -46,25 +47,26 @@ fell-fallen {row = row} {words = words} {words′ = words′} {log′ = log′} 
   noted = λ i h. F .noted i (omega (arith, h, long));
 }
   where
-    by : (i : ℕ) → getD words′ i 0 ≡ 0 → FallsAt word (getD words i 0) (getD words′ i 0) (getD row i 0) → getD words i 0 ≡ 0
+    by : (i : ℕ) → Unstruck words′ i → FallsAt word (getD words i 0) (getD words′ i 0) (getD row i 0) → Unstruck words i
     by i u (was n e) = absurd (n (sym e ∙ u))
     by i u (keeps o e n) = o
     by i u (falls o e x) = o
 
-module _ (row : List ℕ) {words words′ log log′ : List ℕ} {r m m′ : ℕ} (long : length row ≡ r) (K : Fallen words words′ r log log′ m m′) where
+module _ (row : List ℕ) {words words′ log log′ : List ℕ} {r m m′ : ℕ} (long : length row ≡ r)
+    (K : Fallen words words′ r log log′ m m′) where
   pub fallen-log : Log words′ (length row) log′ m′
   fallen-log = subst (λ (n : ℕ). Log words′ n log′ m′) (sym long) (K .log-is)
 
-  pub fallen-free : (i : ℕ) → i < length row → getD words′ i 0 ≡ 0 → getD words i 0 ≡ 0
+  pub fallen-free : (i : ℕ) → i < length row → Unstruck words′ i → Unstruck words i
   fallen-free i h u = K .free-before i (omega (arith, h, long)) u
 
   -- Whom a place names is unstruck, or news.
-  pub fallen-named : (from j : ℕ) → from ≤ m → j < length row → (getD words j 0 ≡ 0) ⊎ Between log from m j
-      → (getD words′ j 0 ≡ 0) ⊎ Between log′ from m′ j
+  pub fallen-named : (from j : ℕ) → from ≤ m → j < length row → Unstruck words j ⊎ Between log from m j
+      → Unstruck words′ j ⊎ Between log′ from m′ j
   fallen-named from j h l (inr s) = inr (s .0, s .1, omega (arith, s .2, K .grows), K .kept (s .0) (s .2) ∙ s .3)
   fallen-named from j h l (inl u) = by (ℕ-discrete (getD words′ j 0) 0)
     where
-      by : Dec (getD words′ j 0 ≡ 0) → (getD words′ j 0 ≡ 0) ⊎ Between log′ from m′ j
+      by : Dec (Unstruck words′ j) → Unstruck words′ j ⊎ Between log′ from m′ j
       by (yes q) = inl q
       by (no q) = let s = K .noted j (omega (arith, l, long)) u q in inr (s .0, omega (arith, s .1, h), s .2, s .3)
 
@@ -87,15 +89,17 @@ bool-dec false = inr (λ e. let z : _≡_ {A = ℕ} 0 1 = ap (λ (b : Bool). con
 -- ---- all rows
 
 -- between two phases: every promise's row rests or is fresh, and who keeps a promise has its number
-pub record Moving (book table : List ℕ) (r : ℕ) (words wit : List ℕ) (M : ℕ → ℕ → Type 0) (log : List ℕ) (m : ℕ) (news : List ℕ) : Type 0 where
+pub record Moving (book table : List ℕ) (r : ℕ) (words wit : List ℕ) (M : ℕ → ℕ → Type 0) (log : List ℕ) (m : ℕ)
+    (news : List ℕ) : Type 0 where
   pub log-is : Log words r log m
   pub before : (k : ℕ) → k < promisesOf book → Before words (rowOf r (suc k) wit) M log (getD news (suc k) 0) m
   pub own : (k : ℕ) → k < promisesOf book → Keeps book table r k (rowOf r (suc k) wit)
-  pub never-yet : (q : ℕ) → q ≤ promisesOf book → (getD news q 0 ≤ m) ⊎ (getD news q 0 ≡ 65535)
+  pub never-yet : (q : ℕ) → q ≤ promisesOf book → (getD news q 0 ≤ m) ⊎ (getD news q 0 ≡ neverYet)
   pub reasons : length news ≡ 17
 
 -- one phase, whatever its way: it struck what its reason does not save, and changed no row but its own
-pub record Stepped (book table : List ℕ) (r : ℕ) (words words′ wit wit′ : List ℕ) (M : ℕ → ℕ → Type 0) (log log′ : List ℕ) (reason word m end : ℕ)
+pub record Stepped (book table : List ℕ) (r : ℕ) (words words′ wit wit′ : List ℕ) (M : ℕ → ℕ → Type 0) (log log′ : List ℕ)
+    (reason word m end : ℕ)
     : Type 0 where
   pub long : length wit′ ≡ length wit
   pub others : (q : ℕ) → (q ≡ reason → ⊥) → suc q * r ≤ length wit → rowOf r q wit′ ≡ rowOf r q wit
@@ -105,18 +109,25 @@ pub record Stepped (book table : List ℕ) (r : ℕ) (words words′ wit wit′ 
 
 -- ---- before the first phase
 
-module _ {book table : List ℕ} {r : ℕ} {words old log line : List ℕ} (A : Strikable book table words r) (R : RoomForRows book r old log line) where
+module _ {book table : List ℕ} {r : ℕ} {words old log line : List ℕ} (A : Strikable book table words r)
+    (R : RoomForRows book r old log line) where
   -- The log is empty.
   pub log-none : Zeros words r → Log words r log 0
-  log-none zeros = record { in-words = A .in-words; in-log = R .in-log; count = omega (arith, free-all words r zeros); places = λ t h. absurd (omega arith) }
+  log-none zeros = record {
+    in-words = A .in-words;
+    in-log = R .in-log;
+    count = omega (arith, free-all words r zeros);
+    places = λ t h. absurd (omega arith);
+  }
 
   -- The rows may begin.
   pub rows-beginnable : Beginnable book table r old
   rows-beginnable = record { states = strikable-lawful _ _ _ _ A; room = R .room }
 
   -- They are fresh.
-  pub moving-none : {first wit news : List ℕ} (M : ℕ → ℕ → Type 0) → Zeros words r → length first ≡ length old → BegunRows book table r first wit
-      → length news ≡ 17 → ((q : ℕ) → q < 17 → getD news q 0 ≡ 65535) → Moving book table r words wit M log 0 news
+  pub moving-none : {first wit news : List ℕ} (M : ℕ → ℕ → Type 0) → Zeros words r → length first ≡ length old
+      → BegunRows book table r first wit
+      → length news ≡ 17 → ((q : ℕ) → q < 17 → getD news q 0 ≡ neverYet) → Moving book table r words wit M log 0 news
   moving-none {wit = wit} M zeros same B seventeen never = record {
     log-is = log-none zeros;
     before = λ k h. first (omega (arith, never (suc k) (few (suc k) h))) (record {
@@ -135,24 +146,27 @@ module _ {book table : List ℕ} {r : ℕ} {words old log line : List ℕ} (A : 
       long-row : (q : ℕ) → q ≤ promisesOf book → length (rowOf r q wit) ≡ r
       long-row q h = row-long r q wit (let a = row-inside q (promisesOf book) r _ h (R .room) in omega (arith, a, B .long, same))
 
-      begun-each : {k : ℕ} {row : List ℕ} → BegunRow book k table row row → (i : ℕ) → i < length row → (getD row i 0 ≡ far) ⊎ (getD row i 0 ≡ gone)
+      begun-each : {k : ℕ} {row : List ℕ} → BegunRow book k table row row → (i : ℕ) → i < length row → (getD row i 0 ≡ nobody)
+          ⊎ (getD row i 0 ≡ itself)
       begun-each {k = k} {row = row} b i l = by (bool-dec (bookKept book k (getD table i 0)))
         where
-          by : (keptIn book k (getD table i 0)) ⊎ (keptIn book k (getD table i 0) → ⊥) → (getD row i 0 ≡ far) ⊎ (getD row i 0 ≡ gone)
-          by (inl e) = inr (b .itself i l e)
-          by (inr n) = inl (b .nobody i l n)
+          by : (keptIn book k (getD table i 0)) ⊎ (keptIn book k (getD table i 0) → ⊥) → (getD row i 0 ≡ nobody) ⊎ (getD row i 0 ≡ itself)
+          by (inl e) = inr (b .keeps i l e)
+          by (inr n) = inl (b .lacks i l n)
 
       begun-own : {k : ℕ} {row : List ℕ} → BegunRow book k table row row → (i : ℕ) → i < length row
-          → (getD row i 0 ≡ gone → keptIn book k (getD table i 0)) × (keptIn book k (getD table i 0) → getD row i 0 ≡ gone)
-      begun-own {k = k} {row = row} b i l = (λ e. by e (bool-dec (bookKept book k (getD table i 0))), b .itself i l)
+          → (getD row i 0 ≡ itself → keptIn book k (getD table i 0)) × (keptIn book k (getD table i 0) → getD row i 0 ≡ itself)
+      begun-own {k = k} {row = row} b i l = (λ e. by e (bool-dec (bookKept book k (getD table i 0))), b .keeps i l)
         where
-          by : getD row i 0 ≡ gone → (keptIn book k (getD table i 0)) ⊎ (keptIn book k (getD table i 0) → ⊥) → keptIn book k (getD table i 0)
+          by : getD row i 0 ≡ itself → (keptIn book k (getD table i 0)) ⊎ (keptIn book k (getD table i 0) → ⊥)
+              → keptIn book k (getD table i 0)
           by e (inl x) = x
-          by e (inr n) = absurd (omega (arith, e, b .nobody i l n))
+          by e (inr n) = absurd (omega (arith, e, b .lacks i l n))
 
 -- ---- from phase to phase
 
-module _ {book table : List ℕ} {r : ℕ} {words₀ words old wit : List ℕ} {M : ℕ → ℕ → Type 0} {log₀ log line : List ℕ} {m reason : ℕ} {news : List ℕ}
+module _ {book table : List ℕ} {r : ℕ} {words₀ words old wit : List ℕ} {M : ℕ → ℕ → Type 0} {log₀ log line : List ℕ} {m reason : ℕ}
+    {news : List ℕ}
     (A : Strikable book table words₀ r) (R : RoomForRows book r old log₀ line) (Mo : Moving book table r words wit M log m news)
     (long : length wit ≡ length old) (within : reason ≤ promisesOf book) where
   -- The rows of all reasons lie in the list, and have r places.
@@ -171,10 +185,10 @@ module _ {book table : List ℕ} {r : ℕ} {words₀ words old wit : List ℕ} {
       at (suc k) n h = Mo .before k (omega arith)
 
   -- Its news are from a small number on.
-  pub moving-news : getD news reason 0 ≤ 65535
+  pub moving-news : getD news reason 0 ≤ neverYet
   moving-news = by (Mo .never-yet reason within)
     where
-      by : (getD news reason 0 ≤ m) ⊎ (getD news reason 0 ≡ 65535) → getD news reason 0 ≤ 65535
+      by : (getD news reason 0 ≤ m) ⊎ (getD news reason 0 ≡ neverYet) → getD news reason 0 ≤ neverYet
       by (inl x) = omega (arith, x, Mo .log-is .count, A .few)
       by (inr x) = omega (arith, x)
 
@@ -196,8 +210,11 @@ module _ {book table : List ℕ} {r : ℕ} {words₀ words old wit : List ℕ} {
       by (suc k) e =
           let W = subst (λ (x : ℕ). Watched words words′ (rowOf r x wit) (rowOf r x wit′) M log log′ m end word) e
           (watched (λ z. absurd (omega (arith, z, e)))) in
-          let h : k < promisesOf book = omega (arith, e, within) in
-          (told (suc k) e (watched-phased moves (moving-row (suc k) h) (Mo .log-is) (Mo .own k h) W), fell-fallen (W .long ∙ moving-row (suc k) h) (W .fell))
+          let h : k < promisesOf book = omega (arith, e, within) in (
+            told (suc k) e (watched-phased moves (moving-row (suc k) h) (Mo .log-is) (Mo .own k h) W),
+            fell-fallen
+                (W .long ∙ moving-row (suc k) h) (W .fell),
+          )
 
   module _ {words′ wit′ log′ : List ℕ} {word end : ℕ} (D : Stepped book table r words words′ wit wit′ M log log′ reason word m end) where
     -- The log stays short.
@@ -208,7 +225,7 @@ module _ {book table : List ℕ} {r : ℕ} {words₀ words old wit : List ℕ} {
     pub moving-later : (q : ℕ) → q ≤ promisesOf book → m < getD news q 0 → end < getD news q 0
     moving-later q h l = by (Mo .never-yet q h)
       where
-        by : (getD news q 0 ≤ m) ⊎ (getD news q 0 ≡ 65535) → end < getD news q 0
+        by : (getD news q 0 ≤ m) ⊎ (getD news q 0 ≡ neverYet) → end < getD news q 0
         by (inl x) = absurd (omega arith)
         by (inr x) = omega (arith, x, moving-short)
 
@@ -223,7 +240,8 @@ module _ {book table : List ℕ} {r : ℕ} {words₀ words old wit : List ℕ} {
     news-there since q n = getD-set-other news reason q since 0 n
 
     -- One turn. A promise's news are what fell after its phase.
-    pub moving-more : (since : ℕ) → since ≤ end → ((reason ≡ 0 → ⊥) → since ≡ end) → Moving book table r words′ wit′ M log′ end (set news reason since)
+    pub moving-more : (since : ℕ) → since ≤ end → ((reason ≡ 0 → ⊥) → since ≡ end)
+        → Moving book table r words′ wit′ M log′ end (set news reason since)
     moving-more since early last = record {
       log-is = D .fallen .log-is;
       before = λ k h. before-at k h (ℕ-discrete (suc k) reason);
@@ -235,11 +253,14 @@ module _ {book table : List ℕ} {r : ℕ} {words₀ words old wit : List ℕ} {
         before-at : (k : ℕ) → k < promisesOf book → Dec (suc k ≡ reason)
             → Before words′ (rowOf r (suc k) wit′) M log′ (getD (set news reason since) (suc k) 0) end
         before-at k h (yes e) =
-            subst (λ (x : ℕ). Before words′ (rowOf r (suc k) wit′) M log′ x end) (sym (news-here since (suc k) e ∙ last (λ z. absurd (omega (arith, z, e)))))
-            (subst (λ (x : ℕ). Before words′ (rowOf r x wit′) M log′ end end) (sym e) (again (D .watched (λ z. absurd (omega (arith, z, e))) .rested)))
+            subst (λ (x : ℕ). Before words′ (rowOf r (suc k) wit′) M log′ x end)
+            (sym (news-here since (suc k) e ∙ last (λ z. absurd (omega (arith, z, e)))))
+            (subst (λ (x : ℕ). Before words′ (rowOf r x wit′) M log′ end end) (sym e)
+            (again (D .watched (λ z. absurd (omega (arith, z, e))) .rested)))
         before-at k h (no n) =
             subst (λ (x : ℕ). Before words′ (rowOf r (suc k) wit′) M log′ x end) (sym (news-there since (suc k) n))
-            (subst (λ (row : List ℕ). Before words′ row M log′ (getD news (suc k) 0) end) (sym (D .others (suc k) n (moving-inside (suc k) h)))
+            (subst (λ (row : List ℕ). Before words′ row M log′ (getD news (suc k) 0) end)
+            (sym (D .others (suc k) n (moving-inside (suc k) h)))
             (before-on (rowOf r (suc k) wit) (moving-row (suc k) h) (D .fallen) (moving-later (suc k) h) (Mo .before k h)))
 
         own-at : (k : ℕ) → k < promisesOf book → Dec (suc k ≡ reason) → Keeps book table r k (rowOf r (suc k) wit′)
@@ -252,10 +273,12 @@ module _ {book table : List ℕ} {r : ℕ} {words₀ words old wit : List ℕ} {
             W = subst (λ (x : ℕ). Watched words words′ (rowOf r x wit) (rowOf r x wit′) M log log′ m end word) (sym e)
                 (D .watched (λ z. absurd (omega (arith, z, e))))
 
-        never-at : (q : ℕ) → q ≤ promisesOf book → Dec (q ≡ reason) → (getD (set news reason since) q 0 ≤ end) ⊎ (getD (set news reason since) q 0 ≡ 65535)
+        never-at : (q : ℕ) → q ≤ promisesOf book → Dec (q ≡ reason) → (getD (set news reason since) q 0 ≤ end)
+            ⊎ (getD (set news reason since) q 0 ≡ neverYet)
         never-at q h (yes e) = inl (omega (arith, news-here since q e, early))
         never-at q h (no n) = by (Mo .never-yet q h)
           where
-            by : (getD news q 0 ≤ m) ⊎ (getD news q 0 ≡ 65535) → (getD (set news reason since) q 0 ≤ end) ⊎ (getD (set news reason since) q 0 ≡ 65535)
+            by : (getD news q 0 ≤ m) ⊎ (getD news q 0 ≡ neverYet) → (getD (set news reason since) q 0 ≤ end)
+                ⊎ (getD (set news reason since) q 0 ≡ neverYet)
             by (inl x) = inl (omega (arith, news-there since q n, x, D .fallen .grows))
             by (inr x) = inr (news-there since q n ∙ x)

@@ -36,7 +36,8 @@ pub lent-row : (r q : ℕ) (old : List ℕ) → take (q * r + r - q * r) (drop (
 lent-row r q old = let e : q * r + r - q * r ≡ r = omega arith in ap (λ (n : ℕ). take n (drop (q * r) old)) e
 
 back-put : (r q : ℕ) (old part : List ℕ) → lentBack (q * r) r old part ≡ put r q old part
-back-put r q old part = let e : q * r + r - q * r ≡ r = omega arith in ap (λ (n : ℕ). take (q * r) old ++ (part ++ drop n (drop (q * r) old))) e
+back-put r q old part = let e : q * r + r - q * r ≡ r = omega arith in
+    ap (λ (n : ℕ). take (q * r) old ++ (part ++ drop n (drop (q * r) old))) e
 
 -- The same for the front.
 pub front-row : (r : ℕ) (old : List ℕ) → take r old ≡ rowOf r 0 old
@@ -86,7 +87,8 @@ module _ (r q : ℕ) (old part : List ℕ) (inside : suc q * r ≤ length old) (
   behind i =
       subst (λ (n : ℕ). getD (put r q old part) (n + (r + i)) 0 ≡ getD (part ++ drop r (drop (q * r) old)) (r + i) 0) head
       (getD-append-add (take (q * r) old) _ (r + i) 0)
-      ∙ subst (λ (n : ℕ). getD (part ++ drop r (drop (q * r) old)) (n + i) 0 ≡ getD (drop r (drop (q * r) old)) i 0) long (getD-append-add part _ i 0)
+      ∙ subst (λ (n : ℕ). getD (part ++ drop r (drop (q * r) old)) (n + i) 0 ≡ getD (drop r (drop (q * r) old)) i 0) long
+      (getD-append-add part _ i 0)
       ∙ getD-drop r (drop (q * r) old) i 0 ∙ getD-drop (q * r) old (r + i) 0
 
   -- The row of another reason is as it was.
@@ -110,16 +112,25 @@ pub row-back : (r q : ℕ) (wit part : List ℕ) → suc q * r ≤ length wit �
     → PutBack r q wit (lentBack (q * r) r wit part) part
 row-back r q wit part inside same =
     subst (λ (l : List ℕ). PutBack r q wit l part) (sym (back-put r q wit part))
-    (record { long = put-long r q wit part inside long; others = put-other r q wit part inside long; row = put-row r q wit part inside long })
+    (record {
+      long = put-long r q wit part inside long;
+      others = put-other r q wit part inside long;
+      row = put-row r q wit part inside long;
+    })
   where
     long : length part ≡ r
     long = same ∙ ap length (lent-row r q wit) ∙ row-long r q wit inside
 
 -- and of the first.
-pub front-back : (r : ℕ) (wit part : List ℕ) → r ≤ length wit → length part ≡ length (take r wit) → PutBack r 0 wit (part ++ drop r wit) part
+pub front-back : (r : ℕ) (wit part : List ℕ) → r ≤ length wit → length part ≡ length (take r wit)
+    → PutBack r 0 wit (part ++ drop r wit) part
 front-back r wit part front same =
     subst (λ (l : List ℕ). PutBack r 0 wit l part) (sym (front-put r wit part))
-    (record { long = put-long r 0 wit part inside long; others = put-other r 0 wit part inside long; row = put-row r 0 wit part inside long })
+    (record {
+      long = put-long r 0 wit part inside long;
+      others = put-other r 0 wit part inside long;
+      row = put-row r 0 wit part inside long;
+    })
   where
     inside : 1 * r ≤ length wit
     inside = omega (arith, front)
@@ -171,18 +182,26 @@ module _ (book table : List ℕ) (r : ℕ) where
       by : (j : ℕ) → j < suc k → Dec (j < k)
           → BegunRow book j table (rowOf r (suc j) (lentBack (suc k * r) r wit part)) (rowOf r (suc j) (lentBack (suc k * r) r wit part))
       by j less (yes earlier) =
-          subst (λ (l : List ℕ). BegunRow book j table l l) (sym (back .others (suc j) (λ e. omega arith) (inside (suc j) (omega arith)))) (b .begun j earlier)
+          subst (λ (l : List ℕ). BegunRow book j table l l) (sym (back .others (suc j) (λ e. omega arith) (inside (suc j) (omega arith))))
+          (b .begun j earlier)
       by j less (no last) =
           let e : k ≡ j = omega arith in
-          subst (λ (i : ℕ). BegunRow book i table (rowOf r (suc i) (lentBack (suc k * r) r wit part)) (rowOf r (suc i) (lentBack (suc k * r) r wit part))) e
-          (subst (λ (l : List ℕ). BegunRow book k table l l) (sym (back .row)) (record { long = refl; itself = row .itself; nobody = row .nobody }))
+          subst
+          (λ (i : ℕ). BegunRow book i table (rowOf r (suc i) (lentBack (suc k * r) r wit part))
+          (rowOf r (suc i) (lentBack (suc k * r) r wit part))) e
+          (subst (λ (l : List ℕ). BegunRow book k table l l) (sym (back .row)) (record {
+            long = refl;
+            keeps = row .keeps;
+            lacks = row .lacks;
+          }))
 
   pub beginning-more : (old wit part : List ℕ) (k : ℕ) → Beginning book table r old wit k → k < promisesOf book
       → BegunRow book k table (take ((k + 1) * r + r - (k + 1) * r) (drop ((k + 1) * r) wit)) part
       → Beginning book table r old (lentBack ((k + 1) * r) r wit part) (k + 1)
   beginning-more old wit part k b h =
       let e : suc k ≡ k + 1 = omega arith in
-      subst (λ (n : ℕ). BegunRow book k table (take (n * r + r - n * r) (drop (n * r) wit)) part → Beginning book table r old (lentBack (n * r) r wit part) n) e
+      subst (λ (n : ℕ). BegunRow book k table (take (n * r + r - n * r) (drop (n * r) wit)) part
+      → Beginning book table r old (lentBack (n * r) r wit part) n) e
       (beginning-suc old wit part k b h)
 
   -- All have begun.

@@ -18,6 +18,7 @@ use Rattle.meaning.specs.Strike.{reasonOf, wordOf, Left}
 use Rattle.rules.specs.Book.{bookSystem, promisesOf}
 use Rattle.rules.specs.Table.{LawfulTable}
 use Rattle.rules.proofs.Facts.{promises-are, reached-lawful}
+use Rattle.distances.specs.Far.{Unstruck}
 use Rattle.watch.specs.Witness.{freeIn}
 use Rattle.ends_tests.specs.Phases.{Phased, Unphased}
 use Rattle.rounds.specs.Marked.{Word, unstruck, Marked}
@@ -54,7 +55,7 @@ unstruck-free words (suc r) =
     by false e = let n = eqb-false (getD words r 0) 0 e in omega arith
 
 -- where every word is 0 all are unstruck
-pub free-all : (words : List ℕ) (r : ℕ) → ((i : ℕ) → i < r → getD words i 0 ≡ 0) → freeIn words r ≡ r
+pub free-all : (words : List ℕ) (r : ℕ) → ((i : ℕ) → i < r → Unstruck words i) → freeIn words r ≡ r
 free-all words zero z = refl
 free-all words (suc r) z =
     let a = free-all words r (λ i h. z i (omega arith)) in
@@ -107,13 +108,16 @@ module _ (book table words₀ : List ℕ) (r : ℕ) (asked : Strikable book tabl
       rw (getD-take r table i 0 a, getD-take r table (suc i) 0 h) at low
 
   -- Where every word is 0, the first phase comes next.
-  pub running-none : (words : List ℕ) → length words ≡ length words₀ → ((i : ℕ) → i < r → getD words i 0 ≡ 0) → Running book table words₀ r words r 32 0 0
+  pub running-none : (words : List ℕ) → length words ≡ length words₀ → ((i : ℕ) → i < r → Unstruck words i)
+      → Running book table words₀ r words r 32 0 0
   running-none words long z = record {
     round = 0;
     base-is = refl;
     within = omega arith;
     stands = record {
-      marks = λ i h. inl (z i h, subst (λ (n : ℕ). Left S n (getD table i 0)) start (place-reachable S table r (asked .in-table) (asked .lists) few i h));
+      marks =
+          λ i h. inl
+          (z i h, subst (λ (n : ℕ). Left S n (getD table i 0)) start (place-reachable S table r (asked .in-table) (asked .lists) few i h));
       rest-from = phaseOf S 0 0;
       rest-is = omega arith;
       at-rest = λ s l. l;
@@ -137,7 +141,8 @@ module _ (book table words₀ : List ℕ) (r : ℕ) (asked : Strikable book tabl
 
     -- No place has the next phase's word yet.
     pub running-unphased : Unphased words r (base + reason)
-    running-unphased = marks-unphased S table r (asked .in-table) (asked .lists) few (phaseOf S (R .round) reason) words (R .stands .marks) (base + reason)
+    running-unphased = marks-unphased S table r (asked .in-table) (asked .lists) few (phaseOf S (R .round) reason) words (R .stands .marks)
+        (base + reason)
         word-is (let a = R .long in let b = asked .in-words in omega arith)
 
     -- The next reason is one of the sheet's,
@@ -171,7 +176,8 @@ module _ (book table words₀ : List ℕ) (r : ℕ) (asked : Strikable book tabl
       running-more p is-p h quiet′ base′ reason′ q b c = by b c
         where
           next : StandingAt new (suc (phaseOf S (R .round) reason)) quiet′
-          next = standing-more S table r (asked .in-table) (asked .lists) few words (phaseOf S (R .round) reason) quiet (R .stands) reason (base + reason)
+          next = standing-more S table r (asked .in-table) (asked .lists) few words (phaseOf S (R .round) reason) quiet (R .stands) reason
+              (base + reason)
               new fallen quiet′ reason-is word-is phased q
 
           most : ((fallen ≡ 0) × (quiet′ ≡ suc quiet)) ⊎ ((fallen ≡ 0 → ⊥) × (quiet′ ≡ 0)) → quiet′ ≤ suc (S .promises)
@@ -231,7 +237,10 @@ module _ (book table words₀ : List ℕ) (r : ℕ) (asked : Strikable book tabl
 
     -- After the last turn the words are the strike list's.
     pub running-marked : (p : ℕ) → p ≡ promisesOf book → p < quiet → Marked S table words r left
-    running-marked p is-p h = record { left-is = R .left-is ∙ unstruck-free words r; word = λ i l. by (getD words i 0) (R .stands .marks i l) }
+    running-marked p is-p h = record {
+      left-is = R .left-is ∙ unstruck-free words r;
+      word = λ i l. by (getD words i 0) (R .stands .marks i l);
+    }
       where
         done : quiet ≡ suc (S .promises)
         done = let a = promises-are book in let b = R .quiet-most in omega arith

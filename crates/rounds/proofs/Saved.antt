@@ -11,9 +11,9 @@ use Rattle.meaning.specs.System.{System}
 use Rattle.meaning.specs.Strike.{Way, SavedBy}
 use Rattle.rules.specs.Book.{bookSystem, bookKept}
 use Rattle.rules.specs.Table.{To}
-use Rattle.distances.specs.Far.{UnstruckIn, far, gone}
+use Rattle.distances.specs.Far.{Unstruck, UnstruckIn}
 use Rattle.distances.specs.Values.{keptIn}
-use Rattle.watch.specs.Witness.{HungIn, Log, freeIn}
+use Rattle.watch.specs.Witness.{nobody, itself, HungIn, Log, freeIn}
 use Rattle.watch.specs.Turns.{FallsAt, was as was-so, keeps, falls as falls-so, Watched}
 use Rattle.ends_tests.specs.Phases.{Falls, was, stays, falls, Phased}
 
@@ -29,7 +29,7 @@ pub record Moves (book table : List ℕ) (r : ℕ) (M : ℕ → ℕ → Type 0) 
 -- who keeps promise k has the number of those that do, and no one else
 abbrev pub Keeps : (book table : List ℕ) (r k : ℕ) (row : List ℕ) → Type 0
 Keeps book table r k row =
-    (i : ℕ) → i < r → (getD row i 0 ≡ gone → keptIn book k (getD table i 0)) × (keptIn book k (getD table i 0) → getD row i 0 ≡ gone)
+    (i : ℕ) → i < r → (getD row i 0 ≡ itself → keptIn book k (getD table i 0)) × (keptIn book k (getD table i 0) → getD row i 0 ≡ itself)
 
 module _ {book table : List ℕ} {r : ℕ} {M : ℕ → ℕ → Type 0} (I : Moves book table r M) where
   -- A test that is true holds, and one that holds is true.
@@ -46,7 +46,8 @@ module _ {book table : List ℕ} {r : ℕ} {M : ℕ → ℕ → Type 0} (I : Mov
   kept-is k s t = held-true (bookKept book k s) t
 
   -- What a phase of a promise has struck is on no path to it.
-  pub watched-phased : {words words′ row row′ log log′ : List ℕ} {m m′ word k : ℕ} → length row ≡ r → Log words r log m → Keeps book table r k row
+  pub watched-phased : {words words′ row row′ log log′ : List ℕ} {m m′ word k : ℕ} → length row ≡ r → Log words r log m
+      → Keeps book table r k row
       → Watched words words′ row row′ M log log′ m m′ word → Phased (bookSystem book) table r (suc k) word words words′ (m′ - m)
   watched-phased {words = words} {words′ = words′} {row = row} {row′ = row′} {m = m} {m′ = m′} {word = word} {k = k} long G K W = record {
     long = W .fell .long;
@@ -62,7 +63,8 @@ module _ {book table : List ℕ} {r : ℕ} {M : ℕ → ℕ → Type 0} (I : Mov
       inside : {i : ℕ} → i < length row′ → i < r
       inside h = omega (arith, h, long, W .long)
 
-      way : (n i : ℕ) → HungIn words row′ n i → Way (bookSystem book) (UnstruckIn table words r) (bookSystem book .Kept k) n (getD table i 0)
+      way : (n i : ℕ) → HungIn words row′ n i → Way (bookSystem book) (UnstruckIn table words r) (bookSystem book .Kept k) n
+          (getD table i 0)
       way zero i c =
           let h = inside (c .0) in
           ((i, h, refl, c .1), kept-so k (getD table i 0) (K i h .0 (W .own i (c .0) .0 (c .2))))
@@ -70,13 +72,19 @@ module _ {book table : List ℕ} {r : ℕ} {M : ℕ → ℕ → Type 0} (I : Mov
           let h = inside (c .0) in
           let below : getD row′ i 0 < r = inside (c .2) in (
             (i, h, refl, c .1),
-            (getD table (getD row′ i 0) 0, I .sound i (getD row′ i 0) h below (W .pointed .leads i (c .0) (c .2)), way n (getD row′ i 0) (c .3)),
+            (
+              getD table (getD row′ i 0) 0,
+              I .sound i (getD row′ i 0) h below (W .pointed .leads i (c .0) (c .2)),
+              way n (getD row′ i 0)
+                  (c .3),
+            ),
           )
 
       -- a place without a witness is on no path
-      none : (n i : ℕ) → i < r → getD words i 0 ≡ 0 → getD row′ i 0 ≡ far → Way (bookSystem book) (UnstruckIn table words r) (bookSystem book .Kept k) n (getD table i 0) → ⊥
+      none : (n i : ℕ) → i < r → Unstruck words i → getD row′ i 0 ≡ nobody → Way (bookSystem book) (UnstruckIn table words r)
+          (bookSystem book .Kept k) n (getD table i 0) → ⊥
       none zero i h u e w =
-          let x : getD row′ i 0 ≡ gone = W .own i (omega (arith, h, long, W .long)) .1 (K i h .1 (kept-is k (getD table i 0) (w .1))) in
+          let x : getD row′ i 0 ≡ itself = W .own i (omega (arith, h, long, W .long)) .1 (K i h .1 (kept-is k (getD table i 0) (w .1))) in
           absurd (omega (arith, e, x))
       none (suc n) i h u e w = on (w .1 .0) (w .1 .1) (w .1 .2) (head n (w .1 .0) (w .1 .2)) (none n)
         where
@@ -84,15 +92,19 @@ module _ {book table : List ℕ} {r : ℕ} {M : ℕ → ℕ → Type 0} (I : Mov
           head zero t v = v .0
           head (suc n) t v = v .0
 
-          on : (t : ℕ) → bookSystem book .Move (getD table i 0) t → Way (bookSystem book) (UnstruckIn table words r) (bookSystem book .Kept k) n t → UnstruckIn table words r t
-              → ((j : ℕ) → j < r → getD words j 0 ≡ 0 → getD row′ j 0 ≡ far → Way (bookSystem book) (UnstruckIn table words r) (bookSystem book .Kept k) n (getD table j 0) → ⊥) → ⊥
-          on t move v (j, l, same, z) rest = by (ℕ-discrete (getD row′ j 0) far)
+          on : (t : ℕ) → bookSystem book .Move (getD table i 0) t → Way (bookSystem book) (UnstruckIn table words r)
+              (bookSystem book .Kept k) n t → UnstruckIn table words r t
+              → ((j : ℕ) → j < r → Unstruck words j → getD row′ j 0 ≡ nobody → Way (bookSystem book) (UnstruckIn table words r)
+              (bookSystem book .Kept k) n (getD table j 0) → ⊥) → ⊥
+          on t move v (j, l, same, z) rest = by (ℕ-discrete (getD row′ j 0) nobody)
             where
               lead : M i j
               lead = I .whole i j h l (subst (λ (y : ℕ). bookSystem book .Move (getD table i 0) y) (sym same) move)
 
-              by : Dec (getD row′ j 0 ≡ far) → ⊥
-              by (yes q) = rest j l z q (subst (λ (y : ℕ). Way (bookSystem book) (UnstruckIn table words r) (bookSystem book .Kept k) n y) (sym same) v)
+              by : Dec (getD row′ j 0 ≡ nobody) → ⊥
+              by (yes q) =
+                  rest j l z q
+                  (subst (λ (y : ℕ). Way (bookSystem book) (UnstruckIn table words r) (bookSystem book .Kept k) n y) (sym same) v)
               by (no q) = W .closed i j (omega (arith, h, long, W .long)) (omega (arith, l, long, W .long)) u z lead e q
 
       at : (i : ℕ) → i < r → FallsAt word (getD words i 0) (getD words′ i 0) (getD row′ i 0)

@@ -8,6 +8,10 @@ use Rattle.rules.specs.Book.{promisesOf}
 use Rattle.rules.specs.Table.{LawfulTable}
 use Rattle.watch.specs.Witness.{BegunRow}
 
+-- where the log is news from for a reason that had no phase yet: above every place
+abbrev pub neverYet : ℕ
+neverYet = 65535
+
 -- the row of reason q
 abbrev pub rowOf : (r q : ℕ) → List ℕ → List ℕ
 rowOf r q wit = take r (drop (q * r) wit)

@@ -1,5 +1,5 @@
-// The rounds along stored moves. Row 0 has a way on for each place, row i a witness for promise i; the struck places stand in a log in the order in
-// which they fell, so that a phase looks again only at what fell since its last one (crate watch_along).
+// The rounds along stored moves. Row 0 has a way on for each place, row i a witness for promise i; the struck places stand in a log in the
+// order in which they fell, so that a phase looks again only at what fell since its last one (crate watch_along).
 use super::NEVER;
 use super::REASONS;
 use super::Turn;
@@ -16,7 +16,7 @@ ghost use Rattle.rounds.specs.Phases.{Stricken};
 ghost use Rattle.rounds.specs.Along.{RunnableAlong, TurnDone, StrikableAlong};
 
 // One phase along stored moves: strikes together, for one reason, the places that it does not save; how long the log then is.
-fn turn_along(
+fn phase(
     words: &mut [u32],
     wit: &mut [u16],
     forth: &[u16],
@@ -26,9 +26,11 @@ fn turn_along(
     r: usize,
     turn: Turn,
 ) -> usize
-    requires { ⌜ RunnableAlong (now words) (now wit) (now forth) (now back) (now log) (now line) r (turn .reason) (turn .word) (turn .m) (turn .from) ⌝ }
-    ensures { λ end. ⌜ TurnDone (now (words .entry)) (now (words .exit)) (now (wit .entry)) (now (wit .exit)) (now (forth .entry)) (now (back .entry))
-        (now (log .entry)) (now (log .exit)) r (turn .reason) (turn .word) (turn .m) end × (length (now (line .exit)) ≡ length (now (line .entry))) ⌝ }
+    requires { ⌜ RunnableAlong (now words) (now wit) (now forth) (now back) (now log) (now line) r (turn .reason) (turn .word) (turn .m)
+        (turn .from) ⌝ }
+    ensures { λ end. ⌜ TurnDone (now (words .entry)) (now (words .exit)) (now (wit .entry)) (now (wit .exit)) (now (forth .entry))
+        (now (back .entry)) (now (log .entry)) (now (log .exit)) r (turn .reason) (turn .word) (turn .m) end
+        × (length (now (line .exit)) ≡ length (now (line .entry))) ⌝ }
 {
     let reason = turn.reason;
     let word = turn.word;
@@ -60,7 +62,7 @@ fn news_from(reason: usize, m: usize, end: usize) -> usize
 }
 
 // The rounds along stored moves, from words that are all 0; how many states are left.
-pub fn rounds_along(
+pub fn strike_rounds(
     book: &[State],
     table: &[State],
     words: &mut [u32],
@@ -71,7 +73,8 @@ pub fn rounds_along(
     log: &mut [u16],
     line: &mut [u16],
 ) -> usize
-    requires { ⌜ StrikableAlong (now book) (now table) (now words) r (now forth) (now back) (now wit) (now log) (now line) × Zeros (now words) r ⌝ }
+    requires { ⌜ StrikableAlong (now book) (now table) (now words) r (now forth) (now back) (now wit) (now log) (now line)
+        × Zeros (now words) r ⌝ }
     ensures { λ left. ⌜ Stricken (now (book .entry)) (now (table .entry)) r (now (words .entry)) (now (words .exit)) left ⌝ }
 {
     watch_along::ends::blank(&mut wit[..r]);
@@ -92,7 +95,7 @@ pub fn rounds_along(
             m,
             from,
         };
-        let end = turn_along(words, wit, forth, back, log, line, r, turn);
+        let end = phase(words, wit, forth, back, log, line, r, turn);
         let n = end - m;
         let since = news_from(reason, m, end);
         news[reason] = since as u16;

@@ -1,5 +1,5 @@
-// What the rounds of striking share, along stored moves and by tests: a row for each reason, the promises' rows filled, and which phase comes after which.
-// The specs say what striking asks and promises, the laws that phase by phase the words come to it.
+// What the rounds of striking share, along stored moves and by tests: a row for each reason, the promises' rows filled, and which phase
+// comes after which. The specs say what striking asks and promises, the laws that phase by phase the words come to it.
 use ground::State;
 ghost use mathlib.Core.Path.{_≡_};
 ghost use mathlib.Core.Logic.{_⊎_};
@@ -9,13 +9,14 @@ ghost use Rattle.rounds.specs.Rows.{Beginnable, BegunRows};
 pub mod along;
 pub mod tests;
 
-// How many reasons there are at most, a dead end and each promise; and where the log is news from for one that had no phase yet: above every place.
+// How many reasons there are at most, a dead end and each promise; and where the log is news from for one that had no phase yet: above
+// every place.
 pub const REASONS: usize = 1 + ground::MOST_PROMISES;
 
 pub const NEVER: u16 = 65535;
 
-// A phase: its reason, and the word that it gives. The log's first m are the places struck so far; from `from` on they were struck since this
-// reason's last phase.
+// A phase: its reason, and the word that it gives. The log's first m are the places struck so far; from `from` on they were struck since
+// this reason's last phase.
 pub struct Turn {
     pub reason: usize,
     pub word: u32,

@@ -1,5 +1,6 @@
-// The rounds by tests of pairs of places, where the moves are not stored. Row 0 has the pointers of the dead ends, row i a witness for promise i; the
-// struck places stand in a log in the order in which they fell, so that a promise's phase looks again only at what fell since its last one.
+// The rounds by tests of pairs of places, where the moves are not stored. Row 0 has the pointers of the dead ends, row i a witness for
+// promise i; the struck places stand in a log in the order in which they fell, so that a promise's phase looks again only at what fell
+// since its last one.
 use super::NEVER;
 use super::REASONS;
 use super::Turn;
@@ -15,7 +16,7 @@ ghost use Rattle.rounds.specs.Phases.{Stricken};
 ghost use Rattle.rounds.specs.Tests.{RunnableByTests, TestsDone, StrikableByTests};
 
 // One phase by tests: strikes together, for one reason, the places that it does not save; how long the log then is.
-fn turn_by_tests(
+fn phase(
     book: &[State],
     table: &[State],
     words: &mut [u32],
@@ -26,10 +27,11 @@ fn turn_by_tests(
     r: usize,
     turn: Turn,
 ) -> usize
-    requires { ⌜ RunnableByTests (now book) (now table) (now words) (now wit) (now signs) (now log) (now line) r (turn .reason) (turn .word) (turn .m)
-        (turn .from) ⌝ }
-    ensures { λ end. ⌜ TestsDone (now (book .entry)) (now (table .entry)) (now (words .entry)) (now (words .exit)) (now (wit .entry)) (now (wit .exit))
-        (now (log .entry)) (now (log .exit)) r (turn .reason) (turn .word) (turn .m) end × (length (now (line .exit)) ≡ length (now (line .entry))) ⌝ }
+    requires { ⌜ RunnableByTests (now book) (now table) (now words) (now wit) (now signs) (now log) (now line) r (turn .reason) (turn .word)
+        (turn .m) (turn .from) ⌝ }
+    ensures { λ end. ⌜ TestsDone (now (book .entry)) (now (table .entry)) (now (words .entry)) (now (words .exit)) (now (wit .entry))
+        (now (wit .exit)) (now (log .entry)) (now (log .exit)) r (turn .reason) (turn .word) (turn .m) end
+        × (length (now (line .exit)) ≡ length (now (line .entry))) ⌝ }
 {
     let reason = turn.reason;
     let word = turn.word;
@@ -55,7 +57,7 @@ fn turn_by_tests(
 }
 
 // The rounds by tests, from words and pointers that are all 0; how many states are left.
-pub fn rounds_by_tests(
+pub fn strike_rounds(
     book: &[State],
     table: &[State],
     words: &mut [u32],
@@ -85,7 +87,7 @@ pub fn rounds_by_tests(
             m,
             from,
         };
-        let end = turn_by_tests(book, table, words, wit, signs, log, line, r, turn);
+        let end = phase(book, table, words, wit, signs, log, line, r, turn);
         let n = end - m;
         news[reason] = end as u16;
         m = end;

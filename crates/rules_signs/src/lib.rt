@@ -1,6 +1,6 @@
-// Signs: for each place of a table, as bits, the step rules that ask something after its state, and those that its state does not meet. A move
-// leads from one place to another exactly if no rule is in both. Rules that ask nothing after any state of the table get no bit. Where the lent
-// slice has no room for all the others, bits in common still forbid a move, and else the book is asked.
+// Signs: for each place of a table, as bits, the step rules that ask something after its state, and those that its state does not meet. A
+// move leads from one place to another exactly if no rule is in both. Rules that ask nothing after any state of the table get no bit. Where
+// the lent slice has no room for all the others, bits in common still forbid a move, and else the book is asked.
 use ground::State;
 ghost use mathlib.Core.Path.{_≡_};
 ghost use mathlib.Core.Bool.{true};
@@ -21,11 +21,30 @@ pub mod words;
 // How many numbers stand before the first row.
 pub const HEAD: usize = 2;
 
-// Room for the signs of any table: at least one word of either kind for each place.
-pub const MOST: usize = HEAD + 2 * ground::MOST_STATES;
+// Up to so many states need next to no room.
+pub const TINY_STATES: usize = 32;
 
-// How many slots there are for places that were spread from (`slot`); and where no more places wait than this the slots are not asked, since the
-// places are soon tested.
+// Up to so many states storing their moves would cost more than it saves: pairs are tested, by signs.
+pub const FEW_STATES: usize = 512;
+
+// Up to so many states whose moves are not stored need room of a middle size.
+pub const SOME_STATES: usize = 2048;
+
+// How long a row is that has a bit of each of 256 step rules in either half.
+const ROW: usize = 8;
+
+// Room for the signs of tables of these sizes: of 256 step rules for each state.
+pub const TINY_SIGNS: usize = HEAD + ROW * TINY_STATES;
+
+pub const FEW_SIGNS: usize = HEAD + ROW * FEW_STATES;
+
+pub const SOME_SIGNS: usize = HEAD + ROW * SOME_STATES;
+
+// Room for the signs of any table: at least one word of either kind for each place.
+pub const MOST_SIGNS: usize = HEAD + 2 * ground::MOST_STATES;
+
+// How many slots there are for places that were spread from (`slot`); and where no more places wait than this the slots are not asked,
+// since the places are soon tested.
 pub const SLOTS: usize = 2048;
 
 pub const FEW_WAITING: usize = 32;
@@ -94,7 +113,8 @@ fn write_rows(
 // Writes the signs of the table's first r places, as far as there is room for them.
 pub fn fill(book: &[State], table: &[State], r: usize, signs: &mut [u64])
     requires { ⌜ LawfulTable (now book) (now table) r × (headSize ≤ length (now signs)) ⌝ }
-    ensures { λ _. ⌜ Signed (now (book .entry)) (now (table .entry)) r (now (signs .exit)) × (length (now (signs .exit)) ≡ length (now (signs .entry))) ⌝ }
+    ensures { λ _. ⌜ Signed (now (book .entry)) (now (table .entry)) r (now (signs .exit))
+        × (length (now (signs .exit)) ≡ length (now (signs .entry))) ⌝ }
 {
     let mut list = [0u16; ground::MOST_RULES];
     let n = live::list_live(book, table, r, &mut list);
@@ -131,7 +151,8 @@ pub fn stricter(
     j: usize,
 ) -> bool
     requires { ⌜ Signed (now book) (now table) r (now signs) × (k < r) × (j < r) ⌝ }
-    ensures { λ b. ⌜ (b ≡ true → (i : ℕ) → i < r → To (now (book .entry)) (now (table .entry)) i j → To (now (book .entry)) (now (table .entry)) i k) ⌝ }
+    ensures { λ b. ⌜ (b ≡ true → (i : ℕ) → i < r → To (now (book .entry)) (now (table .entry)) i j
+        → To (now (book .entry)) (now (table .entry)) i k) ⌝ }
 {
     if signs[1] != 1 {
         return false;

@@ -6,13 +6,15 @@ use Prim.Native.Nat.{ℕ, _*_, _≤_}
 use native.Mathlib.Omega.{arith}
 use lib.ListN.{length, replicate, length-replicate}
 use Rattle.rules.specs.Book.{bookSystem}
-use Rattle.rules_signs.specs.Signs.{Signed}
+use Rattle.rules.specs.Table.{LawfulTable}
+use Rattle.rules_signs.specs.Signs.{headSize, Signed}
+use Rattle.rules_signs.proofs.Rowing.{lent-signs}
 use Rattle.moves_both.specs.Web.{StoredRows, none, both}
 use Rattle.sample_step.specs.Follow.{Followable}
 use Rattle.sample_step.proofs.Lent.{none-followable}
 use Rattle.sample_step.specs.Rows.{aimsOf, LivableTable}
 use Rattle.sample_step.specs.Step.{Onward}
-use Rattle.sample_walk.specs.Walk.{Walked}
+use Rattle.sample_walk.specs.Walk.{Steerable, Walked}
 use Rattle.sample_walk.proofs.Trails.{few-rows}
 
 -- Arrays of zeros for n places are room for the distances and the queue of r places. Their lengths come by a law; computed, they would cost by the
@@ -23,6 +25,17 @@ lent-rows {book = book} {r = r} t n few = (
   subst (λ (x : ℕ). aimsOf (bookSystem book) * r ≤ x) (sym (length-replicate {A = ℕ} (16 * n) 0)) (few-rows t n few),
   subst (λ (x : ℕ). r ≤ x) (sym (length-replicate {A = ℕ} n 0)) few,
 )
+
+-- With such arrays, and with signs, the run may be walked by tests.
+pub tests-ready : {book table words signs : List ℕ} {r : ℕ} (n : ℕ) → Steerable book table words r → Signed book table r signs → r ≤ n
+    → Steerable book table words r × (aimsOf (bookSystem book) * r ≤ length (replicate {A = ℕ} (16 * n) 0))
+    × (r ≤ length (replicate {A = ℕ} n 0)) × Signed book table r signs
+tests-ready n A signed few = let room = lent-rows (A .states) n few in (A, room .0, room .1, signed)
+
+-- An array of n zeros is room for the signs.
+pub signs-ready : {book table words : List ℕ} {r : ℕ} (n : ℕ) → Steerable book table words r → headSize ≤ n
+    → LawfulTable book table r × (headSize ≤ length (replicate {A = ℕ} n 0))
+signs-ready n A enough = (A .states .states, lent-signs n enough)
 
 -- the next moments and the distances can be found
 abbrev pub Ways : (book table : List ℕ) (r : ℕ) (forth back queue signs : List ℕ) → Type 0

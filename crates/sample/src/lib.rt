@@ -1,6 +1,6 @@
-// Finds and writes the sample run, in room of its own. Where there are many states, the moves between them are stored once, if they have room,
-// and the distances and every step look at stored moves only; else pairs of states are tested by their signs, which of few states the caller has.
-// What room is lent to the walks depends on how many states there are.
+// Finds and writes the sample run, in room of its own. Where there are many states, the moves between them are stored once, if they have
+// room, and the distances and every step look at stored moves only; else pairs of states are tested by their signs, which of few states the
+// caller has. What room is lent to the walks depends on how many states there are.
 
 use ground::State;
 pub use sample_walk::Steps;
@@ -9,7 +9,7 @@ ghost use Prim.Native.Nat.{_*_, _≤_};
 ghost use lib.ListN.{length};
 ghost use Rattle.rules.specs.Book.{bookSystem};
 ghost use Rattle.rules_signs.specs.Signs.{Signed};
-ghost use Rattle.moves.specs.Moves.{tinyStates, fewStates, someStates};
+ghost use Rattle.rules_signs.specs.Sizes.{tinyStates, fewStates, someStates};
 ghost use Rattle.sample_step.specs.Rows.{aimsOf};
 ghost use Rattle.sample_walk.specs.Walk.{Steerable, Walked};
 ghost use Rattle.sample.specs.Ways.{WalkedAlong};
@@ -18,18 +18,13 @@ ghost use Rattle.sample.specs.Ways.{WalkedAlong};
 const AIMS: usize = ground::MOST_PROMISES;
 
 // Room for the distances of tiny, few, some and all states.
-const TINY_DISTANCES: usize = AIMS * moves::TINY_STATES;
+const TINY_DISTANCES: usize = AIMS * rules_signs::TINY_STATES;
 
-const FEW_DISTANCES: usize = AIMS * moves::FEW_STATES;
+const FEW_DISTANCES: usize = AIMS * rules_signs::FEW_STATES;
 
-const SOME_DISTANCES: usize = AIMS * moves::SOME_STATES;
+const SOME_DISTANCES: usize = AIMS * rules_signs::SOME_STATES;
 
 const MOST_DISTANCES: usize = AIMS * ground::MOST_STATES;
-
-// Room for the signs of few and some states: of 256 step rules for each state.
-const FEW_SIGNS: usize = rules_signs::HEAD + moves::FEW_STATES * 8;
-
-const SOME_SIGNS: usize = rules_signs::HEAD + moves::SOME_STATES * 8;
 
 // The run walked along stored moves; or that they have no room.
 pub enum Way {
@@ -52,7 +47,8 @@ fn walk_by_tests(
 ) -> Steps
     requires { ⌜ Steerable (now book) (now table) (now words) r × (aimsOf (bookSystem (now book)) * r ≤ length (now dist))
         × (r ≤ length (now queue)) × Signed (now book) (now table) r (now signs) ⌝ }
-    ensures { λ s. ⌜ Walked (now (book .entry)) (now (words .entry)) (now (words .exit)) (now (run .entry)) (now (run .exit)) (s .a) (s .b) ⌝ }
+    ensures { λ s. ⌜ Walked (now (book .entry)) (now (words .entry)) (now (words .exit)) (now (run .entry)) (now (run .exit)) (s .a)
+        (s .b) ⌝ }
 {
     let none = [0u16; 1];
     let empty = &none[..0];
@@ -69,10 +65,11 @@ pub fn steer_signed(
     signs: &[u64],
 ) -> Steps
     requires { ⌜ Steerable (now book) (now table) (now words) r × Signed (now book) (now table) r (now signs) × (r ≤ tinyStates) ⌝ }
-    ensures { λ s. ⌜ Walked (now (book .entry)) (now (words .entry)) (now (words .exit)) (now (run .entry)) (now (run .exit)) (s .a) (s .b) ⌝ }
+    ensures { λ s. ⌜ Walked (now (book .entry)) (now (words .entry)) (now (words .exit)) (now (run .entry)) (now (run .exit)) (s .a)
+        (s .b) ⌝ }
 {
     let mut dist = [0u16; TINY_DISTANCES];
-    let mut queue = [0u16; moves::TINY_STATES];
+    let mut queue = [0u16; rules_signs::TINY_STATES];
     walk_by_tests(book, table, words, run, r, &mut dist, &mut queue, signs)
 }
 
@@ -85,11 +82,12 @@ fn walk_few(
     r: usize,
 ) -> Steps
     requires { ⌜ Steerable (now book) (now table) (now words) r × (r ≤ fewStates) ⌝ }
-    ensures { λ s. ⌜ Walked (now (book .entry)) (now (words .entry)) (now (words .exit)) (now (run .entry)) (now (run .exit)) (s .a) (s .b) ⌝ }
+    ensures { λ s. ⌜ Walked (now (book .entry)) (now (words .entry)) (now (words .exit)) (now (run .entry)) (now (run .exit)) (s .a)
+        (s .b) ⌝ }
 {
     let mut dist = [0u16; FEW_DISTANCES];
-    let mut queue = [0u16; moves::FEW_STATES];
-    let mut signs = [0u64; FEW_SIGNS];
+    let mut queue = [0u16; rules_signs::FEW_STATES];
+    let mut signs = [0u64; rules_signs::FEW_SIGNS];
     rules_signs::fill(book, table, r, &mut signs);
     walk_by_tests(book, table, words, run, r, &mut dist, &mut queue, &signs)
 }
@@ -103,11 +101,12 @@ fn walk_some(
     r: usize,
 ) -> Steps
     requires { ⌜ Steerable (now book) (now table) (now words) r × (r ≤ someStates) ⌝ }
-    ensures { λ s. ⌜ Walked (now (book .entry)) (now (words .entry)) (now (words .exit)) (now (run .entry)) (now (run .exit)) (s .a) (s .b) ⌝ }
+    ensures { λ s. ⌜ Walked (now (book .entry)) (now (words .entry)) (now (words .exit)) (now (run .entry)) (now (run .exit)) (s .a)
+        (s .b) ⌝ }
 {
     let mut dist = [0u16; SOME_DISTANCES];
-    let mut queue = [0u16; moves::SOME_STATES];
-    let mut signs = [0u64; SOME_SIGNS];
+    let mut queue = [0u16; rules_signs::SOME_STATES];
+    let mut signs = [0u64; rules_signs::SOME_SIGNS];
     rules_signs::fill(book, table, r, &mut signs);
     walk_by_tests(book, table, words, run, r, &mut dist, &mut queue, &signs)
 }
@@ -121,11 +120,12 @@ fn walk_many(
     r: usize,
 ) -> Steps
     requires { ⌜ Steerable (now book) (now table) (now words) r ⌝ }
-    ensures { λ s. ⌜ Walked (now (book .entry)) (now (words .entry)) (now (words .exit)) (now (run .entry)) (now (run .exit)) (s .a) (s .b) ⌝ }
+    ensures { λ s. ⌜ Walked (now (book .entry)) (now (words .entry)) (now (words .exit)) (now (run .entry)) (now (run .exit)) (s .a)
+        (s .b) ⌝ }
 {
     let mut dist = [0u16; MOST_DISTANCES];
     let mut queue = [0u16; ground::MOST_STATES];
-    let mut signs = [0u64; rules_signs::MOST];
+    let mut signs = [0u64; rules_signs::MOST_SIGNS];
     rules_signs::fill(book, table, r, &mut signs);
     walk_by_tests(book, table, words, run, r, &mut dist, &mut queue, &signs)
 }
@@ -139,9 +139,10 @@ fn walk_unstored(
     r: usize,
 ) -> Steps
     requires { ⌜ Steerable (now book) (now table) (now words) r ⌝ }
-    ensures { λ s. ⌜ Walked (now (book .entry)) (now (words .entry)) (now (words .exit)) (now (run .entry)) (now (run .exit)) (s .a) (s .b) ⌝ }
+    ensures { λ s. ⌜ Walked (now (book .entry)) (now (words .entry)) (now (words .exit)) (now (run .entry)) (now (run .exit)) (s .a)
+        (s .b) ⌝ }
 {
-    if r <= moves::SOME_STATES {
+    if r <= rules_signs::SOME_STATES {
         return walk_some(book, table, words, run, r);
     }
     walk_many(book, table, words, run, r)
@@ -149,8 +150,8 @@ fn walk_unstored(
 
 // ---- along stored moves
 
-// With room for as many states as there can be, and for the moves. Where these are too many nothing is done: then pairs have to be tested, which
-// needs other room, and both together would be too much.
+// With room for as many states as there can be, and for the moves. Where these are too many nothing is done: then pairs have to be tested,
+// which needs other room, and both together would be too much.
 fn walk_stored(
     book: &[State],
     table: &[State],
@@ -196,9 +197,10 @@ pub fn steer(
     r: usize,
 ) -> Steps
     requires { ⌜ Steerable (now book) (now table) (now words) r ⌝ }
-    ensures { λ s. ⌜ Walked (now (book .entry)) (now (words .entry)) (now (words .exit)) (now (run .entry)) (now (run .exit)) (s .a) (s .b) ⌝ }
+    ensures { λ s. ⌜ Walked (now (book .entry)) (now (words .entry)) (now (words .exit)) (now (run .entry)) (now (run .exit)) (s .a)
+        (s .b) ⌝ }
 {
-    if r <= moves::FEW_STATES {
+    if r <= rules_signs::FEW_STATES {
         return walk_few(book, table, words, run, r);
     }
     match walk_stored(book, table, words, run, r) {

@@ -1,6 +1,6 @@
-// The best next state: document 01, "The judge's two papers", first paragraph. The distances from every livable state to every aim, one row for
-// each aim, and from a moment of the sample run to the next: the aim passes, and of the next states the nearest is taken, then the least.
-// Where the moves are stored, only the stored row is looked at, else places are tested by their signs.
+// The best next state: document 01, "The judge's two papers", first paragraph. The distances from every livable state to every aim, one row
+// for each aim, and from a moment of the sample run to the next: the aim passes, and of the next states the nearest is taken, then the
+// least. Where the moves are stored, only the stored row is looked at, else places are tested by their signs.
 
 use ground::State;
 ghost use mathlib.Core.Path.{_≡_};
@@ -16,7 +16,8 @@ ghost use Rattle.rules_signs.specs.Signs.{Signed};
 ghost use Rattle.sample_step.specs.Follow.{Followable};
 ghost use Rattle.moves.specs.Layout.{startAt, endAt, cellsOf};
 ghost use Rattle.sample_step.specs.Rows.{aimsOf, Rowable, RowsMeasured, Walkable};
-ghost use Rattle.sample_step.specs.Step.{FirstPlace, FirstNearest, Below, rowAt, FirstAt, Scannable, Lookable, Onward, BestAt, Stepped};
+ghost use Rattle.sample_step.specs.Step.{FirstPlace, FirstNearest, Below, rowAt, FirstAt, Scannable};
+ghost use Rattle.sample_step.specs.Step.{Lookable, Onward, BestAt, Stepped};
 
 pub mod measure;
 
@@ -226,8 +227,8 @@ fn one_less(d: u16) -> u16
     if d > 0 { d - 1 } else { 0 }
 }
 
-// The best next place of `place` for that aim, sought among all places. No next state is nearer than one less than the state's own distance;
-// where that distance is not 0, one is as near, so that only places at just that distance are tested.
+// The best next place of `place` for that aim, sought among all places. No next state is nearer than one less than the state's own
+// distance; where that distance is not 0, one is as near, so that only places at just that distance are tested.
 fn seek(
     book: &[State],
     table: &[State],
@@ -255,7 +256,8 @@ fn seek(
 // The first of the nearest places in the stored row of `place`.
 fn nearest_in_row(dist: &[u16], from: usize, forth: &[u16], place: usize) -> usize
     requires { ⌜ Lookable (now dist) from (now forth) place ⌝ }
-    ensures { λ p. ⌜ FirstNearest (Between (cellsOf (now (forth .entry))) (startAt (now (forth .entry)) place) (endAt (now (forth .entry)) place))
+    ensures { λ p. ⌜ FirstNearest
+        (Between (cellsOf (now (forth .entry))) (startAt (now (forth .entry)) place) (endAt (now (forth .entry)) place))
         (rowAt (now (dist .entry)) from) p ⌝ }
 {
     let end = moves::row_end(forth, place);

@@ -10,8 +10,8 @@ ghost use Rattle.distances.specs.Far.{Measured};
 ghost use Rattle.distances.specs.Values.{Measurable};
 ghost use Rattle.sample_step.specs.Follow.{Followable};
 
-// The distances to promise k, counted from 0, of the table's first r places, written from `from` on: GONE for a struck place, FAR where no path of
-// unstruck states leads to the promise. By the stored moves back where they are stored, else (`back` is empty) by tests of pairs.
+// The distances to promise k, counted from 0, of the table's first r places, written from `from` on: GONE for a struck place, FAR where no
+// path of unstruck states leads to the promise. By the stored moves back where they are stored, else (`back` is empty) by tests of pairs.
 pub fn distances(
     book: &[State],
     k: usize,
@@ -26,8 +26,8 @@ pub fn distances(
 )
     requires { ⌜ Measurable (now book) k (now table) (now words) r × (from + r ≤ length (now dist))
         × Followable (now book) (now table) r (now back) (now queue) (now signs) ⌝ }
-    ensures { λ _. ⌜ Measured (bookSystem (now (book .entry))) (bookSystem (now (book .entry)) .Kept k) (now (table .entry)) (now (words .entry)) r from
-        (now (dist .entry)) (now (dist .exit)) × (length (now (queue .exit)) ≡ length (now (queue .entry))) ⌝ }
+    ensures { λ _. ⌜ Measured (bookSystem (now (book .entry))) (bookSystem (now (book .entry)) .Kept k) (now (table .entry))
+        (now (words .entry)) r from (now (dist .entry)) (now (dist .exit)) × (length (now (queue .exit)) ≡ length (now (queue .entry))) ⌝ }
 {
     if back.len() == 0 {
         distances_tests::by_tests(book, k, table, words, r, queue, dist, from, signs);

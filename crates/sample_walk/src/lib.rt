@@ -1,6 +1,6 @@
-// The two walks of the sample run: document 01, "The judge's two papers", first paragraph. The distances to every promise are computed once; a
-// first walk finds the moment b at which a pair of state and aim comes again, a second one writes the b states, if they fit. The caller lends the
-// room, and the moves or the signs by which the next state is found.
+// The two walks of the sample run: document 01, "The judge's two papers", first paragraph. The distances to every promise are computed
+// once; a first walk finds the moment b at which a pair of state and aim comes again, a second one writes the b states, if they fit. The
+// caller lends the room, and the moves or the signs by which the next state is found.
 
 use ground::State;
 ghost use mathlib.Core.Path.{_≡_};
@@ -40,7 +40,8 @@ fn find_end(
 ) -> End
     requires { ⌜ Walkable (now book) (now table) (now dist) r × (r ≤ length (now words)) × Zeros (now words) r
         × Onward (now book) (now table) r (now forth) (now signs) ⌝ }
-    ensures { λ e. ⌜ Ended (now (book .entry)) (now (table .entry)) (now (words .entry)) (now (words .exit)) r (e .b) (e .place) (e .aim) ⌝ }
+    ensures { λ e. ⌜ Ended (now (book .entry)) (now (table .entry)) (now (words .entry)) (now (words .exit)) r (e .b) (e .place)
+        (e .aim) ⌝ }
 {
     let mut place = sample_step::first_place(book, table, r);
     let mut aim: usize = 0;
@@ -115,7 +116,8 @@ pub fn walk(
     requires { ⌜ Steerable (now book) (now table) (now words) r × (aimsOf (bookSystem (now book)) * r ≤ length (now dist))
         × Onward (now book) (now table) r (now forth) (now signs)
         × Followable (now book) (now table) r (now back) (now queue) (now signs) ⌝ }
-    ensures { λ s. ⌜ Walked (now (book .entry)) (now (words .entry)) (now (words .exit)) (now (run .entry)) (now (run .exit)) (s .a) (s .b) ⌝ }
+    ensures { λ s. ⌜ Walked (now (book .entry)) (now (words .entry)) (now (words .exit)) (now (run .entry)) (now (run .exit)) (s .a)
+        (s .b) ⌝ }
 {
     ground::wipe_front(words, r);
     sample_step::rows(book, table, words, dist, r, back, queue, signs);

@@ -11,7 +11,9 @@ use Rattle.rules.specs.Book.{promisesOf}
 use Rattle.moves.specs.Moves.{Storable}
 use Rattle.moves.proofs.Rows.{storable}
 use Rattle.moves_both.specs.Web.{StoredRows, none, both}
-use Rattle.rules_signs.specs.Signs.{Signed}
+use Rattle.rules.specs.Table.{LawfulTable}
+use Rattle.rules_signs.specs.Signs.{headSize, Signed}
+use Rattle.rules_signs.proofs.Rowing.{lent-signs}
 use Rattle.rounds.specs.Phases.{Strikable}
 use Rattle.rounds.specs.Rows.{RoomForRows}
 use Rattle.rounds.proofs.Rows.{row-inside}
@@ -36,14 +38,23 @@ rows-room {book = book} {r = r} n A few small =
     }
 
 -- With such arrays, and with signs, the rounds by tests may be run.
-pub tests-strikable : {book table words : List ℕ} {r : ℕ} {signs : List ℕ} (n : ℕ) → Strikable book table words r → Signed book table r signs
-    → r ≤ n → n ≤ mostStates → StrikableByTests book table words r signs (replicate (17 * n) 0) (replicate n 0) (replicate n 0)
-tests-strikable n A signed few small = record {
-  asked = A;
-  signed = signed;
-  roomed = rows-room n A few small;
-  pointers = λ i h. getD-replicate (17 * n) i 0 0 (omega (arith, h, few));
-}
+pub tests-ready : {book table words : List ℕ} {r : ℕ} {signs : List ℕ} (n : ℕ) → Strikable book table words r → Zeros words r
+    → Signed book table r signs → r ≤ n → n ≤ mostStates
+    → StrikableByTests book table words r signs (replicate (17 * n) 0) (replicate n 0) (replicate n 0) × Zeros words r
+tests-ready n A zeros signed few small = (
+  record {
+    asked = A;
+    signed = signed;
+    roomed = rows-room n A few small;
+    pointers = λ i h. getD-replicate (17 * n) i 0 0 (omega (arith, h, few));
+  },
+  zeros,
+)
+
+-- An array of n zeros is room for the signs.
+pub signs-ready : {book table words : List ℕ} {r : ℕ} (n : ℕ) → Strikable book table words r → headSize ≤ n
+    → LawfulTable book table r × (headSize ≤ length (replicate {A = ℕ} n 0))
+signs-ready n A enough = (strikable-lawful _ _ _ _ A, lent-signs n enough)
 
 -- ---- stored moves
 

@@ -9,45 +9,45 @@ use borrow.Author.Tests.{eqb-true, eqb-false}
 use lib.Dec.{eqb}
 use lib.ListN.{length, getD, set, length-set}
 use lib.Seq.{getD-set-same, getD-set-other}
-use Rattle.distances.specs.Far.{far, gone}
 use Rattle.distances.specs.Values.{keptIn}
-use Rattle.watch.specs.Witness.{BegunRow}
+use Rattle.watch.specs.Witness.{nobody, itself, BegunRow}
 use Rattle.watch.specs.Turns.{IsSo}
 
 -- the first i places have begun
 pub record Beginning (book : List ℕ) (k : ℕ) (table old row : List ℕ) (i : ℕ) : Type 0 where
   pub long : length row ≡ length old
-  pub itself : (j : ℕ) → j < i → keptIn book k (getD table j 0) → getD row j 0 ≡ gone
-  pub nobody : (j : ℕ) → j < i → (keptIn book k (getD table j 0) → ⊥) → getD row j 0 ≡ far
+  pub keeps : (j : ℕ) → j < i → keptIn book k (getD table j 0) → getD row j 0 ≡ itself
+  pub lacks : (j : ℕ) → j < i → (keptIn book k (getD table j 0) → ⊥) → getD row j 0 ≡ nobody
 
 -- Before the first turn none has.
 pub beginning-none : (book : List ℕ) (k : ℕ) (table row : List ℕ) → Beginning book k table row row 0
-beginning-none book k table row = record { long = refl; itself = λ j h e. absurd (omega arith); nobody = λ j h e. absurd (omega arith) }
+beginning-none book k table row = record { long = refl; keeps = λ j h e. absurd (omega arith); lacks = λ j h e. absurd (omega arith) }
 
 module _ {book : List ℕ} {k : ℕ} {table old row : List ℕ} {i : ℕ} (B : Beginning book k table old row i) where
   -- One more begins with v, which says what it must.
-  pub beginning-more : (v : ℕ) → i < length row → (keptIn book k (getD table i 0) → v ≡ gone) → ((keptIn book k (getD table i 0) → ⊥) → v ≡ far)
+  pub beginning-more : (v : ℕ) → i < length row → (keptIn book k (getD table i 0) → v ≡ itself)
+      → ((keptIn book k (getD table i 0) → ⊥) → v ≡ nobody)
       → Beginning book k table old (set row i v) (i + 1)
   beginning-more v h own other = record {
     long = length-set row i v ∙ B .long;
-    itself = λ j l e. own-at j l e (ℕ-discrete j i);
-    nobody = λ j l e. other-at j l e (ℕ-discrete j i);
+    keeps = λ j l e. own-at j l e (ℕ-discrete j i);
+    lacks = λ j l e. other-at j l e (ℕ-discrete j i);
   }
     where
       here : (j : ℕ) → j ≡ i → getD (set row i v) j 0 ≡ v
       here j q = ap (λ (x : ℕ). getD (set row i v) x 0) q ∙ getD-set-same row i v 0 h
 
-      own-at : (j : ℕ) → j < i + 1 → keptIn book k (getD table j 0) → Dec (j ≡ i) → getD (set row i v) j 0 ≡ gone
+      own-at : (j : ℕ) → j < i + 1 → keptIn book k (getD table j 0) → Dec (j ≡ i) → getD (set row i v) j 0 ≡ itself
       own-at j l e (yes q) = here j q ∙ own (subst (λ (x : ℕ). keptIn book k (getD table x 0)) q e)
-      own-at j l e (no q) = getD-set-other row i j v 0 q ∙ B .itself j (omega arith) e
+      own-at j l e (no q) = getD-set-other row i j v 0 q ∙ B .keeps j (omega arith) e
 
-      other-at : (j : ℕ) → j < i + 1 → (keptIn book k (getD table j 0) → ⊥) → Dec (j ≡ i) → getD (set row i v) j 0 ≡ far
+      other-at : (j : ℕ) → j < i + 1 → (keptIn book k (getD table j 0) → ⊥) → Dec (j ≡ i) → getD (set row i v) j 0 ≡ nobody
       other-at j l e (yes q) = here j q ∙ other (λ z. e (subst (λ (x : ℕ). keptIn book k (getD table x 0)) (sym q) z))
-      other-at j l e (no q) = getD-set-other row i j v 0 q ∙ B .nobody j (omega arith) e
+      other-at j l e (no q) = getD-set-other row i j v 0 q ∙ B .lacks j (omega arith) e
 
   -- When all are passed, the row has begun.
   pub beginning-done : length row ≤ i → BegunRow book k table old row
-  beginning-done over = record { long = B .long; itself = λ j l e. B .itself j (omega arith) e; nobody = λ j l e. B .nobody j (omega arith) e }
+  beginning-done over = record { long = B .long; keeps = λ j l e. B .keeps j (omega arith) e; lacks = λ j l e. B .lacks j (omega arith) e }
 
 -- ---- whether a place is unstruck and has a number
 

@@ -9,9 +9,9 @@ use native.Mathlib.Omega.{arith}
 use lib.ListN.{length, getD, set, length-set}
 use lib.Seq.{getD-set-same, getD-set-other}
 use Rattle.ground.specs.Listed.{Between}
-use Rattle.distances.specs.Far.{far, gone}
 use Rattle.distances.proofs.Totals.{total-set}
-use Rattle.watch.specs.Witness.{freeIn, Fresh}
+use Rattle.distances.specs.Far.{Unstruck}
+use Rattle.watch.specs.Witness.{nobody, itself, freeIn, Fresh}
 use Rattle.watch.specs.Turns.{weight, unstruckAt, Loosened, Fallable, FallsAt, was, keeps, falls, FellTo}
 use Rattle.watch.proofs.Sums.{weighs-most, weighs-none, two-counts, total-upto}
 
@@ -32,9 +32,9 @@ pub record Alone (words row before log : List ℕ) (m tail i : ℕ) : Type 0 whe
   pub log-long : length log ≡ length before
   pub kept : (t : ℕ) → t < m → getD log t 0 ≡ getD before t 0
   pub grows : m ≤ tail
-  pub places : (t : ℕ) → m ≤ t → t < tail → (getD log t 0 < length row) × (getD words (getD log t 0) 0 ≡ 0)
-  pub alone : (j : ℕ) → j < i → getD words j 0 ≡ 0 → getD row j 0 ≡ far → Between log m tail j
-  pub counted : tail ≡ m + weight (unstruckAt far) words row i
+  pub places : (t : ℕ) → m ≤ t → t < tail → (getD log t 0 < length row) × Unstruck words (getD log t 0)
+  pub alone : (j : ℕ) → j < i → Unstruck words j → getD row j 0 ≡ nobody → Between log m tail j
+  pub counted : tail ≡ m + weight (unstruckAt nobody) words row i
 
 -- Before the first turn there are none.
 pub alone-none : (words row log : List ℕ) (m : ℕ) → Alone words row log log m m 0
@@ -51,28 +51,29 @@ module _ {words row before log : List ℕ} {m tail i : ℕ} (F : Fresh words row
   -- The log never gets longer than there are places.
   pub alone-room : i ≤ length row → tail ≤ length row
   alone-room h =
-      let a = two-counts far gone words row (λ e. absurd (omega (arith, e))) in
-      let b = total-upto (λ j. unstruckAt far (getD words j 0) (getD row j 0)) i (length row) h in
+      let a = two-counts nobody itself words row (λ e. absurd (omega (arith, e))) in
+      let b = total-upto (λ j. unstruckAt nobody (getD words j 0) (getD row j 0)) i (length row) h in
       omega (arith, a, b, A .counted, F .log-is .count)
 
   -- Where one more place is without a witness, there is room for it.
-  pub alone-inside : i < length row → getD words i 0 ≡ 0 → getD row i 0 ≡ far → tail < length log
+  pub alone-inside : i < length row → Unstruck words i → getD row i 0 ≡ nobody → tail < length log
   alone-inside h u e =
-      let a = two-counts far gone words row (λ z. absurd (omega (arith, z))) in
-      let b = total-upto (λ j. unstruckAt far (getD words j 0) (getD row j 0)) (suc i) (length row) (omega arith) in
-      let c = weighs-most far (getD words i 0) (getD row i 0) e in
+      let a = two-counts nobody itself words row (λ z. absurd (omega (arith, z))) in
+      let b = total-upto (λ j. unstruckAt nobody (getD words j 0) (getD row j 0)) (suc i) (length row) (omega arith) in
+      let c = weighs-most nobody (getD words i 0) (getD row i 0) e in
       omega (arith, a, b, c, u, A .counted, F .log-is .count, F .log-is .in-log, A .log-long)
 
   -- It is put behind the others.
-  pub alone-more : i < length row → getD words i 0 ≡ 0 → getD row i 0 ≡ far → Alone words row before (set log tail i) m (tail + 1) (i + 1)
+  pub alone-more : i < length row → Unstruck words i → getD row i 0 ≡ nobody → Alone words row before (set log tail i) m (tail + 1) (i + 1)
   alone-more h u e = record {
     log-long = length-set log tail i ∙ A .log-long;
     kept = λ t k. getD-set-other log tail t i 0 (λ z. absurd (omega (arith, z, k, A .grows))) ∙ A .kept t k;
     grows = omega (arith, A .grows);
     places = λ t k l. place-at t k l (ℕ-discrete t tail);
     alone = λ j k v f. at j k v f (ℕ-discrete j i);
-    counted = let c = weighs-most far (getD words i 0) (getD row i 0) e in
-        let d : weight (unstruckAt far) words row (i + 1) ≡ weight (unstruckAt far) words row (suc i) = ap (λ (x : ℕ). weight (unstruckAt far) words row x)
+    counted = let c = weighs-most nobody (getD words i 0) (getD row i 0) e in
+        let d : weight (unstruckAt nobody) words row (i + 1) ≡ weight (unstruckAt nobody) words row (suc i) =
+        ap (λ (x : ℕ). weight (unstruckAt nobody) words row x)
         (add-one i) in
         omega (arith, c, d, u, A .counted);
   }
@@ -80,7 +81,8 @@ module _ {words row before log : List ℕ} {m tail i : ℕ} (F : Fresh words row
       inside : tail < length log
       inside = alone-inside h u e
 
-      place-at : (t : ℕ) → m ≤ t → t < tail + 1 → Dec (t ≡ tail) → (getD (set log tail i) t 0 < length row) × (getD words (getD (set log tail i) t 0) 0 ≡ 0)
+      place-at : (t : ℕ) → m ≤ t → t < tail + 1 → Dec (t ≡ tail) → (getD (set log tail i) t 0 < length row)
+          × Unstruck words (getD (set log tail i) t 0)
       place-at t k l (yes q) =
           let z : getD (set log tail i) t 0 ≡ i = ap (λ (x : ℕ). getD (set log tail i) x 0) q ∙ getD-set-same log tail i 0 inside in
           (omega (arith, z, h), ap (λ (x : ℕ). getD words x 0) z ∙ u)
@@ -90,32 +92,33 @@ module _ {words row before log : List ℕ} {m tail i : ℕ} (F : Fresh words row
           let a = p .0 in
           (omega (arith, z, a), ap (λ (x : ℕ). getD words x 0) z ∙ p .1)
 
-      at : (j : ℕ) → j < i + 1 → getD words j 0 ≡ 0 → getD row j 0 ≡ far → Dec (j ≡ i) → Between (set log tail i) m (tail + 1) j
+      at : (j : ℕ) → j < i + 1 → Unstruck words j → getD row j 0 ≡ nobody → Dec (j ≡ i) → Between (set log tail i) m (tail + 1) j
       at j k v f (yes q) = subst (λ (x : ℕ). Between (set log tail i) m (tail + 1) x) (sym q) (stands-now log m tail i (A .grows) inside)
       at j k v f (no q) = stands-still log m tail i j (A .alone j (omega arith) v f)
 
   -- One that is struck or has a witness is passed by.
-  pub alone-past : (getD words i 0 ≡ 0 → getD row i 0 ≡ far → ⊥) → Alone words row before log m tail (i + 1)
+  pub alone-past : (Unstruck words i → getD row i 0 ≡ nobody → ⊥) → Alone words row before log m tail (i + 1)
   alone-past n = record {
     log-long = A .log-long;
     kept = A .kept;
     grows = A .grows;
     places = A .places;
     alone = λ j k v f. at j k v f (ℕ-discrete j i);
-    counted = let c = nothing (ℕ-discrete (getD row i 0) far) (ℕ-discrete (getD words i 0) 0) in
-        let d : weight (unstruckAt far) words row (i + 1) ≡ weight (unstruckAt far) words row (suc i) = ap (λ (x : ℕ). weight (unstruckAt far) words row x)
+    counted = let c = nothing (ℕ-discrete (getD row i 0) nobody) (ℕ-discrete (getD words i 0) 0) in
+        let d : weight (unstruckAt nobody) words row (i + 1) ≡ weight (unstruckAt nobody) words row (suc i) =
+        ap (λ (x : ℕ). weight (unstruckAt nobody) words row x)
         (add-one i) in
         omega (arith, c, d, A .counted);
   }
     where
-      nothing : Dec (getD row i 0 ≡ far) → Dec (getD words i 0 ≡ 0) → unstruckAt far (getD words i 0) (getD row i 0) ≡ 0
-      nothing (no q) p = weighs-none far (getD words i 0) (getD row i 0) q
+      nothing : Dec (getD row i 0 ≡ nobody) → Dec (Unstruck words i) → unstruckAt nobody (getD words i 0) (getD row i 0) ≡ 0
+      nothing (no q) p = weighs-none nobody (getD words i 0) (getD row i 0) q
       nothing (yes q) (yes p) = absurd (n p q)
-      nothing (yes q) (no p) = let a = weighs-most far (getD words i 0) (getD row i 0) q in omega (arith, a, p)
+      nothing (yes q) (no p) = let a = weighs-most nobody (getD words i 0) (getD row i 0) q in omega (arith, a, p)
 
-      at : (j : ℕ) → j < i + 1 → getD words j 0 ≡ 0 → getD row j 0 ≡ far → Dec (j ≡ i) → Between log m tail j
+      at : (j : ℕ) → j < i + 1 → Unstruck words j → getD row j 0 ≡ nobody → Dec (j ≡ i) → Between log m tail j
       at j k v f (yes q) =
-          absurd (n (subst (λ (x : ℕ). getD words x 0 ≡ 0) q v) (subst (λ (x : ℕ). getD row x 0 ≡ far) q f))
+          absurd (n (subst (λ (x : ℕ). Unstruck words x) q v) (subst (λ (x : ℕ). getD row x 0 ≡ nobody) q f))
       at j k v f (no q) = A .alone j (omega arith) v f
 
   -- When all are passed, they stand there, and those with a witness keep the promise themselves.
@@ -132,7 +135,8 @@ module _ {words row before log : List ℕ} {m tail i : ℕ} (F : Fresh words row
     alone = λ j k u e. A .alone j (omega arith) u e;
   }
     where
-      own : (j : ℕ) → j < length row → (getD row j 0 ≡ far → ⊥) → (getD row j 0 ≡ far) ⊎ (getD row j 0 ≡ gone) → getD row j 0 ≡ gone
+      own : (j : ℕ) → j < length row → (getD row j 0 ≡ nobody → ⊥) → (getD row j 0 ≡ nobody) ⊎ (getD row j 0 ≡ itself)
+          → getD row j 0 ≡ itself
       own j k n (inl e) = absurd (n e)
       own j k n (inr e) = e
 
@@ -141,20 +145,22 @@ module _ {words row before log : List ℕ} {m tail i : ℕ} (F : Fresh words row
 -- of the log's places from m up to g those without a witness have fallen
 pub record Falling (row : List ℕ) (word : ℕ) (old words before log : List ℕ) (m end g : ℕ) : Type 0 where
   pub long : length words ≡ length old
-  pub changed : (i : ℕ) → i < length row → (getD words i 0 ≡ getD old i 0) ⊎ ((getD old i 0 ≡ 0) × (getD words i 0 ≡ word) × (getD row i 0 ≡ far))
+  pub changed : (i : ℕ) → i < length row → (getD words i 0 ≡ getD old i 0)
+      ⊎ (Unstruck old i × (getD words i 0 ≡ word) × (getD row i 0 ≡ nobody))
   pub rest : (i : ℕ) → length row ≤ i → getD words i 0 ≡ getD old i 0
-  pub settled : (t : ℕ) → m ≤ t → t < g → getD words (getD before t 0) 0 ≡ 0 → getD row (getD before t 0) 0 ≡ far → ⊥
+  pub settled : (t : ℕ) → m ≤ t → t < g → Unstruck words (getD before t 0) → getD row (getD before t 0) 0 ≡ nobody → ⊥
   pub log-long : length log ≡ length before
   pub kept : (t : ℕ) → t < m → getD log t 0 ≡ getD before t 0
   pub unread : (t : ℕ) → g ≤ t → getD log t 0 ≡ getD before t 0
   pub grows : m ≤ end
   pub behind : end ≤ g
   pub places : (t : ℕ) → t < end → getD log t 0 < length row
-  pub noted : (i : ℕ) → i < length row → getD old i 0 ≡ 0 → (getD words i 0 ≡ 0 → ⊥) → Between log m end i
+  pub noted : (i : ℕ) → i < length row → Unstruck old i → (Unstruck words i → ⊥) → Between log m end i
   pub counted : end + freeIn words (length row) ≡ length row
 
 -- Before the first turn none has fallen.
-pub falling-none : {words row log : List ℕ} {m tail word : ℕ} → Fallable words row log m tail word → Falling row word words words log log m m m
+pub falling-none : {words row log : List ℕ} {m tail word : ℕ} → Fallable words row log m tail word
+    → Falling row word words words log log m m m
 falling-none F = record {
   long = refl;
   changed = λ i h. inl refl;
@@ -177,7 +183,7 @@ module _ {row old words before log : List ℕ} {word m tail end g : ℕ} (F : Fa
   falling-place h k = let a = L .unread g (omega arith) in let b = F .places g h k in omega (arith, a, b)
 
   -- One that has no witness falls, and the log has it.
-  pub falling-more : m ≤ g → g < tail → getD words (getD log g 0) 0 ≡ 0 → getD row (getD log g 0) 0 ≡ far
+  pub falling-more : m ≤ g → g < tail → Unstruck words (getD log g 0) → getD row (getD log g 0) 0 ≡ nobody
       → Falling row word old (set words (getD log g 0) word) before (set log end (getD log g 0)) m (end + 1) (g + 1)
   falling-more from inside u e = record {
     long = length-set words x word ∙ L .long;
@@ -209,34 +215,37 @@ module _ {row old words before log : List ℕ} {word m tail end g : ℕ} (F : Fa
       set-here : getD (set words (getD log g 0) word) (getD log g 0) 0 ≡ word
       set-here = getD-set-same words (getD log g 0) word 0 in-words
 
-      was-free : getD old (getD log g 0) 0 ≡ 0
+      was-free : Unstruck old (getD log g 0)
       was-free = by (L .changed (getD log g 0) place)
         where
           by : (getD words (getD log g 0) 0 ≡ getD old (getD log g 0) 0)
-              ⊎ ((getD old (getD log g 0) 0 ≡ 0) × (getD words (getD log g 0) 0 ≡ word) × (getD row (getD log g 0) 0 ≡ far)) → getD old (getD log g 0) 0 ≡ 0
+              ⊎ (Unstruck old (getD log g 0) × (getD words (getD log g 0) 0 ≡ word) × (getD row (getD log g 0) 0 ≡ nobody))
+              → Unstruck old (getD log g 0)
           by (inl s) = sym s ∙ u
           by (inr s) = s .0
 
       change-at : (i : ℕ) → i < length row → Dec (i ≡ getD log g 0)
           → (getD (set words (getD log g 0) word) i 0 ≡ getD old i 0)
-          ⊎ ((getD old i 0 ≡ 0) × (getD (set words (getD log g 0) word) i 0 ≡ word) × (getD row i 0 ≡ far))
+          ⊎ (Unstruck old i × (getD (set words (getD log g 0) word) i 0 ≡ word) × (getD row i 0 ≡ nobody))
       change-at i h (yes q) = subst (λ (y : ℕ). (getD (set words (getD log g 0) word) y 0 ≡ getD old y 0)
-          ⊎ ((getD old y 0 ≡ 0) × (getD (set words (getD log g 0) word) y 0 ≡ word) × (getD row y 0 ≡ far))) (sym q) (inr (was-free, set-here, e))
+          ⊎ (Unstruck old y × (getD (set words (getD log g 0) word) y 0 ≡ word) × (getD row y 0 ≡ nobody))) (sym q)
+          (inr (was-free, set-here, e))
       change-at i h (no q) = by (L .changed i h)
         where
           same : getD (set words (getD log g 0) word) i 0 ≡ getD words i 0
           same = getD-set-other words (getD log g 0) i word 0 q
 
-          by : (getD words i 0 ≡ getD old i 0) ⊎ ((getD old i 0 ≡ 0) × (getD words i 0 ≡ word) × (getD row i 0 ≡ far))
+          by : (getD words i 0 ≡ getD old i 0) ⊎ (Unstruck old i × (getD words i 0 ≡ word) × (getD row i 0 ≡ nobody))
               → (getD (set words (getD log g 0) word) i 0 ≡ getD old i 0)
-              ⊎ ((getD old i 0 ≡ 0) × (getD (set words (getD log g 0) word) i 0 ≡ word) × (getD row i 0 ≡ far))
+              ⊎ (Unstruck old i × (getD (set words (getD log g 0) word) i 0 ≡ word) × (getD row i 0 ≡ nobody))
           by (inl s) = inl (same ∙ s)
           by (inr s) = inr (s .0, same ∙ s .1, s .2)
 
       settle-at : (t : ℕ) → m ≤ t → t < g + 1 → Dec (getD before t 0 ≡ getD log g 0)
-          → getD (set words (getD log g 0) word) (getD before t 0) 0 ≡ 0 → getD row (getD before t 0) 0 ≡ far → ⊥
+          → Unstruck (set words (getD log g 0) word) (getD before t 0) → getD row (getD before t 0) 0 ≡ nobody → ⊥
       settle-at t h k (yes q) z f =
-          let a : getD (set words (getD log g 0) word) (getD before t 0) 0 ≡ word = ap (λ (y : ℕ). getD (set words (getD log g 0) word) y 0) q ∙ set-here in
+          let a : getD (set words (getD log g 0) word) (getD before t 0) 0 ≡ word = ap (λ (y : ℕ). getD (set words (getD log g 0) word) y 0)
+          q ∙ set-here in
           absurd (omega (arith, a, z, F .some))
       settle-at t h k (no q) z f =
           let s = L .unread g (omega arith) in
@@ -253,14 +262,17 @@ module _ {row old words before log : List ℕ} {word m tail end g : ℕ} (F : Fa
           let a = L .places t (omega arith) in
           omega (arith, z, a)
 
-      note-at : (i : ℕ) → i < length row → getD old i 0 ≡ 0 → (getD (set words (getD log g 0) word) i 0 ≡ 0 → ⊥) → Dec (i ≡ getD log g 0)
+      note-at : (i : ℕ) → i < length row → Unstruck old i → (Unstruck (set words (getD log g 0) word) i → ⊥) → Dec (i ≡ getD log g 0)
           → Between (set log end (getD log g 0)) m (end + 1) i
       note-at i h v n (yes q) =
-          subst (λ (y : ℕ). Between (set log end (getD log g 0)) m (end + 1) y) (sym q) (stands-now log m end (getD log g 0) (L .grows) in-log)
-      note-at i h v n (no q) = stands-still log m end (getD log g 0) i (L .noted i h v (λ z. n (getD-set-other words (getD log g 0) i word 0 q ∙ z)))
+          subst (λ (y : ℕ). Between (set log end (getD log g 0)) m (end + 1) y) (sym q)
+          (stands-now log m end (getD log g 0) (L .grows) in-log)
+      note-at i h v n (no q) = stands-still log m end (getD log g 0) i
+          (L .noted i h v (λ z. n (getD-set-other words (getD log g 0) i word 0 q ∙ z)))
 
   -- One that has a witness, or was struck, is passed by.
-  pub falling-past : (getD words (getD log g 0) 0 ≡ 0 → getD row (getD log g 0) 0 ≡ far → ⊥) → Falling row word old words before log m end (g + 1)
+  pub falling-past : (Unstruck words (getD log g 0) → getD row (getD log g 0) 0 ≡ nobody → ⊥)
+      → Falling row word old words before log m end (g + 1)
   falling-past n = record {
     long = L .long;
     changed = L .changed;
@@ -276,7 +288,7 @@ module _ {row old words before log : List ℕ} {word m tail end g : ℕ} (F : Fa
     counted = L .counted;
   }
     where
-      settle-at : (t : ℕ) → m ≤ t → t < g + 1 → Dec (t ≡ g) → getD words (getD before t 0) 0 ≡ 0 → getD row (getD before t 0) 0 ≡ far → ⊥
+      settle-at : (t : ℕ) → m ≤ t → t < g + 1 → Dec (t ≡ g) → Unstruck words (getD before t 0) → getD row (getD before t 0) 0 ≡ nobody → ⊥
       settle-at t h k (yes q) z f =
           let s : getD before t 0 ≡ getD log g 0 = ap (λ (v : ℕ). getD before v 0) q ∙ sym (L .unread g (omega arith)) in
           n (ap (λ (y : ℕ). getD words y 0) (sym s) ∙ z) (ap (λ (y : ℕ). getD row y 0) (sym s) ∙ f)
@@ -300,12 +312,12 @@ module _ {row old words before log : List ℕ} {word m tail end g : ℕ} (F : Fa
     noted = L .noted;
   }
     where
-      at : (i : ℕ) → i < length row → Dec (getD old i 0 ≡ 0)
-          → (getD words i 0 ≡ getD old i 0) ⊎ ((getD old i 0 ≡ 0) × (getD words i 0 ≡ word) × (getD row i 0 ≡ far))
+      at : (i : ℕ) → i < length row → Dec (Unstruck old i)
+          → (getD words i 0 ≡ getD old i 0) ⊎ (Unstruck old i × (getD words i 0 ≡ word) × (getD row i 0 ≡ nobody))
           → FallsAt word (getD old i 0) (getD words i 0) (getD row i 0)
       at i h (yes q) (inl s) = keeps q (s ∙ q) (λ e. out e (F .alone i h q e))
         where
-          out : getD row i 0 ≡ far → Between before m tail i → ⊥
+          out : getD row i 0 ≡ nobody → Between before m tail i → ⊥
           out e t = L .settled (t .0) (t .1) (omega (arith, t .2, over)) (ap (λ (y : ℕ). getD words y 0) (t .3) ∙ s ∙ q)
               (ap (λ (y : ℕ). getD row y 0) (t .3) ∙ e)
       at i h d (inr s) = falls (s .0) (s .1) (s .2)

@@ -5,13 +5,13 @@ use mathlib.Core.List.{List}
 use Prim.Native.Nat.{ℕ, zero, suc, _<_}
 use native.Mathlib.Omega.{arith}
 use lib.ListN.{length, getD}
-use Rattle.distances.specs.Far.{far, gone}
-use Rattle.watch.specs.Witness.{Pointed, HungIn, Hung, AllHung, SameOwn, Hangs}
+use Rattle.distances.specs.Far.{Unstruck}
+use Rattle.watch.specs.Witness.{nobody, itself, Pointed, HungIn, Hung, AllHung, SameOwn, Hangs}
 
 -- what happens to place i: it is as it was; or it had no witness, and hangs now on h, which is unstruck, has one, and is a next place
 pub data Hooks (words row : List ℕ) (M : ℕ → ℕ → Type 0) (i new : ℕ) : Type 0 where
   as-was : new ≡ getD row i 0 → Hooks words row M i new
-  hooked : (h : ℕ) → getD row i 0 ≡ far → new ≡ h → h < length row → getD words h 0 ≡ 0 → (getD row h 0 ≡ far → ⊥) → M i h
+  hooked : (h : ℕ) → getD row i 0 ≡ nobody → new ≡ h → h < length row → Unstruck words h → (getD row h 0 ≡ nobody → ⊥) → M i h
       → Hooks words row M i new
 
 -- this happened to each place of a row
@@ -21,7 +21,7 @@ pub record Hooked (words row new : List ℕ) (M : ℕ → ℕ → Type 0) : Type
 
 module _ (words old row : List ℕ) (M : ℕ → ℕ → Type 0) (was : Hangs words old row M) (new : List ℕ) (hooks : Hooked words row new M) where
   -- who has a witness keeps it
-  kept : (i : ℕ) → i < length row → (getD row i 0 ≡ far → ⊥) → getD new i 0 ≡ getD row i 0
+  kept : (i : ℕ) → i < length row → (getD row i 0 ≡ nobody → ⊥) → getD new i 0 ≡ getD row i 0
   kept i h other = by (hooks .each i h)
     where
       by : Hooks words row M i (getD new i 0) → getD new i 0 ≡ getD row i 0
@@ -59,8 +59,8 @@ module _ (words old row : List ℕ) (M : ℕ → ℕ → Type 0) (was : Hangs wo
     leads = λ i h l. leads i h l (hooks .each i (let e = hooks .long in omega arith));
   }
     where
-      at : (i : ℕ) → Hooks words row M i (getD new i 0) → (getD row i 0 ≡ far) ⊎ (getD row i 0 ≡ gone) ⊎ (getD row i 0 < length row)
-          → (getD new i 0 ≡ far) ⊎ (getD new i 0 ≡ gone) ⊎ (getD new i 0 < length new)
+      at : (i : ℕ) → Hooks words row M i (getD new i 0) → (getD row i 0 ≡ nobody) ⊎ (getD row i 0 ≡ itself) ⊎ (getD row i 0 < length row)
+          → (getD new i 0 ≡ nobody) ⊎ (getD new i 0 ≡ itself) ⊎ (getD new i 0 < length new)
       at i (hooked j f e a y o l) w = let g = hooks .long in inr (inr (omega arith))
       at i (as-was e) (inl f) = inl (e ∙ f)
       at i (as-was e) (inr (inl f)) = inr (inl (e ∙ f))
@@ -75,16 +75,17 @@ module _ (words old row : List ℕ) (M : ℕ → ℕ → Type 0) (was : Hangs wo
   own-new : SameOwn old new
   own-new i h = by (hooks .each i (let e = hooks .long in omega arith)) (was .own i (let e = hooks .long in omega arith))
     where
-      by : Hooks words row M i (getD new i 0) → (getD row i 0 ≡ gone → getD old i 0 ≡ gone) × (getD old i 0 ≡ gone → getD row i 0 ≡ gone)
-          → (getD new i 0 ≡ gone → getD old i 0 ≡ gone) × (getD old i 0 ≡ gone → getD new i 0 ≡ gone)
+      by : Hooks words row M i (getD new i 0) → (getD row i 0 ≡ itself → getD old i 0 ≡ itself)
+          × (getD old i 0 ≡ itself → getD row i 0 ≡ itself)
+          → (getD new i 0 ≡ itself → getD old i 0 ≡ itself) × (getD old i 0 ≡ itself → getD new i 0 ≡ itself)
       by (as-was e) (a, b) = (λ g. a (sym e ∙ g), λ g. e ∙ b g)
       by (hooked j f e a y o l) (b, c) =
           (λ g. absurd (let few = was .pointed .few in omega arith), λ g. absurd (let d = c g in omega arith))
 
-  only-new : (i : ℕ) → i < length new → getD new i 0 ≡ far → getD old i 0 ≡ far
+  only-new : (i : ℕ) → i < length new → getD new i 0 ≡ nobody → getD old i 0 ≡ nobody
   only-new i h n = by (hooks .each i (let e = hooks .long in omega arith))
     where
-      by : Hooks words row M i (getD new i 0) → getD old i 0 ≡ far
+      by : Hooks words row M i (getD new i 0) → getD old i 0 ≡ nobody
       by (as-was e) = was .only i (let g = hooks .long in omega arith) (sym e ∙ n)
       by (hooked j f e a y o l) = absurd (let few = was .pointed .few in omega arith)
 

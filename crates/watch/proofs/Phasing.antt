@@ -5,8 +5,8 @@ use mathlib.Core.List.{List}
 use Prim.Native.Nat.{ℕ, zero, suc, _+_, _≤_, _<_}
 use native.Mathlib.Omega.{arith}
 use lib.ListN.{length, getD}
-use Rattle.distances.specs.Far.{far, gone}
-use Rattle.watch.specs.Witness.{Pointed, ChainIn, HungIn, Hung, SameOwn, freeIn, Log, Fresh, Rested, Hangable, Rehung}
+use Rattle.distances.specs.Far.{Unstruck}
+use Rattle.watch.specs.Witness.{nobody, itself, Pointed, ChainIn, HungIn, Hung, SameOwn, freeIn, Log, Fresh, Rested, Hangable, Rehung}
 use Rattle.watch.specs.Turns.{Before, first, again, Loosened, Fallable, FallsAt, was, keeps, falls, FellTo, Watched}
 
 -- ---- what a row may be before a phase
@@ -31,11 +31,11 @@ module _ {words row log : List ℕ} {M : ℕ → ℕ → Type 0} {from m : ℕ} 
     leads = λ i h l. absurd (no-place i h l (F .each i h));
   }
     where
-      either : {x r : ℕ} → (x ≡ far) ⊎ (x ≡ gone) → (x ≡ far) ⊎ (x ≡ gone) ⊎ (x < r)
+      either : {x r : ℕ} → (x ≡ nobody) ⊎ (x ≡ itself) → (x ≡ nobody) ⊎ (x ≡ itself) ⊎ (x < r)
       either (inl e) = inl e
       either (inr e) = inr (inl e)
 
-      no-place : (i : ℕ) → i < length row → getD row i 0 < length row → (getD row i 0 ≡ far) ⊎ (getD row i 0 ≡ gone) → ⊥
+      no-place : (i : ℕ) → i < length row → getD row i 0 < length row → (getD row i 0 ≡ nobody) ⊎ (getD row i 0 ≡ itself) → ⊥
       no-place i h l (inl e) = absurd (omega (arith, e, l, F .few))
       no-place i h l (inr e) = absurd (omega (arith, e, l, F .few))
   before-pointed (again R) = R .pointed
@@ -69,17 +69,18 @@ module _ {words row row′ log log′ : List ℕ} {M : ℕ → ℕ → Type 0} {
     alone = λ i h u e. L .alone i (omega (arith, h, L .long)) u e;
   }
     where
-      longer : {x : ℕ} → (x ≡ far) ⊎ (x ≡ gone) ⊎ (x < length row) → (x ≡ far) ⊎ (x ≡ gone) ⊎ (x < length row′)
+      longer : {x : ℕ} → (x ≡ nobody) ⊎ (x ≡ itself) ⊎ (x < length row) → (x ≡ nobody) ⊎ (x ≡ itself) ⊎ (x < length row′)
       longer (inl e) = inl e
       longer (inr (inl e)) = inr (inl e)
       longer (inr (inr e)) = inr (inr (omega (arith, e, L .long)))
 
-      each-at : (i : ℕ) → i < length row → (getD row′ i 0 ≡ getD row i 0) ⊎ ((getD row′ i 0 ≡ far) × (getD row i 0 < length row))
-          → (getD row′ i 0 ≡ far) ⊎ (getD row′ i 0 ≡ gone) ⊎ (getD row′ i 0 < length row′)
-      each-at i h (inl s) = subst (λ (x : ℕ). (x ≡ far) ⊎ (x ≡ gone) ⊎ (x < length row′)) (sym s) (longer (before-pointed B .each i h))
+      each-at : (i : ℕ) → i < length row → (getD row′ i 0 ≡ getD row i 0) ⊎ ((getD row′ i 0 ≡ nobody) × (getD row i 0 < length row))
+          → (getD row′ i 0 ≡ nobody) ⊎ (getD row′ i 0 ≡ itself) ⊎ (getD row′ i 0 < length row′)
+      each-at i h (inl s) = subst (λ (x : ℕ). (x ≡ nobody) ⊎ (x ≡ itself) ⊎ (x < length row′)) (sym s) (longer (before-pointed B .each i h))
       each-at i h (inr s) = inl (s .0)
 
-      leads-at : (i : ℕ) → i < length row → getD row′ i 0 < length row′ → (getD row′ i 0 ≡ getD row i 0) ⊎ ((getD row′ i 0 ≡ far) × (getD row i 0 < length row))
+      leads-at : (i : ℕ) → i < length row → getD row′ i 0 < length row′ → (getD row′ i 0 ≡ getD row i 0)
+          ⊎ ((getD row′ i 0 ≡ nobody) × (getD row i 0 < length row))
           → M i (getD row′ i 0)
       leads-at i h l (inl s) = subst (M i) (sym s) (before-pointed B .leads i h (omega (arith, s, l, L .long)))
       leads-at i h l (inr s) = absurd (omega (arith, s .0, l, L .long, before-pointed B .few))
@@ -96,7 +97,8 @@ module _ {words row row′ log log′ : List ℕ} {M : ℕ → ℕ → Type 0} {
   }
 
   -- The phase as a whole: the row rests again.
-  pub phase-watched : {row″ words′ log″ : List ℕ} {m′ word : ℕ} → 0 < word → Rehung words row′ row″ M → FellTo row″ word words words′ log′ log″ m m′
+  pub phase-watched : {row″ words′ log″ : List ℕ} {m′ word : ℕ} → 0 < word → Rehung words row′ row″ M
+      → FellTo row″ word words words′ log′ log″ m m′
       → Watched words words′ row row″ M log log″ m m′ word
   phase-watched {row″ = row″} {words′ = words′} {log″ = log″} {m′ = m′} {word = word} some-word H F = record {
     long = H .long ∙ L .long;
@@ -132,22 +134,24 @@ module _ {words row row′ log log′ : List ℕ} {M : ℕ → ℕ → Type 0} {
             λ e. b .1 (new-own i (L .loses i (omega (arith, k, L .long))) e),
           )
         where
-          old-own : (i : ℕ) → i < length row → (getD row′ i 0 ≡ getD row i 0) ⊎ ((getD row′ i 0 ≡ far) × (getD row i 0 < length row))
-              → getD row′ i 0 ≡ gone → getD row i 0 ≡ gone
+          old-own : (i : ℕ) → i < length row → (getD row′ i 0 ≡ getD row i 0) ⊎ ((getD row′ i 0 ≡ nobody) × (getD row i 0 < length row))
+              → getD row′ i 0 ≡ itself → getD row i 0 ≡ itself
           old-own i h (inl s) e = sym s ∙ e
           old-own i h (inr s) e = absurd (omega (arith, s .0, e))
 
-          new-own : (i : ℕ) → (getD row′ i 0 ≡ getD row i 0) ⊎ ((getD row′ i 0 ≡ far) × (getD row i 0 < length row)) → getD row i 0 ≡ gone
-              → getD row′ i 0 ≡ gone
+          new-own : (i : ℕ) → (getD row′ i 0 ≡ getD row i 0) ⊎ ((getD row′ i 0 ≡ nobody) × (getD row i 0 < length row))
+              → getD row i 0 ≡ itself
+              → getD row′ i 0 ≡ itself
           new-own i (inl s) e = s ∙ e
           new-own i (inr s) e = absurd (omega (arith, s .1, e, before-pointed B .few))
 
-      free-before : (i : ℕ) → i < length row″ → getD words′ i 0 ≡ 0 → FallsAt word (getD words i 0) (getD words′ i 0) (getD row″ i 0) → getD words i 0 ≡ 0
+      free-before : (i : ℕ) → i < length row″ → Unstruck words′ i → FallsAt word (getD words i 0) (getD words′ i 0) (getD row″ i 0)
+          → Unstruck words i
       free-before i h u (was n e) = absurd (n (sym e ∙ u))
       free-before i h u (keeps o e n) = o
       free-before i h u (falls o e n) = o
 
-      unhelped : (i : ℕ) → getD words′ i 0 ≡ 0 → getD row″ i 0 ≡ far → FallsAt word (getD words i 0) (getD words′ i 0) (getD row″ i 0) → ⊥
+      unhelped : (i : ℕ) → Unstruck words′ i → getD row″ i 0 ≡ nobody → FallsAt word (getD words i 0) (getD words′ i 0) (getD row″ i 0) → ⊥
       unhelped i u e (was n s) = n (sym s ∙ u)
       unhelped i u e (keeps o s n) = n e
       unhelped i u e (falls o s n) = absurd (omega (arith, sym s ∙ u, some-word))
@@ -160,14 +164,15 @@ module _ {words row row′ log log′ : List ℕ} {M : ℕ → ℕ → Type 0} {
       next-hung zero i c l = absurd (omega (arith, c .2, l, H .pointed .few))
       next-hung (suc n) i c l = (n, c .3)
 
-      stands : (j : ℕ) → j < length row″ → Hung words row″ j → getD words′ j 0 ≡ 0
+      stands : (j : ℕ) → j < length row″ → Hung words row″ j → Unstruck words′ j
       stands j h c = by (F .each j h) (helped (c .0) (c .1))
         where
-          helped : (n : ℕ) → HungIn words row″ n j → (getD words j 0 ≡ 0) × (getD row″ j 0 ≡ far → ⊥)
+          helped : (n : ℕ) → HungIn words row″ n j → Unstruck words j × (getD row″ j 0 ≡ nobody → ⊥)
           helped zero d = (d .1, λ e. absurd (omega (arith, e, d .2)))
           helped (suc n) d = (d .1, λ e. absurd (omega (arith, e, d .2, H .pointed .few)))
 
-          by : FallsAt word (getD words j 0) (getD words′ j 0) (getD row″ j 0) → (getD words j 0 ≡ 0) × (getD row″ j 0 ≡ far → ⊥) → getD words′ j 0 ≡ 0
+          by : FallsAt word (getD words j 0) (getD words′ j 0) (getD row″ j 0) → Unstruck words j × (getD row″ j 0 ≡ nobody → ⊥)
+              → Unstruck words′ j
           by (was n e) d = absurd (n (d .0))
           by (keeps o e n) d = e
           by (falls o e x) d = absurd (d .1 x)

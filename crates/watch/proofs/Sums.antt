@@ -9,6 +9,7 @@ use borrow.Author.Tests.{eq-eqb, ne-eqb}
 use lib.ListN.{length, getD}
 use Rattle.distances.specs.Values.{total}
 use Rattle.distances.proofs.Totals.{total-most}
+use Rattle.distances.specs.Far.{Unstruck}
 use Rattle.watch.specs.Witness.{freeIn}
 use Rattle.watch.specs.Turns.{unstruckAt, countAt}
 
@@ -28,11 +29,13 @@ weighs-one v = ap (λ (b : Bool). (1 - 0) * cond b 1 0) (eq-eqb v v refl)
 
 -- no more than that it is unstruck,
 pub weighs-most : (v word x : ℕ) → x ≡ v → unstruckAt v word x ≡ 1 - word
-weighs-most v word x e = let a : unstruckAt v word x ≡ (1 - word) * 1 = ap (λ (b : Bool). (1 - word) * cond b 1 0) (eq-eqb x v e) in omega (arith, a)
+weighs-most v word x e = let a : unstruckAt v word x ≡ (1 - word) * 1 = ap (λ (b : Bool). (1 - word) * cond b 1 0) (eq-eqb x v e) in
+    omega (arith, a)
 
 -- and nothing where it has another.
 pub weighs-none : (v word x : ℕ) → (x ≡ v → ⊥) → unstruckAt v word x ≡ 0
-weighs-none v word x e = let a : unstruckAt v word x ≡ (1 - word) * 0 = ap (λ (b : Bool). (1 - word) * cond b 1 0) (ne-eqb x v e) in omega (arith, a)
+weighs-none v word x e = let a : unstruckAt v word x ≡ (1 - word) * 0 = ap (λ (b : Bool). (1 - word) * cond b 1 0) (ne-eqb x v e) in
+    omega (arith, a)
 
 -- Of two numbers a place has at most one.
 two-weigh : (u v word x : ℕ) → (u ≡ v → ⊥) → unstruckAt u word x + unstruckAt v word x ≤ 1 - word
@@ -58,20 +61,24 @@ two-weigh u v word x apart = by (ℕ-discrete x u)
 -- Places with one number and places with another are no more than the unstruck ones.
 pub two-counts : (u v : ℕ) (words row : List ℕ) → (u ≡ v → ⊥) → countAt u words row + countAt v words row ≤ freeIn words (length row)
 two-counts u v words row apart =
-    let a = total-both (λ i. unstruckAt u (getD words i 0) (getD row i 0)) (λ i. unstruckAt v (getD words i 0) (getD row i 0)) (length row) in
-    let b = total-most (λ i. unstruckAt u (getD words i 0) (getD row i 0) + unstruckAt v (getD words i 0) (getD row i 0)) (λ i. 1 - getD words i 0)
+    let a = total-both (λ i. unstruckAt u (getD words i 0) (getD row i 0)) (λ i. unstruckAt v (getD words i 0) (getD row i 0))
+    (length row) in
+    let b = total-most (λ i. unstruckAt u (getD words i 0) (getD row i 0) + unstruckAt v (getD words i 0) (getD row i 0))
+    (λ i. 1 - getD words i 0)
     (length row) (λ i h. two-weigh u v (getD words i 0) (getD row i 0) apart) in
     omega (arith, a, b)
 
 -- No place with a number, and none is counted.
-pub none-counts : (v : ℕ) (words row : List ℕ) → ((i : ℕ) → i < length row → getD words i 0 ≡ 0 → getD row i 0 ≡ v → ⊥) → countAt v words row ≡ 0
-none-counts v words row none = total-zero (λ i. unstruckAt v (getD words i 0) (getD row i 0)) (length row) (λ i h. at i h (ℕ-discrete (getD row i 0) v))
+pub none-counts : (v : ℕ) (words row : List ℕ) → ((i : ℕ) → i < length row → Unstruck words i → getD row i 0 ≡ v → ⊥)
+    → countAt v words row ≡ 0
+none-counts v words row none = total-zero (λ i. unstruckAt v (getD words i 0) (getD row i 0)) (length row)
+    (λ i h. at i h (ℕ-discrete (getD row i 0) v))
   where
     at : (i : ℕ) → i < length row → Dec (getD row i 0 ≡ v) → unstruckAt v (getD words i 0) (getD row i 0) ≡ 0
     at i h (no q) = weighs-none v (getD words i 0) (getD row i 0) q
     at i h (yes q) = struck (ℕ-discrete (getD words i 0) 0)
       where
-        struck : Dec (getD words i 0 ≡ 0) → unstruckAt v (getD words i 0) (getD row i 0) ≡ 0
+        struck : Dec (Unstruck words i) → unstruckAt v (getD words i 0) (getD row i 0) ≡ 0
         struck (yes p) = absurd (none i h p q)
         struck (no p) = let a = weighs-most v (getD words i 0) (getD row i 0) q in omega (arith, a, p)
 

@@ -1,5 +1,5 @@
--- Redirecting places one by one, in whatever order: P says which were looked at so far. One more is passed by, or gets the other number and joins
--- the line. Assumes nothing.
+-- Redirecting places one by one, in whatever order: P says which were looked at so far. One more is passed by, or gets the other number and
+-- joins the line. Assumes nothing.
 use mathlib.Core.Path.{_≡_, refl, sym, ap, subst, _∙_}
 use mathlib.Core.Logic.{_⊎_, inl, inr}
 use mathlib.Core.List.{List}
@@ -10,6 +10,7 @@ use lib.ListN.{length, getD, set, length-set}
 use lib.Seq.{getD-set-same, getD-set-other}
 use Rattle.ground.specs.Listed.{Between}
 use Rattle.meaning.specs.Promises.{mostStates}
+use Rattle.distances.specs.Far.{Unstruck}
 use Rattle.watch.specs.Turns.{weight, unstruckAt, countAt, Turnable, Redirects, turns, stays, Redirected}
 use Rattle.watch.proofs.Sums.{weighs-one, weighs-none}
 use Rattle.watch.proofs.Weights.{weight-turn, count-turn, scale-none, scale-more, scale-count}
@@ -23,7 +24,8 @@ redirects-same there back (stays e f) = stays e (λ q. f (back q))
 -- So a row redirected by one reason is redirected by another.
 pub redirected-by : {P Q : ℕ → Type 0} (words : List ℕ) (was to : ℕ) (old row : List ℕ) (n : ℕ) (before line : List ℕ) (m : ℕ)
     → Redirected P words was to old row n before line m
-    → ((i : ℕ) → Redirects (P i) (getD words i 0) was to (getD old i 0) (getD row i 0) → Redirects (Q i) (getD words i 0) was to (getD old i 0) (getD row i 0))
+    → ((i : ℕ) → Redirects (P i) (getD words i 0) was to (getD old i 0) (getD row i 0)
+    → Redirects (Q i) (getD words i 0) was to (getD old i 0) (getD row i 0))
     → Redirected Q words was to old row n before line m
 redirected-by words was to old row n before line m r same = record {
   long = r .long;
@@ -46,7 +48,8 @@ sum-less : (s s₀ k m n : ℕ) → n ≤ m → k ≡ m - n → s + k ≡ s₀ �
 sum-less s s₀ k m n g e f = omega arith
 
 -- As many unstruck places as joined the line have the number no more.
-pub redirected-counts : {P : ℕ → Type 0} (words : List ℕ) (was to : ℕ) (old row : List ℕ) (n : ℕ) (before line : List ℕ) (m : ℕ) → (was ≡ to → ⊥)
+pub redirected-counts : {P : ℕ → Type 0} (words : List ℕ) (was to : ℕ) (old row : List ℕ) (n : ℕ) (before line : List ℕ) (m : ℕ)
+    → (was ≡ to → ⊥)
     → Redirected P words was to old row n before line m
     → weight (unstruckAt was) words row (length old) + m ≡ countAt was words old + n
 redirected-counts words was to old row n before line m apart r =
@@ -54,7 +57,8 @@ redirected-counts words was to old row n before line m apart r =
     (scale-count _ _ (m - n) _ _ (weighs-one was) (weighs-none was 0 to (λ e. apart (sym e))) (r .weighs (unstruckAt was)))
 
 -- Before the first nothing has changed.
-pub turned-none : (P : ℕ → Type 0) → ((i : ℕ) → P i → ⊥) → (words : List ℕ) (was to : ℕ) (old : List ℕ) (n : ℕ) (before : List ℕ) → (was ≡ to → ⊥)
+pub turned-none : (P : ℕ → Type 0) → ((i : ℕ) → P i → ⊥) → (words : List ℕ) (was to : ℕ) (old : List ℕ) (n : ℕ) (before : List ℕ)
+    → (was ≡ to → ⊥)
     → Redirected P words was to old old n before before n
 turned-none P nowhere words was to old n before apart = record {
   long = refl;
@@ -76,18 +80,20 @@ turnable-then words was to old row n before line m ready r = record {
   apart = ready .apart;
   room =
       let a = redirected-counts words was to old row n before line m (ready .apart) r in
-      let b : countAt was words row ≡ weight (unstruckAt was) words row (length old) = ap (λ (x : ℕ). weight (unstruckAt was) words row x) (r .long) in
+      let b : countAt was words row ≡ weight (unstruckAt was) words row (length old) = ap (λ (x : ℕ). weight (unstruckAt was) words row x)
+      (r .long) in
       omega (arith, a, b, ready .room, r .line-long);
   line-few = omega (arith, ready .line-few, r .line-long);
 }
 
-module _ (P : ℕ → Type 0) (words : List ℕ) (was to : ℕ) (old : List ℕ) (n : ℕ) (before : List ℕ) (ready : Turnable words old was to before n)
+module _ (P : ℕ → Type 0) (words : List ℕ) (was to : ℕ) (old : List ℕ) (n : ℕ) (before : List ℕ)
+    (ready : Turnable words old was to before n)
     (row line : List ℕ) (m : ℕ) (r : Redirected P words was to old row n before line m) (i : ℕ) (inside : i < length old) where
   in-row : i < length row
   in-row = omega (arith, r .long, inside)
 
   -- Where this place is to be redirected, the line has room for it.
-  pub place-room : getD words i 0 ≡ 0 → getD row i 0 ≡ was → (m < length line) × (m < mostStates)
+  pub place-room : Unstruck words i → getD row i 0 ≡ was → (m < length line) × (m < mostStates)
   place-room free has =
       let a = count-turn words row i was to (length row) in-row in-row free has (ready .apart) in
       let b = turnable-then words was to old row n before line m ready r in
@@ -96,21 +102,21 @@ module _ (P : ℕ → Type 0) (words : List ℕ) (was to : ℕ) (old : List ℕ)
   -- P′ says which were looked at once this one is, too.
   module _ (P′ : ℕ → Type 0) (grows : (j : ℕ) → P j → P′ j) (splits : (j : ℕ) → P′ j → P j ⊎ (j ≡ i)) where
     -- what happened before this place was looked at, where that changes nothing
-    widens : (j x : ℕ) → (getD words j 0 ≡ 0 → x ≡ was → j ≡ i → ⊥) → Redirects (P j) (getD words j 0) was to (getD old j 0) x
+    widens : (j x : ℕ) → (Unstruck words j → x ≡ was → j ≡ i → ⊥) → Redirects (P j) (getD words j 0) was to (getD old j 0) x
         → Redirects (P′ j) (getD words j 0) was to (getD old j 0) x
     widens j x other (turns p z o g) = turns (grows j p) z o g
     widens j x other (stays s f) = stays s (λ p z o. by z o (splits j p))
       where
-        by : getD words j 0 ≡ 0 → getD old j 0 ≡ was → P j ⊎ (j ≡ i) → ⊥
+        by : Unstruck words j → getD old j 0 ≡ was → P j ⊎ (j ≡ i) → ⊥
         by z o (inl p) = f p z o
         by z o (inr q) = other z (s ∙ o) q
 
     -- A place that is struck or has another number is passed by.
-    pub place-past : (getD words i 0 ≡ 0 → getD row i 0 ≡ was → ⊥) → Redirected P′ words was to old row n before line m
+    pub place-past : (Unstruck words i → getD row i 0 ≡ was → ⊥) → Redirected P′ words was to old row n before line m
     place-past not-so = redirected-by words was to old row n before line m r (λ j. widens j (getD row j 0)
         (λ z x q. not-so (ap (λ (y : ℕ). getD words y 0) (sym q) ∙ z) (ap (λ (y : ℕ). getD row y 0) (sym q) ∙ x)))
 
-    module _ (free : getD words i 0 ≡ 0) (has : getD row i 0 ≡ was) where
+    module _ (free : Unstruck words i) (has : getD row i 0 ≡ was) where
       -- it had the number from the start
       had : getD old i 0 ≡ was
       had = redirects-was (ready .apart) (r .each i inside) has
@@ -121,7 +127,8 @@ module _ (P : ℕ → Type 0) (words : List ℕ) (was to : ℕ) (old : List ℕ)
       line-here : getD (set line m i) m 0 ≡ i
       line-here = getD-set-same line m i 0 (place-room free has .0)
 
-      each′ : P′ i → (j : ℕ) → Dec (j ≡ i) → j < length old → Redirects (P′ j) (getD words j 0) was to (getD old j 0) (getD (set row i to) j 0)
+      each′ : P′ i → (j : ℕ) → Dec (j ≡ i) → j < length old → Redirects (P′ j) (getD words j 0) was to (getD old j 0)
+          (getD (set row i to) j 0)
       each′ here j (yes q) h =
           turns (subst P′ (sym q) here) (ap (λ (x : ℕ). getD words x 0) q ∙ free)
           (ap (λ (x : ℕ). getD old x 0) q ∙ had) (ap (λ (x : ℕ). getD (set row i to) x 0) q ∙ row-here)
@@ -130,7 +137,7 @@ module _ (P : ℕ → Type 0) (words : List ℕ) (was to : ℕ) (old : List ℕ)
           (widens j (getD row j 0) (λ z x f. q f) (r .each j h))
 
       added′ : (d : ℕ) → Dec (d ≡ m) → n ≤ d → d < m + 1
-          → (getD (set line m i) d 0 < length old) × (getD words (getD (set line m i) d 0) 0 ≡ 0) × (getD old (getD (set line m i) d 0) 0 ≡ was)
+          → (getD (set line m i) d 0 < length old) × Unstruck words (getD (set line m i) d 0) × (getD old (getD (set line m i) d 0) 0 ≡ was)
           × (getD (set row i to) (getD (set line m i) d 0) 0 ≡ to)
       added′ d (yes q) a h =
           let f : getD (set line m i) d 0 ≡ i = ap (λ (x : ℕ). getD (set line m i) x 0) q ∙ line-here in (
@@ -152,7 +159,7 @@ module _ (P : ℕ → Type 0) (words : List ℕ) (was to : ℕ) (old : List ℕ)
           other : getD row (getD line d 0) 0 ≡ to → getD line d 0 ≡ i → ⊥
           other g y = ready .apart (sym has ∙ sym (ap (λ (x : ℕ). getD row x 0) y) ∙ g)
 
-      whole′ : (j : ℕ) → Dec (j ≡ i) → j < length old → getD words j 0 ≡ 0 → getD old j 0 ≡ was → getD (set row i to) j 0 ≡ to
+      whole′ : (j : ℕ) → Dec (j ≡ i) → j < length old → Unstruck words j → getD old j 0 ≡ was → getD (set row i to) j 0 ≡ to
           → Between (set line m i) n (m + 1) j
       whole′ j (yes q) h z o g = let a = r .grows in (m, omega arith, omega arith, line-here ∙ sym q)
       whole′ j (no q) h z o g = shift (r .whole j h z o (sym (getD-set-other row i j to 0 q) ∙ g))

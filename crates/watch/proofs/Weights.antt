@@ -1,5 +1,5 @@
--- What a row's places weigh, each by its word and its number: setting one place changes the sum by that place. How many unstruck places have a
--- number is such a sum. Assumes nothing.
+-- What a row's places weigh, each by its word and its number: setting one place changes the sum by that place. How many unstruck places
+-- have a number is such a sum. Assumes nothing.
 use mathlib.Core.Path.{_≡_, refl, sym, ap, subst, _∙_}
 use mathlib.Core.Bool.{Bool, true, false, cond}
 use mathlib.Core.List.{List}
@@ -12,6 +12,7 @@ use lib.ListN.{length, getD, set}
 use lib.Seq.{getD-set-same, getD-set-other}
 use Rattle.distances.specs.Values.{total}
 use Rattle.distances.proofs.Totals.{total-same, total-most}
+use Rattle.distances.specs.Far.{Unstruck}
 use Rattle.watch.specs.Turns.{weight, unstruckAt, countAt}
 use Rattle.watch.proofs.Sums.{weighs-one, weighs-none}
 
@@ -41,7 +42,7 @@ weight-set w words row i v n h k =
     omega arith
 
 -- The same at an unstruck place whose number is known.
-pub weight-turn : (w : ℕ → ℕ → ℕ) (words row : List ℕ) (i was to n : ℕ) → i < n → i < length row → getD words i 0 ≡ 0 → getD row i 0 ≡ was
+pub weight-turn : (w : ℕ → ℕ → ℕ) (words row : List ℕ) (i was to n : ℕ) → i < n → i < length row → Unstruck words i → getD row i 0 ≡ was
     → weight w words (set row i to) n + w 0 was ≡ weight w words row n + w 0 to
 weight-turn w words row i was to n h k z q =
     let a = weight-set w words row i to n h k in
@@ -63,12 +64,13 @@ ones (suc n) = let a = ones n in omega arith
 
 pub count-most : (v : ℕ) (words row : List ℕ) → countAt v words row ≤ length row
 count-most v words row =
-    let a = total-most (λ i. unstruckAt v (getD words i 0) (getD row i 0)) (λ i. 1) (length row) (λ i h. counts-most v (getD words i 0) (getD row i 0)) in
+    let a = total-most (λ i. unstruckAt v (getD words i 0) (getD row i 0)) (λ i. 1) (length row)
+    (λ i h. counts-most v (getD words i 0) (getD row i 0)) in
     let b = ones (length row) in
     omega arith
 
 -- An unstruck place that gets another number is counted no more.
-pub count-turn : (words row : List ℕ) (i was to n : ℕ) → i < n → i < length row → getD words i 0 ≡ 0 → getD row i 0 ≡ was → (was ≡ to → ⊥)
+pub count-turn : (words row : List ℕ) (i was to n : ℕ) → i < n → i < length row → Unstruck words i → getD row i 0 ≡ was → (was ≡ to → ⊥)
     → weight (unstruckAt was) words (set row i to) n + 1 ≡ weight (unstruckAt was) words row n
 count-turn words row i was to n h k z q apart =
     let a = weight-turn (unstruckAt was) words row i was to n h k z q in

@@ -1,7 +1,7 @@
-// Witnesses, whichever way moves are known. Each unstruck place has a witness: it keeps the promise itself, or it names a next place whose witnesses
-// lead on to one that does. Here is what watching along stored moves (crate watch) and watching by tests (crate watch_tests) share: how a row of
-// witnesses begins, the tests of one place, who stands alone before the first phase, and who falls. The struck places stand in a log, in the order
-// in which they fell.
+// Witnesses, whichever way moves are known. Each unstruck place has a witness: it keeps the promise itself, or it names a next place whose
+// witnesses lead on to one that does. Here is what watching along stored moves (crate watch) and watching by tests (crate watch_tests)
+// share: how a row of witnesses begins, the tests of one place, who stands alone before the first phase, and who falls. The struck places
+// stand in a log, in the order in which they fell.
 use ground::State;
 ghost use Prim.Native.Nat.{_<_, _≤_};
 ghost use lib.ListN.{length};
@@ -83,7 +83,8 @@ pub fn fall(
     word: u32,
 ) -> usize
     requires { ⌜ Fallable (now words) (now row) (now log) m tail word × (length (now log) ≤ mostStates) ⌝ }
-    ensures { λ end. ⌜ FellTo (now (row .entry)) word (now (words .entry)) (now (words .exit)) (now (log .entry)) (now (log .exit)) m end ⌝ }
+    ensures { λ end. ⌜ FellTo (now (row .entry)) word (now (words .entry)) (now (words .exit)) (now (log .entry)) (now (log .exit)) m
+        end ⌝ }
 {
     let mut end = m;
     let mut g = m;

@@ -1,5 +1,5 @@
--- The loop of `ask`, place by place of the log: who has a witness hangs, and who has none either waits for a place in the line or is still to be
--- asked. Assumes nothing.
+-- The loop of `ask`, place by place of the log: who has a witness hangs, and who has none either waits for a place in the line or is still
+-- to be asked. Assumes nothing.
 use mathlib.Core.Path.{_≡_, refl, sym, ap, subst, _∙_}
 use mathlib.Core.Logic.{_⊎_, inl, inr}
 use mathlib.Core.List.{List}
@@ -10,9 +10,9 @@ use lib.ListN.{length, getD, set, length-set}
 use lib.Seq.{getD-set-same, getD-set-other}
 use Rattle.ground.specs.Listed.{Between}
 use Rattle.meaning.specs.Promises.{mostStates}
-use Rattle.distances.specs.Far.{far}
 use Rattle.moves.specs.Layout.{Backed}
-use Rattle.watch.specs.Witness.{Hangable, Hangs}
+use Rattle.distances.specs.Far.{Unstruck}
+use Rattle.watch.specs.Witness.{nobody, Hangable, Hangs}
 use Rattle.watch.specs.Turns.{weight, unstruckAt, countAt, HelperFor, found, not-found}
 use Rattle.watch_along.specs.Along.{Leads, Readable, Woven, InLine, Askable, Asked}
 use Rattle.watch.proofs.Weights.{count-most, count-turn}
@@ -22,26 +22,28 @@ use Rattle.watch.proofs.Hooked.{Hooks, as-was, hooked, Hooked, hangs-hooked}
 -- where a place without a witness has a next place with one, that stands in the line, or the place itself in the log from g on
 abbrev pub Waits : (words row : List ℕ) (M : ℕ → ℕ → Type 0) (log : List ℕ) (g tail : ℕ) (line : List ℕ) (n : ℕ) → Type 0
 Waits words row M log g tail line n =
-    (i j : ℕ) → i < length row → j < length row → getD words i 0 ≡ 0 → getD words j 0 ≡ 0 → M i j
-    → getD row i 0 ≡ far → (getD row j 0 ≡ far → ⊥) → Between line 0 n j ⊎ Between log g tail i
+    (i j : ℕ) → i < length row → j < length row → Unstruck words i → Unstruck words j → M i j
+    → getD row i 0 ≡ nobody → (getD row j 0 ≡ nobody → ⊥) → Between line 0 n j ⊎ Between log g tail i
 
 -- the places of the log from m up to g were asked, and n of them found a helper
 pub record AskedTo (words old forth log : List ℕ) (m tail : ℕ) (before row line : List ℕ) (n g : ℕ) : Type 0 where
   pub begun : m ≤ g
   pub long : length row ≡ length old
   pub line-long : length line ≡ length before
-  pub counted : weight (unstruckAt far) words row (length old) + n ≤ length old
+  pub counted : weight (unstruckAt nobody) words row (length old) + n ≤ length old
   pub in-line : InLine words row line n
-  pub hangs : (back : List ℕ) → Woven (length old) forth back → Hangable words old (Backed back) log m tail → Hangs words old row (Backed back)
-  pub waits : (back : List ℕ) → Woven (length old) forth back → Hangable words old (Backed back) log m tail → Waits words row (Backed back) log g tail line n
+  pub hangs : (back : List ℕ) → Woven (length old) forth back → Hangable words old (Backed back) log m tail
+      → Hangs words old row (Backed back)
+  pub waits : (back : List ℕ) → Woven (length old) forth back → Hangable words old (Backed back) log m tail
+      → Waits words row (Backed back) log g tail line n
 
 -- place i is unstruck and has no witness, and j helps it
 record Found (words row : List ℕ) (M : ℕ → ℕ → Type 0) (i j : ℕ) : Type 0 where
-  free : getD words i 0 ≡ 0
-  lone : getD row i 0 ≡ far
+  free : Unstruck words i
+  lone : getD row i 0 ≡ nobody
   leads : M i j
-  help-free : getD words j 0 ≡ 0
-  help-hangs : getD row j 0 ≡ far → ⊥
+  help-free : Unstruck words j
+  help-hangs : getD row j 0 ≡ nobody → ⊥
 
 found-is : {words row : List ℕ} {M : ℕ → ℕ → Type 0} {i j : ℕ} → j < length row → HelperFor words row M i j → Found words row M i j
 found-is less (found z f a l y o) = record { free = z; lone = f; leads = l; help-free = y; help-hangs = o }
@@ -58,7 +60,7 @@ module _ (words old forth log : List ℕ) (m tail : ℕ) (before : List ℕ) (re
     begun = omega arith;
     long = refl;
     line-long = refl;
-    counted = let a = count-most far words old in omega arith;
+    counted = let a = count-most nobody words old in omega arith;
     in-line = λ t h. absurd (omega arith);
     hangs = λ back w h. record { long = refl; pointed = h .pointed; hung = h .hung; own = λ i k. (λ e. e, λ e. e); only = λ i k e. e };
     waits = λ back w h i j a b z y l f o. inr (h .alone i a z f);
@@ -84,10 +86,11 @@ module _ (words old forth log : List ℕ) (m tail : ℕ) (before : List ℕ) (re
           };
     }
       where
-        room : n + countAt far words row ≤ length line
+        room : n + countAt nobody words row ≤ length line
         room =
             let a = r .counted in
-            let b : countAt far words row ≡ weight (unstruckAt far) words row (length old) = ap (λ (x : ℕ). weight (unstruckAt far) words row x) (r .long) in
+            let b : countAt nobody words row ≡ weight (unstruckAt nobody) words row (length old) =
+            ap (λ (x : ℕ). weight (unstruckAt nobody) words row x) (r .long) in
             let c = ready .line-is .in-line in
             let d = r .line-long in
             omega arith
@@ -135,7 +138,8 @@ module _ (words old forth log : List ℕ) (m tail : ℕ) (before : List ℕ) (re
           waits = λ back w h k l a b z y p f o. on back w k l a b z y p f o (r .waits back w h k l a b z y p f o);
         }
           where
-            none : (k l : ℕ) → getD words k 0 ≡ 0 → getD row k 0 ≡ far → getD words l 0 ≡ 0 → (getD row l 0 ≡ far → ⊥) → l < length row → Leads forth k l
+            none : (k l : ℕ) → Unstruck words k → getD row k 0 ≡ nobody → Unstruck words l → (getD row l 0 ≡ nobody → ⊥) → l < length row
+                → Leads forth k l
                 → i ≡ k → ⊥
             none k l z f y o b p q = by helps
               where
@@ -145,8 +149,9 @@ module _ (words old forth log : List ℕ) (m tail : ℕ) (before : List ℕ) (re
                     no-one (ap (λ (x : ℕ). getD words x 0) q ∙ z) (ap (λ (x : ℕ). getD row x 0) q ∙ f) l b
                     (subst (λ (x : ℕ). Leads forth x l) (sym q) p) y o
 
-            on : (back : List ℕ) → Woven (length old) forth back → (k l : ℕ) → k < length row → l < length row → getD words k 0 ≡ 0 → getD words l 0 ≡ 0
-                → Backed back k l → getD row k 0 ≡ far → (getD row l 0 ≡ far → ⊥) → Between line 0 n l ⊎ Between log g tail k
+            on : (back : List ℕ) → Woven (length old) forth back → (k l : ℕ) → k < length row → l < length row → Unstruck words k
+                → Unstruck words l
+                → Backed back k l → getD row k 0 ≡ nobody → (getD row l 0 ≡ nobody → ⊥) → Between line 0 n l ⊎ Between log g tail k
                 → Between line 0 n l ⊎ Between log (g + 1) tail k
             on back w k l a b z y p f o (inl s) = inl s
             on back w k l a b z y p f o (inr s) =
@@ -161,9 +166,9 @@ module _ (words old forth log : List ℕ) (m tail : ℕ) (before : List ℕ) (re
           small : j < mostStates
           small = let a = ready .few in let b = r .long in omega arith
 
-          counts : weight (unstruckAt far) words (set row i j) (length old) + 1 ≡ weight (unstruckAt far) words row (length old)
+          counts : weight (unstruckAt nobody) words (set row i j) (length old) + 1 ≡ weight (unstruckAt nobody) words row (length old)
           counts =
-              count-turn words row i far j (length old) (ask-place .0) (ask-place .1) (fact .free) (fact .lone)
+              count-turn words row i nobody j (length old) (ask-place .0) (ask-place .1) (fact .free) (fact .lone)
               (λ e. let a = small in omega arith)
 
           -- The helper is a place, and the line has room for who found it.
@@ -183,7 +188,7 @@ module _ (words old forth log : List ℕ) (m tail : ℕ) (before : List ℕ) (re
           line-here = getD-set-same line n i 0 (ask-room .1)
 
           -- who has a witness is another place
-          other-than : (k : ℕ) → (getD row k 0 ≡ far → ⊥) → k ≡ i → ⊥
+          other-than : (k : ℕ) → (getD row k 0 ≡ nobody → ⊥) → k ≡ i → ⊥
           other-than k o q = o (ap (λ (x : ℕ). getD row x 0) q ∙ fact .lone)
 
           hooks : (back : List ℕ) → Woven (length old) forth back → Hooked words row (set row i j) (Backed back)
@@ -192,7 +197,8 @@ module _ (words old forth log : List ℕ) (m tail : ℕ) (before : List ℕ) (re
               here-hooks : Hooks words row (Backed back) i (getD (set row i j) i 0)
               here-hooks =
                   let e = r .long in
-                  hooked j (fact .lone) row-here less (fact .help-free) (fact .help-hangs) (w .turned i j (ask-place .0) (omega arith) (fact .leads))
+                  hooked j (fact .lone) row-here less (fact .help-free) (fact .help-hangs)
+                  (w .turned i j (ask-place .0) (omega arith) (fact .leads))
 
               by : (k : ℕ) → Dec (k ≡ i) → Hooks words row (Backed back) k (getD (set row i j) k 0)
               by k (yes q) = subst (λ (x : ℕ). Hooks words row (Backed back) x (getD (set row i j) x 0)) (sym q) here-hooks
@@ -202,15 +208,16 @@ module _ (words old forth log : List ℕ) (m tail : ℕ) (before : List ℕ) (re
           in-line′ t h = by (ℕ-discrete t n)
             where
               by : Dec (t ≡ n)
-                  → (getD (set line n i) t 0 < length (set row i j)) × (getD words (getD (set line n i) t 0) 0 ≡ 0)
-                  × (getD (set row i j) (getD (set line n i) t 0) 0 ≡ far → ⊥)
+                  → (getD (set line n i) t 0 < length (set row i j)) × Unstruck words (getD (set line n i) t 0)
+                  × (getD (set row i j) (getD (set line n i) t 0) 0 ≡ nobody → ⊥)
               by (yes q) =
                   let e : getD (set line n i) t 0 ≡ i = ap (λ (x : ℕ). getD (set line n i) x 0) q ∙ line-here in
                   let a = length-set row i j in
                   let b = ask-place .1 in (
                     omega arith,
                     ap (λ (x : ℕ). getD words x 0) e ∙ fact .free,
-                    λ f. let d : j ≡ far = sym row-here ∙ sym (ap (λ (x : ℕ). getD (set row i j) x 0) e) ∙ f in let c = small in omega arith,
+                    λ f. let d : j ≡ nobody = sym row-here ∙ sym (ap (λ (x : ℕ). getD (set row i j) x 0) e) ∙ f in let c = small in
+                        omega arith,
                   )
               by (no q) =
                   let e = getD-set-other line n t i 0 q in
@@ -234,7 +241,7 @@ module _ (words old forth log : List ℕ) (m tail : ℕ) (before : List ℕ) (re
               -- who has no witness now is another place, and had none
               apart : k ≡ i → ⊥
               apart q =
-                  let d : j ≡ far = sym row-here ∙ sym (ap (λ (x : ℕ). getD (set row i j) x 0) q) ∙ f in
+                  let d : j ≡ nobody = sym row-here ∙ sym (ap (λ (x : ℕ). getD (set row i j) x 0) q) ∙ f in
                   let c = small in
                   omega arith
 

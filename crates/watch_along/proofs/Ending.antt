@@ -10,9 +10,24 @@ use lib.Seq.{getD-set-same, getD-set-other}
 use Rattle.ground.specs.Listed.{Between}
 use Rattle.meaning.specs.Promises.{mostStates}
 use Rattle.moves.specs.Layout.{startAt, endAt, cellAt, Backed}
-use Rattle.distances.specs.Far.{far, gone}
-use Rattle.watch.specs.Witness.{freeIn, Log, Fresh}
-use Rattle.watch.specs.Turns.{weight, unstruckAt, countAt, Redirects, turns, stays, Redirected, Loosened, Fallable, FallsAt, was, keeps, falls, FellTo}
+use Rattle.distances.specs.Far.{Unstruck}
+use Rattle.watch.specs.Witness.{nobody, itself, freeIn, Log, Fresh}
+use Rattle.watch.specs.Turns.{
+  weight,
+  unstruckAt,
+  countAt,
+  Redirects,
+  turns,
+  stays,
+  Redirected,
+  Loosened,
+  Fallable,
+  FallsAt,
+  was,
+  keeps,
+  falls,
+  FellTo,
+}
 use Rattle.watch_along.specs.Along.{Leads, Readable, Woven, Walkable, Redirectable}
 use Rattle.watch_along.specs.Ends.{Blank, Going, Ahead, opening, going, CutOff, WayOn, goes, ends, Lookable, Looked, Ended}
 use Rattle.watch_along.proofs.Redirecting.{redirectable-along}
@@ -21,12 +36,13 @@ use Rattle.watch.proofs.Sums.{weighs-one, weighs-none, two-counts, none-counts}
 -- ---- blanking a row
 
 -- One more place is blank.
-pub blank-more : (row : List ℕ) (i : ℕ) → i < length row → ((j : ℕ) → j < i → getD row j 0 ≡ far) → (j : ℕ) → j < i + 1 → getD (set row i far) j 0 ≡ far
+pub blank-more : (row : List ℕ) (i : ℕ) → i < length row → ((j : ℕ) → j < i → getD row j 0 ≡ nobody) → (j : ℕ) → j < i + 1
+    → getD (set row i nobody) j 0 ≡ nobody
 blank-more row i inside B j h = by (ℕ-discrete j i)
   where
-    by : Dec (j ≡ i) → getD (set row i far) j 0 ≡ far
-    by (yes q) = ap (λ (x : ℕ). getD (set row i far) x 0) q ∙ getD-set-same row i far 0 inside
-    by (no q) = getD-set-other row i j far 0 q ∙ B j (omega arith)
+    by : Dec (j ≡ i) → getD (set row i nobody) j 0 ≡ nobody
+    by (yes q) = ap (λ (x : ℕ). getD (set row i nobody) x 0) q ∙ getD-set-same row i nobody 0 inside
+    by (no q) = getD-set-other row i j nobody 0 q ∙ B j (omega arith)
 
 -- ---- what the row may be before a round
 
@@ -52,7 +68,8 @@ module _ {words row back log : List ℕ} {from m : ℕ} where
   ahead-few (going R) = R .few
 
 -- With a blank row, all unstruck places are listed.
-pub listed-cut : {words row log log′ : List ℕ} (back : List ℕ) {m tail : ℕ} → Blank row → length row ≤ mostStates → Loosened words row row log log′ m tail
+pub listed-cut : {words row log log′ : List ℕ} (back : List ℕ) {m tail : ℕ} → Blank row → length row ≤ mostStates
+    → Loosened words row row log log′ m tail
     → CutOff words row row back log log′ m tail
 listed-cut back B few L = record {
   long = refl;
@@ -71,20 +88,20 @@ listed-cut back B few L = record {
 
 -- a place is cut off or as it was
 abbrev Loses : (old row : List ℕ) (i : ℕ) → Type 0
-Loses old row i = (getD row i 0 ≡ getD old i 0) ⊎ (getD row i 0 ≡ far)
+Loses old row i = (getD row i 0 ≡ getD old i 0) ⊎ (getD row i 0 ≡ nobody)
 
 -- what is known at turn h: a way on that was struck stands in the log from h on
 pub record Cutting (words old row before log : List ℕ) (m tail h : ℕ) : Type 0 where
   pub long : length row ≡ length old
-  pub loses : (i : ℕ) → i < length old → (getD row i 0 ≡ getD old i 0) ⊎ (getD row i 0 ≡ far)
+  pub loses : (i : ℕ) → i < length old → (getD row i 0 ≡ getD old i 0) ⊎ (getD row i 0 ≡ nobody)
   pub log-long : length log ≡ length before
   pub kept : (t : ℕ) → t < m → getD log t 0 ≡ getD before t 0
   pub grows : m ≤ tail
   pub places : (t : ℕ) → m ≤ t → t < tail → getD log t 0 < length old
-  pub alone : (i : ℕ) → i < length old → getD words i 0 ≡ 0 → getD row i 0 ≡ far → Between log m tail i
-  pub pending : (i : ℕ) → i < length old → getD words i 0 ≡ 0 → getD row i 0 < length old
-      → (getD words (getD row i 0) 0 ≡ 0) ⊎ Between log h m (getD row i 0)
-  pub counted : tail ≡ m + countAt far words row
+  pub alone : (i : ℕ) → i < length old → Unstruck words i → getD row i 0 ≡ nobody → Between log m tail i
+  pub pending : (i : ℕ) → i < length old → Unstruck words i → getD row i 0 < length old
+      → Unstruck words (getD row i 0) ⊎ Between log h m (getD row i 0)
+  pub counted : tail ≡ m + countAt nobody words row
 
 -- Before the first turn nobody is cut off.
 pub cutting-none : {words row back log : List ℕ} {from m : ℕ} → Going words row back log from m → Cutting words row row log log m m from
@@ -97,7 +114,7 @@ cutting-none {words = words} {row = row} R = record {
   places = λ t h k. absurd (omega arith);
   alone = λ i h u e. absurd (R .helped i h u e);
   pending = R .noted;
-  counted = let z = none-counts far words row (R .helped) in omega (arith, z);
+  counted = let z = none-counts nobody words row (R .helped) in omega (arith, z);
 }
 
 module _ {words old row back before log : List ℕ} {from m tail h : ℕ} (R : Going words old back before from m)
@@ -105,7 +122,7 @@ module _ {words old row back before log : List ℕ} {from m tail h : ℕ} (R : G
   -- There are no more places in the log than there are.
   pub cutting-within : tail ≤ length old
   cutting-within =
-      let a = two-counts far gone words row (λ e. absurd (omega (arith, e))) in
+      let a = two-counts nobody itself words row (λ e. absurd (omega (arith, e))) in
       let b : freeIn words (length row) ≡ freeIn words (length old) = ap (λ (n : ℕ). freeIn words n) (L .long) in
       omega (arith, a, b, R .log-is .count, L .counted)
 
@@ -114,7 +131,7 @@ module _ {words old row back before log : List ℕ} {from m tail h : ℕ} (R : G
   cutting-place q = let a = L .kept h q in let b = R .log-is .places h q in omega (arith, a, b)
 
   -- Those that move to it may be redirected.
-  pub cutting-ask : h < m → length before ≤ mostStates → Redirectable words row back (getD log h 0) (getD log h 0) far log tail
+  pub cutting-ask : h < m → length before ≤ mostStates → Redirectable words row back (getD log h 0) (getD log h 0) nobody log tail
   cutting-ask inside most =
       let place = cutting-place inside in
       let few = R .few in
@@ -122,7 +139,7 @@ module _ {words old row back before log : List ℕ} {from m tail h : ℕ} (R : G
         few = omega (arith, few, L .long);
         in-words = omega (arith, L .long, R .log-is .in-words);
         apart = λ e. absurd (omega (arith, e, place, few));
-        room = let a = two-counts far (getD log h 0) words row (λ e. absurd (omega (arith, e, place, few))) in
+        room = let a = two-counts nobody (getD log h 0) words row (λ e. absurd (omega (arith, e, place, few))) in
             let b : freeIn words (length row) ≡ freeIn words (length old) = ap (λ (n : ℕ). freeIn words n) (L .long) in
             omega (arith, a, b, R .log-is .count, L .counted, L .log-long, R .log-is .in-log);
         line-few = omega (arith, L .log-long, most);
@@ -130,7 +147,7 @@ module _ {words old row back before log : List ℕ} {from m tail h : ℕ} (R : G
 
   -- A turn: whose way on it was has none.
   pub cutting-more : {row′ log′ : List ℕ} {tail′ : ℕ} → h < m
-      → Redirected (λ (i : ℕ). Backed back i (getD log h 0)) words (getD log h 0) far row row′ tail log log′ tail′
+      → Redirected (λ (i : ℕ). Backed back i (getD log h 0)) words (getD log h 0) nobody row row′ tail log log′ tail′
       → Cutting words old row′ before log′ m tail′ (h + 1)
   cutting-more {row′ = row′} {log′ = log′} {tail′ = tail′} inside T = record {
     long = T .long ∙ L .long;
@@ -141,19 +158,20 @@ module _ {words old row back before log : List ℕ} {from m tail h : ℕ} (R : G
     places = λ t k l. place-at t k l (decLt t tail);
     alone = λ i k u e. alone-at i k u e (T .each i (omega (arith, k, L .long)));
     pending = λ i k u l. pending-at i k u l (T .each i (omega (arith, k, L .long)));
-    counted = let w = T .weighs (unstruckAt far) in
-        let one = weighs-one far in
-        let none = weighs-none far 0 (getD log h 0) (λ e. absurd (omega (arith, e, place, R .few))) in
-        let f : (tail′ - tail) * unstruckAt far 0 (getD log h 0) ≡ (tail′ - tail) * 0 = ap (λ (x : ℕ). (tail′ - tail) * x) none in
-        let g : (tail′ - tail) * unstruckAt far 0 far ≡ (tail′ - tail) * 1 = ap (λ (x : ℕ). (tail′ - tail) * x) one in
-        let n : countAt far words row′ ≡ weight (unstruckAt far) words row′ (length row) = ap (λ (x : ℕ). weight (unstruckAt far) words row′ x) (T .long) in
+    counted = let w = T .weighs (unstruckAt nobody) in
+        let one = weighs-one nobody in
+        let none = weighs-none nobody 0 (getD log h 0) (λ e. absurd (omega (arith, e, place, R .few))) in
+        let f : (tail′ - tail) * unstruckAt nobody 0 (getD log h 0) ≡ (tail′ - tail) * 0 = ap (λ (x : ℕ). (tail′ - tail) * x) none in
+        let g : (tail′ - tail) * unstruckAt nobody 0 nobody ≡ (tail′ - tail) * 1 = ap (λ (x : ℕ). (tail′ - tail) * x) one in
+        let n : countAt nobody words row′ ≡ weight (unstruckAt nobody) words row′ (length row) =
+        ap (λ (x : ℕ). weight (unstruckAt nobody) words row′ x) (T .long) in
         omega (arith, w, f, g, n, L .counted, T .grows);
   }
     where
       place : getD log h 0 < length old
       place = cutting-place inside
 
-      loses-at : (i : ℕ) → Redirects (Backed back i (getD log h 0)) (getD words i 0) (getD log h 0) far (getD row i 0) (getD row′ i 0)
+      loses-at : (i : ℕ) → Redirects (Backed back i (getD log h 0)) (getD words i 0) (getD log h 0) nobody (getD row i 0) (getD row′ i 0)
           → Loses old row i → Loses old row′ i
       loses-at i (turns p u e f) s = inr f
       loses-at i (stays e n) (inl s) = inl (e ∙ s)
@@ -163,8 +181,9 @@ module _ {words old row back before log : List ℕ} {from m tail h : ℕ} (R : G
       place-at t k l (yes q) = let e = T .kept t q in let p = L .places t k q in omega (arith, p, e)
       place-at t k l (no q) = let p = T .added t (omega arith) l in let a = p .0 in omega (arith, a, L .long)
 
-      alone-at : (i : ℕ) → i < length old → getD words i 0 ≡ 0 → getD row′ i 0 ≡ far
-          → Redirects (Backed back i (getD log h 0)) (getD words i 0) (getD log h 0) far (getD row i 0) (getD row′ i 0) → Between log′ m tail′ i
+      alone-at : (i : ℕ) → i < length old → Unstruck words i → getD row′ i 0 ≡ nobody
+          → Redirects (Backed back i (getD log h 0)) (getD words i 0) (getD log h 0) nobody (getD row i 0) (getD row′ i 0)
+          → Between log′ m tail′ i
       alone-at i k u e (turns p v been f) =
           let s = T .whole i (omega (arith, k, L .long)) u been e in
           (s .0, omega (arith, s .1, L .grows), s .2, s .3)
@@ -172,12 +191,12 @@ module _ {words old row back before log : List ℕ} {from m tail h : ℕ} (R : G
           let s = L .alone i k u (sym same ∙ e) in
           (s .0, s .1, omega (arith, s .2, T .grows), T .kept (s .0) (s .2) ∙ s .3)
 
-      pending-at : (i : ℕ) → i < length old → getD words i 0 ≡ 0 → getD row′ i 0 < length old
-          → Redirects (Backed back i (getD log h 0)) (getD words i 0) (getD log h 0) far (getD row i 0) (getD row′ i 0)
-          → (getD words (getD row′ i 0) 0 ≡ 0) ⊎ Between log′ (h + 1) m (getD row′ i 0)
+      pending-at : (i : ℕ) → i < length old → Unstruck words i → getD row′ i 0 < length old
+          → Redirects (Backed back i (getD log h 0)) (getD words i 0) (getD log h 0) nobody (getD row i 0) (getD row′ i 0)
+          → Unstruck words (getD row′ i 0) ⊎ Between log′ (h + 1) m (getD row′ i 0)
       pending-at i k u l (turns p v been f) = absurd (omega (arith, f, l, R .few))
       pending-at i k u l (stays same n) =
-          subst (λ (x : ℕ). (getD words x 0 ≡ 0) ⊎ Between log′ (h + 1) m x) (sym same) (at (L .pending i k u below))
+          subst (λ (x : ℕ). (Unstruck words x) ⊎ Between log′ (h + 1) m x) (sym same) (at (L .pending i k u below))
         where
           below : getD row i 0 < length old
           below = omega (arith, same, l)
@@ -195,7 +214,8 @@ module _ {words old row back before log : List ℕ} {from m tail h : ℕ} (R : G
               let e : getD log h 0 ≡ getD row i 0 = ap (λ (x : ℕ). getD log x 0) (sym q) ∙ s .3 in
               absurd (n (subst (λ (x : ℕ). Backed back i x) (sym e) hangs) u (sym e))
 
-          at : (getD words (getD row i 0) 0 ≡ 0) ⊎ Between log h m (getD row i 0) → (getD words (getD row i 0) 0 ≡ 0) ⊎ Between log′ (h + 1) m (getD row i 0)
+          at : Unstruck words (getD row i 0) ⊎ Between log h m (getD row i 0) → Unstruck words (getD row i 0)
+              ⊎ Between log′ (h + 1) m (getD row i 0)
           at (inl p) = inl p
           at (inr s) = inr (noted s (ℕ-discrete (s .0) h))
 
@@ -214,7 +234,7 @@ module _ {words old row back before log : List ℕ} {from m tail h : ℕ} (R : G
     alone = L .alone;
   }
     where
-      each-at : (i : ℕ) → i < length old → Loses old row i → (getD old i 0 ≡ far) ⊎ (getD old i 0 < length old) → (getD row i 0 ≡ far)
+      each-at : (i : ℕ) → i < length old → Loses old row i → (getD old i 0 ≡ nobody) ⊎ (getD old i 0 < length old) → (getD row i 0 ≡ nobody)
           ⊎ (getD row i 0 < length old)
       each-at i k (inr s) o = inl s
       each-at i k (inl s) (inl o) = inl (s ∙ o)
@@ -224,7 +244,7 @@ module _ {words old row back before log : List ℕ} {from m tail h : ℕ} (R : G
       leads-at i k l (inl s) = subst (λ (x : ℕ). Backed back i x) (sym s) (R .leads i k (omega (arith, s, l)))
       leads-at i k l (inr s) = absurd (omega (arith, s, l, R .few))
 
-      sure-at : {j : ℕ} → (getD words j 0 ≡ 0) ⊎ Between log h m j → getD words j 0 ≡ 0
+      sure-at : {j : ℕ} → Unstruck words j ⊎ Between log h m j → Unstruck words j
       sure-at (inl u) = u
       sure-at (inr s) = absurd (omega (arith, s .1, s .2, over))
 
@@ -232,9 +252,10 @@ module _ {words old row back before log : List ℕ} {from m tail h : ℕ} (R : G
 
 -- along place i's row up to cell e there is no unstruck place
 abbrev pub NoneTo : (words forth : List ℕ) (i e : ℕ) → Type 0
-NoneTo words forth i e = (f : ℕ) → startAt forth i ≤ f → f < e → getD words (cellAt forth f) 0 ≡ 0 → ⊥
+NoneTo words forth i e = (f : ℕ) → startAt forth i ≤ f → f < e → Unstruck words (cellAt forth f) → ⊥
 
-pub none-more : (words forth : List ℕ) (i e j : ℕ) → NoneTo words forth i e → j ≡ cellAt forth e → (getD words j 0 ≡ 0 → ⊥) → NoneTo words forth i (e + 1)
+pub none-more : (words forth : List ℕ) (i e j : ℕ) → NoneTo words forth i e → j ≡ cellAt forth e → (Unstruck words j → ⊥)
+    → NoneTo words forth i (e + 1)
 none-more words forth i e j N is n f h k u = by (ℕ-discrete f e)
   where
     by : Dec (f ≡ e) → ⊥
@@ -242,9 +263,11 @@ none-more words forth i e j N is n f h k u = by (ℕ-discrete f e)
     by (no q) = N f h (omega arith) u
 
 pub none-ends : (words forth : List ℕ) (r i e : ℕ) → NoneTo words forth i e → endAt forth i ≤ e → WayOn words forth r i r
-none-ends words forth r i e N over = ends refl (λ h s u. N (s .0) (s .1) (omega (arith, s .2, over)) (ap (λ (x : ℕ). getD words x 0) (s .3) ∙ u))
+none-ends words forth r i e N over =
+    ends refl (λ h s u. N (s .0) (s .1) (omega (arith, s .2, over)) (ap (λ (x : ℕ). getD words x 0) (s .3) ∙ u))
 
-pub here-goes : (words forth : List ℕ) (r i e j : ℕ) → startAt forth i ≤ e → e < endAt forth i → j ≡ cellAt forth e → j < r → getD words j 0 ≡ 0
+pub here-goes : (words forth : List ℕ) (r i e j : ℕ) → startAt forth i ≤ e → e < endAt forth i → j ≡ cellAt forth e → j < r
+    → Unstruck words j
     → WayOn words forth r i j
 here-goes words forth r i e j h k is l u = goes l (e, h, k, sym is) u
 
@@ -252,15 +275,17 @@ here-goes words forth r i e j h k is l u = goes l (e, h, k, sym is) u
 pub record Looking (words old row forth log : List ℕ) (m g : ℕ) : Type 0 where
   pub long : length row ≡ length old
   pub each : (i : ℕ) → i < length old
-      → (getD row i 0 ≡ getD old i 0) ⊎ ((getD row i 0 < length old) × Leads forth i (getD row i 0) × (getD words (getD row i 0) 0 ≡ 0))
-  pub none-left : (t : ℕ) → m ≤ t → t < g → getD row (getD log t 0) 0 ≡ far → (j : ℕ) → Leads forth (getD log t 0) j → getD words j 0 ≡ 0 → ⊥
+      → (getD row i 0 ≡ getD old i 0) ⊎ ((getD row i 0 < length old) × Leads forth i (getD row i 0) × Unstruck words (getD row i 0))
+  pub none-left : (t : ℕ) → m ≤ t → t < g → getD row (getD log t 0) 0 ≡ nobody → (j : ℕ) → Leads forth (getD log t 0) j → Unstruck words j
+      → ⊥
 
 pub looking-none : (words row forth log : List ℕ) (m : ℕ) → Looking words row row forth log m m
 looking-none words row forth log m = record { long = refl; each = λ i h. inl refl; none-left = λ t h k. absurd (omega arith) }
 
 module _ {words old row forth log : List ℕ} {m g : ℕ} (L : Looking words old row forth log m g) where
   -- One found a way on, and has it.
-  pub looking-more : {j : ℕ} → length old ≤ mostStates → getD log g 0 < length old → j < length old → WayOn words forth (length old) (getD log g 0) j
+  pub looking-more : {j : ℕ} → length old ≤ mostStates → getD log g 0 < length old → j < length old
+      → WayOn words forth (length old) (getD log g 0) j
       → Looking words old (set row (getD log g 0) j) forth log m (g + 1)
   looking-more {j = j} few inside below W = record {
     long = length-set row (getD log g 0) j ∙ L .long;
@@ -271,7 +296,7 @@ module _ {words old row forth log : List ℕ} {m g : ℕ} (L : Looking words old
       x : ℕ
       x = getD log g 0
 
-      found : WayOn words forth (length old) (getD log g 0) j → Leads forth (getD log g 0) j × (getD words j 0 ≡ 0)
+      found : WayOn words forth (length old) (getD log g 0) j → Leads forth (getD log g 0) j × Unstruck words j
       found (goes l s u) = (s, u)
       found (ends e n) = absurd (omega (arith, e, below))
 
@@ -281,18 +306,18 @@ module _ {words old row forth log : List ℕ} {m g : ℕ} (L : Looking words old
       each-at : (i : ℕ) → i < length old → Dec (i ≡ getD log g 0)
           → (getD (set row (getD log g 0) j) i 0 ≡ getD old i 0)
           ⊎ ((getD (set row (getD log g 0) j) i 0 < length old) × Leads forth i (getD (set row (getD log g 0) j) i 0)
-          × (getD words (getD (set row (getD log g 0) j) i 0) 0 ≡ 0))
+          × Unstruck words (getD (set row (getD log g 0) j) i 0))
       each-at i h (yes q) =
           let f = found W in
           let e : getD (set row (getD log g 0) j) i 0 ≡ j = ap (λ (y : ℕ). getD (set row (getD log g 0) j) y 0) q ∙ here in
           let lead : Leads forth i j = subst (λ (y : ℕ). Leads forth y j) (sym q) (f .0) in
           inr (omega (arith, e, below), subst (λ (y : ℕ). Leads forth i y) (sym e) lead, ap (λ (y : ℕ). getD words y 0) e ∙ f .1)
       each-at i h (no q) =
-          subst (λ (y : ℕ). (y ≡ getD old i 0) ⊎ ((y < length old) × Leads forth i y × (getD words y 0 ≡ 0)))
+          subst (λ (y : ℕ). (y ≡ getD old i 0) ⊎ ((y < length old) × Leads forth i y × Unstruck words y))
           (sym (getD-set-other row (getD log g 0) i j 0 q)) (L .each i h)
 
-      none-at : (t : ℕ) → m ≤ t → t < g + 1 → getD (set row (getD log g 0) j) (getD log t 0) 0 ≡ far → Dec (getD log t 0 ≡ getD log g 0)
-          → (i : ℕ) → Leads forth (getD log t 0) i → getD words i 0 ≡ 0 → ⊥
+      none-at : (t : ℕ) → m ≤ t → t < g + 1 → getD (set row (getD log g 0) j) (getD log t 0) 0 ≡ nobody → Dec (getD log t 0 ≡ getD log g 0)
+          → (i : ℕ) → Leads forth (getD log t 0) i → Unstruck words i → ⊥
       none-at t h k e (yes q) i s u =
           let f : getD (set row (getD log g 0) j) (getD log t 0) 0 ≡ j = ap (λ (y : ℕ). getD (set row (getD log g 0) j) y 0) q ∙ here in
           absurd (omega (arith, e, f, below, few))
@@ -306,8 +331,9 @@ module _ {words old row forth log : List ℕ} {m g : ℕ} (L : Looking words old
   pub looking-past : {j : ℕ} → length old ≤ j → WayOn words forth (length old) (getD log g 0) j → Looking words old row forth log m (g + 1)
   looking-past {j = j} above W = record { long = L .long; each = L .each; none-left = λ t h k e. none-at t h k e (ℕ-discrete t g) W }
     where
-      none-at : (t : ℕ) → m ≤ t → t < g + 1 → getD row (getD log t 0) 0 ≡ far → Dec (t ≡ g) → WayOn words forth (length old) (getD log g 0) j
-          → (i : ℕ) → Leads forth (getD log t 0) i → getD words i 0 ≡ 0 → ⊥
+      none-at : (t : ℕ) → m ≤ t → t < g + 1 → getD row (getD log t 0) 0 ≡ nobody → Dec (t ≡ g)
+          → WayOn words forth (length old) (getD log g 0) j
+          → (i : ℕ) → Leads forth (getD log t 0) i → Unstruck words i → ⊥
       none-at t h k e (no q) w i s u = L .none-left t h (omega arith) e i s u
       none-at t h k e (yes q) (goes l z y) i s u = absurd (omega arith)
       none-at t h k e (yes q) (ends z n) i s u = n i (subst (λ (y : ℕ). Leads forth (getD log y 0) i) q s) u
@@ -317,7 +343,8 @@ module _ {words old row forth log : List ℕ} {m g : ℕ} (L : Looking words old
 
 -- ---- one phase
 
-module _ {words row row′ back log log′ forth : List ℕ} {from m tail : ℕ} (A : Ahead words row back log from m) (W : Woven (length row) forth back)
+module _ {words row row′ back log log′ forth : List ℕ} {from m tail : ℕ} (A : Ahead words row back log from m)
+    (W : Woven (length row) forth back)
     (C : CutOff words row row′ back log log′ m tail) where
   pub cut-lookable : length log ≤ mostStates → Lookable words row′ forth log′ m tail
   cut-lookable short = let G = ahead-log A in record {
@@ -335,10 +362,11 @@ module _ {words row row′ back log log′ forth : List ℕ} {from m tail : ℕ}
     long″ = L .long ∙ C .long
 
     -- whoever has no way on has looked for one
-    lone : (i : ℕ) → i < length row → getD words i 0 ≡ 0 → getD row″ i 0 ≡ far → Between log′ m tail i
+    lone : (i : ℕ) → i < length row → Unstruck words i → getD row″ i 0 ≡ nobody → Between log′ m tail i
     lone i h u e = by (L .each i (omega (arith, h, C .long)))
       where
-        by : (getD row″ i 0 ≡ getD row′ i 0) ⊎ ((getD row″ i 0 < length row′) × Leads forth i (getD row″ i 0) × (getD words (getD row″ i 0) 0 ≡ 0))
+        by : (getD row″ i 0 ≡ getD row′ i 0)
+            ⊎ ((getD row″ i 0 < length row′) × Leads forth i (getD row″ i 0) × Unstruck words (getD row″ i 0))
             → Between log′ m tail i
         by (inl s) = C .alone i h u (sym s ∙ e)
         by (inr s) = absurd (omega (arith, e, s .0, C .long, ahead-few A))
@@ -392,55 +420,61 @@ module _ {words row row′ back log log′ forth : List ℕ} {from m tail : ℕ}
         lead : (i : ℕ) → i < length row → getD row″ i 0 < length row → Backed back i (getD row″ i 0)
         lead i h l = by (L .each i (omega (arith, h, C .long)))
           where
-            by : (getD row″ i 0 ≡ getD row′ i 0) ⊎ ((getD row″ i 0 < length row′) × Leads forth i (getD row″ i 0) × (getD words (getD row″ i 0) 0 ≡ 0))
+            by : (getD row″ i 0 ≡ getD row′ i 0)
+                ⊎ ((getD row″ i 0 < length row′) × Leads forth i (getD row″ i 0) × Unstruck words (getD row″ i 0))
                 → Backed back i (getD row″ i 0)
             by (inl s) = subst (λ (x : ℕ). Backed back i x) (sym s) (C .leads i h (omega (arith, s, l)))
             by (inr s) = W .turned i (getD row″ i 0) h l (s .1)
 
-        onto : (i : ℕ) → i < length row → getD words i 0 ≡ 0 → getD row″ i 0 < length row → getD words (getD row″ i 0) 0 ≡ 0
+        onto : (i : ℕ) → i < length row → Unstruck words i → getD row″ i 0 < length row → Unstruck words (getD row″ i 0)
         onto i h u l = by (L .each i (omega (arith, h, C .long)))
           where
-            by : (getD row″ i 0 ≡ getD row′ i 0) ⊎ ((getD row″ i 0 < length row′) × Leads forth i (getD row″ i 0) × (getD words (getD row″ i 0) 0 ≡ 0))
-                → getD words (getD row″ i 0) 0 ≡ 0
+            by : (getD row″ i 0 ≡ getD row′ i 0)
+                ⊎ ((getD row″ i 0 < length row′) × Leads forth i (getD row″ i 0) × Unstruck words (getD row″ i 0))
+                → Unstruck words (getD row″ i 0)
             by (inl s) = ap (λ (x : ℕ). getD words x 0) s ∙ C .sure i h u (omega (arith, s, l))
             by (inr s) = s .2
 
-        either : {x : ℕ} → (x ≡ far) ⊎ (x < length row) → (x ≡ far) ⊎ (x < length row″)
+        either : {x : ℕ} → (x ≡ nobody) ⊎ (x < length row) → (x ≡ nobody) ⊎ (x < length row″)
         either (inl e) = inl e
         either (inr l) = inr (omega (arith, l, long″))
 
         each-at : (i : ℕ) → i < length row
-            → (getD row″ i 0 ≡ getD row′ i 0) ⊎ ((getD row″ i 0 < length row′) × Leads forth i (getD row″ i 0) × (getD words (getD row″ i 0) 0 ≡ 0))
-            → (getD row″ i 0 ≡ far) ⊎ (getD row″ i 0 < length row″)
-        each-at i h (inl s) = subst (λ (x : ℕ). (x ≡ far) ⊎ (x < length row″)) (sym s) (either (C .each i h))
+            → (getD row″ i 0 ≡ getD row′ i 0)
+            ⊎ ((getD row″ i 0 < length row′) × Leads forth i (getD row″ i 0) × Unstruck words (getD row″ i 0))
+            → (getD row″ i 0 ≡ nobody) ⊎ (getD row″ i 0 < length row″)
+        each-at i h (inl s) = subst (λ (x : ℕ). (x ≡ nobody) ⊎ (x < length row″)) (sym s) (either (C .each i h))
         each-at i h (inr s) = inr (omega (arith, s .0, L .long))
 
-        saved : (i : ℕ) → i < length row → getD words i 0 ≡ 0 → (getD row″ i 0 ≡ far → ⊥)
-            → (getD row″ i 0 < length row) × (getD words (getD row″ i 0) 0 ≡ 0) × Backed back i (getD row″ i 0)
+        saved : (i : ℕ) → i < length row → Unstruck words i → (getD row″ i 0 ≡ nobody → ⊥)
+            → (getD row″ i 0 < length row) × Unstruck words (getD row″ i 0) × Backed back i (getD row″ i 0)
         saved i h u n = let l = below (each-at i h (L .each i (omega (arith, h, C .long)))) in (l, onto i h u l, lead i h l)
           where
-            below : (getD row″ i 0 ≡ far) ⊎ (getD row″ i 0 < length row″) → getD row″ i 0 < length row
+            below : (getD row″ i 0 ≡ nobody) ⊎ (getD row″ i 0 < length row″) → getD row″ i 0 < length row
             below (inl e) = absurd (n e)
             below (inr l) = omega (arith, l, long″)
 
-        stuck-at : (i : ℕ) → Between log′ m tail i → getD row″ i 0 ≡ far → (j : ℕ) → Leads forth i j → getD words j 0 ≡ 0 → ⊥
+        stuck-at : (i : ℕ) → Between log′ m tail i → getD row″ i 0 ≡ nobody → (j : ℕ) → Leads forth i j → Unstruck words j → ⊥
         stuck-at i t e j s v =
-            L .none-left (t .0) (t .1) (t .2) (ap (λ (x : ℕ). getD row″ x 0) (t .3) ∙ e) j (subst (λ (x : ℕ). Leads forth x j) (sym (t .3)) s) v
+            L .none-left (t .0) (t .1) (t .2) (ap (λ (x : ℕ). getD row″ x 0) (t .3) ∙ e) j
+            (subst (λ (x : ℕ). Leads forth x j) (sym (t .3)) s) v
 
-        unhelped : (i : ℕ) → getD words′ i 0 ≡ 0 → getD row″ i 0 ≡ far → FallsAt word (getD words i 0) (getD words′ i 0) (getD row″ i 0) → ⊥
+        unhelped : (i : ℕ) → Unstruck words′ i → getD row″ i 0 ≡ nobody → FallsAt word (getD words i 0) (getD words′ i 0) (getD row″ i 0)
+            → ⊥
         unhelped i u e (was n s) = n (sym s ∙ u)
         unhelped i u e (keeps o s n) = n e
         unhelped i u e (falls o s x) = absurd (omega (arith, sym s ∙ u, some))
 
-        note : (i : ℕ) → i < length row″ → getD words′ i 0 ≡ 0 → getD row″ i 0 < length row″ → FallsAt word (getD words i 0) (getD words′ i 0) (getD row″ i 0)
-            → (getD words′ (getD row″ i 0) 0 ≡ 0) ⊎ Between log″ m m′ (getD row″ i 0)
+        note : (i : ℕ) → i < length row″ → Unstruck words′ i → getD row″ i 0 < length row″
+            → FallsAt word (getD words i 0) (getD words′ i 0) (getD row″ i 0)
+            → Unstruck words′ (getD row″ i 0) ⊎ Between log″ m m′ (getD row″ i 0)
         note i h u l (was n s) = absurd (n (sym s ∙ u))
         note i h u l (falls o s x) = absurd (omega (arith, sym s ∙ u, some))
         note i h u l (keeps o s n) = by (ℕ-discrete (getD words′ (getD row″ i 0) 0) 0)
           where
-            free : getD words (getD row″ i 0) 0 ≡ 0
+            free : Unstruck words (getD row″ i 0)
             free = onto i (omega (arith, h, long″)) o (omega (arith, l, long″))
 
-            by : Dec (getD words′ (getD row″ i 0) 0 ≡ 0) → (getD words′ (getD row″ i 0) 0 ≡ 0) ⊎ Between log″ m m′ (getD row″ i 0)
+            by : Dec (Unstruck words′ (getD row″ i 0)) → Unstruck words′ (getD row″ i 0) ⊎ Between log″ m m′ (getD row″ i 0)
             by (yes q) = inl q
             by (no q) = inr (F .noted (getD row″ i 0) l free q)

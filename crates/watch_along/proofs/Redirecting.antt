@@ -1,5 +1,5 @@
--- Redirecting places: those of two reasons one after the other, those of a chain, and those of a row's chains. One place: Turning of witness.
--- Assumes nothing.
+-- Redirecting places: those of two reasons one after the other, those of a chain, and those of a row's chains. One place: Turning of
+-- witness. Assumes nothing.
 use mathlib.Core.Path.{_≡_, refl, sym, ap, subst, _∙_}
 use mathlib.Core.Bool.{Bool, true, false}
 use mathlib.Core.Logic.{_⊎_, inl, inr}
@@ -11,14 +11,25 @@ use lib.ListN.{length, getD, set}
 use Rattle.ground.specs.Listed.{Between}
 use Rattle.meaning.specs.Promises.{mostStates}
 use Rattle.moves.specs.Layout.{startAt, endAt, cellAt, linkAt, Linked, Ascending, Backed}
+use Rattle.distances.specs.Far.{Unstruck}
 use Rattle.distances_along.proofs.Chains.{OnChain, chain-begins, chain-ends, chain-on, chain-next, chain-widens, chain-narrows}
 use Rattle.watch.specs.Turns.{IsSo, weight, Turnable, Redirects, turns, stays, Redirected}
 use Rattle.watch.proofs.Weights.{scale-then}
-use Rattle.watch.proofs.Turning.{redirects-same, redirected-by, redirects-was, turned-none, turnable-then, place-room, place-past, place-more}
+use Rattle.watch.proofs.Turning.{
+  redirects-same,
+  redirected-by,
+  redirects-was,
+  turned-none,
+  turnable-then,
+  place-room,
+  place-past,
+  place-more,
+}
 use Rattle.watch_along.specs.Along.{Walkable, Redirectable, Passable}
 
 -- Those of one reason, and then those of another.
-module _ {P Q : ℕ → Type 0} (words : List ℕ) (was to : ℕ) (old mid new : List ℕ) (n m k : ℕ) (before between line : List ℕ) (apart : was ≡ to → ⊥)
+module _ {P Q : ℕ → Type 0} (words : List ℕ) (was to : ℕ) (old mid new : List ℕ) (n m k : ℕ) (before between line : List ℕ)
+    (apart : was ≡ to → ⊥)
     (r : Redirected P words was to old mid n before between m) (s : Redirected Q words was to mid new m between line k) where
   both : {A B : Type 0} {word o x y : ℕ} → Redirects A word was to o x → Redirects B word was to x y → Redirects (A ⊎ B) word was to o y
   both (turns p z o g) (turns q z′ o′ g′) = absurd (apart (sym o′ ∙ g))
@@ -39,7 +50,8 @@ module _ {P Q : ℕ → Type 0} (words : List ℕ) (was to : ℕ) (old mid new :
   each′ i h = both (r .each i h) (s .each i (let a = r .long in omega arith))
 
   added′ : (t : ℕ) → Dec (t < m) → n ≤ t → t < k
-      → (getD line t 0 < length old) × (getD words (getD line t 0) 0 ≡ 0) × (getD old (getD line t 0) 0 ≡ was) × (getD new (getD line t 0) 0 ≡ to)
+      → (getD line t 0 < length old) × Unstruck words (getD line t 0) × (getD old (getD line t 0) 0 ≡ was)
+      × (getD new (getD line t 0) 0 ≡ to)
   added′ t (yes q) a h =
       let e = s .kept t q in
       let (u, v, w, x) = r .added t a q in
@@ -55,7 +67,7 @@ module _ {P Q : ℕ → Type 0} (words : List ℕ) (was to : ℕ) (old mid new :
       let o : getD line t 0 < length old = omega arith in
       (o, v, redirects-was apart (r .each (getD line t 0) o) w, x)
 
-  whole′ : (i : ℕ) → i < length old → getD words i 0 ≡ 0 → getD old i 0 ≡ was → getD new i 0 ≡ to → Between line n k i
+  whole′ : (i : ℕ) → i < length old → Unstruck words i → getD old i 0 ≡ was → getD new i 0 ≡ to → Between line n k i
   whole′ i h z o g = by (r .each i h)
     where
       first : Between between n m i → Between line n k i
@@ -92,7 +104,8 @@ passable-then words was to old row back n before line m p r = record {
 }
 
 -- Where rows back can be walked, the places that move to place t can be redirected.
-pub redirectable-along : {words row back line : List ℕ} {r t was to n : ℕ} → Walkable back r → length row ≡ r → t < r → Turnable words row was to line n
+pub redirectable-along : {words row back line : List ℕ} {r t was to n : ℕ} → Walkable back r → length row ≡ r → t < r
+    → Turnable words row was to line n
     → Redirectable words row back t was to line n
 redirectable-along {back = back} {t = t} walkable long inside ready = record {
   turnable = ready;
@@ -108,7 +121,8 @@ pub record ChainTo (words old back : List ℕ) (c was to : ℕ) (before : List �
   pub here : i < length old → Linked back c i
   pub so-far : Redirected (OnChain back c i) words was to old row n before line m
 
-module _ (words old back : List ℕ) (c was to : ℕ) (before : List ℕ) (n : ℕ) (ready : Passable words old back was to before n) (inside : c < length old) where
+module _ (words old back : List ℕ) (c was to : ℕ) (before : List ℕ) (n : ℕ) (ready : Passable words old back was to before n)
+    (inside : c < length old) where
   few : length old ≤ mostStates
   few = ready .turnable .few
 
@@ -116,7 +130,8 @@ module _ (words old back : List ℕ) (c was to : ℕ) (before : List ℕ) (n : �
   pub chain-none : ChainTo words old back c was to before n old before n c
   chain-none = record {
     here = λ h. (0, refl);
-    so-far = turned-none (OnChain back c c) (chain-begins (length old) back c few (ready .links) inside) words was to old n before (ready .turnable .apart);
+    so-far = turned-none (OnChain back c c) (chain-begins (length old) back c few (ready .links) inside) words was to old n before
+        (ready .turnable .apart);
   }
 
   module _ (row line : List ℕ) (m i : ℕ) (s : ChainTo words old back c was to before n row line m i) where
@@ -133,7 +148,8 @@ module _ (words old back : List ℕ) (c was to : ℕ) (before : List ℕ) (n : �
       -- The line has room for it, if it is to be redirected.
       pub chain-room : {b : Bool} → IsSo words row i was b → b ≡ true → (m < length line) × (m < mostStates)
       chain-room so t =
-          place-room (OnChain back c i) words was to old n before (ready .turnable) row line m (s .so-far) i more (so .yes t .0) (so .yes t .1)
+          place-room (OnChain back c i) words was to old n before (ready .turnable) row line m (s .so-far) i more (so .yes t .0)
+          (so .yes t .1)
 
       -- the place behind it
       module _ (k : ℕ) (is : k ≡ linkAt back i) where
@@ -153,7 +169,8 @@ module _ (words old back : List ℕ) (c was to : ℕ) (before : List ℕ) (n : �
         pub chain-past : {b : Bool} → IsSo words row i was b → b ≡ false → ChainTo words old back c was to before n row line m k
         chain-past so f = record {
           here = on;
-          so-far = place-past (OnChain back c i) words was to old n before (ready .turnable) row line m (s .so-far) i more (OnChain back c k)
+          so-far = place-past (OnChain back c i) words was to old n before (ready .turnable) row line m (s .so-far) i more
+              (OnChain back c k)
               (λ j p. widens j (inl p)) narrows (so .never f);
         }
 
@@ -162,7 +179,8 @@ module _ (words old back : List ℕ) (c was to : ℕ) (before : List ℕ) (n : �
             → ChainTo words old back c was to before n (set row i to) (set line m i) (m + 1) k
         chain-more so t = record {
           here = on;
-          so-far = place-more (OnChain back c i) words was to old n before (ready .turnable) row line m (s .so-far) i more (OnChain back c k)
+          so-far = place-more (OnChain back c i) words was to old n before (ready .turnable) row line m (s .so-far) i more
+              (OnChain back c k)
               (λ j p. widens j (inl p)) narrows (so .yes t .0) (so .yes t .1) (widens i (inr refl));
         }
 
@@ -180,7 +198,10 @@ pub record RowTo (words old back : List ℕ) (t was to : ℕ) (before : List ℕ
 module _ (words old back : List ℕ) (t was to : ℕ) (before : List ℕ) (n : ℕ) (ready : Redirectable words old back t was to before n) where
   -- Before its first cell nothing has changed.
   pub row-none : (e : ℕ) → e ≡ startAt back t → RowTo words old back t was to before n e old before n
-  row-none e q = record { begun = omega arith; so-far = turned-none (InRow back t e) nowhere words was to old n before (ready .turnable .apart) }
+  row-none e q = record {
+    begun = omega arith;
+    so-far = turned-none (InRow back t e) nowhere words was to old n before (ready .turnable .apart);
+  }
     where
       nowhere : (i : ℕ) → InRow back t e i → ⊥
       nowhere i (d, a, b, c, f) = omega arith
@@ -199,14 +220,19 @@ module _ (words old back : List ℕ) (t was to : ℕ) (before : List ℕ) (n : �
     -- A cell's chain may be redirected,
     pub cell-ready : (c : ℕ) → e < endAt back t → c ≡ cellAt back e → Passable words row back was to line m × (c < length row)
     cell-ready c within q = (
-      passable-then words was to old row back n before line m (record { turnable = ready .turnable; long = ready .has-row .long; links = ready .links })
+      passable-then words was to old row back n before line m (record {
+        turnable = ready .turnable;
+        long = ready .has-row .long;
+        links = ready .links;
+      })
           (r .so-far),
       omega (arith, q, ready .places e (r .begun) within, r .so-far .long),
     )
 
     -- and then it is.
     pub cell-more : (c : ℕ) → e < endAt back t → c ≡ cellAt back e → (row′ line′ : List ℕ) (m′ : ℕ)
-        → Redirected (λ i. Linked back c i) words was to row row′ m line line′ m′ → RowTo words old back t was to before n (e + 1) row′ line′ m′
+        → Redirected (λ i. Linked back c i) words was to row row′ m line line′ m′ → RowTo words old back t was to before n (e + 1) row′
+        line′ m′
     cell-more c within q row′ line′ m′ s = record {
       begun = omega (arith, r .begun);
       so-far = redirected-by words was to old row′ n before line′ m′

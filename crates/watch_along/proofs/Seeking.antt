@@ -7,14 +7,15 @@ use native.Mathlib.Decide.{ℕ-discrete}
 use native.Mathlib.Omega.{arith}
 use lib.ListN.{length, getD}
 use Rattle.moves.specs.Layout.{startAt, endAt, cellAt}
-use Rattle.distances.specs.Far.{far}
+use Rattle.distances.specs.Far.{Unstruck}
 use Rattle.watch.specs.Turns.{Helps, HelperIn, someone, no-one}
+use Rattle.watch.specs.Witness.{nobody}
 use Rattle.watch_along.specs.Along.{Leads, Readable}
 
 -- no cell of place i's row before e holds an unstruck place with a witness
 pub record Passed (words row forth : List ℕ) (i e : ℕ) : Type 0 where
   pub begun : startAt forth i ≤ e
-  pub nothing : (d : ℕ) → startAt forth i ≤ d → d < e → getD words (cellAt forth d) 0 ≡ 0 → (getD row (cellAt forth d) 0 ≡ far → ⊥) → ⊥
+  pub nothing : (d : ℕ) → startAt forth i ≤ d → d < e → Unstruck words (cellAt forth d) → (getD row (cellAt forth d) 0 ≡ nobody → ⊥) → ⊥
 
 -- place i's row can be read, and all its places have a word and a number
 abbrev pub Sought : (words row forth : List ℕ) (i : ℕ) → Type 0
@@ -30,7 +31,7 @@ module _ (words row forth : List ℕ) (i : ℕ) where
     pub passed-all : endAt forth i ≤ e → HelperIn words row (Leads forth) i (length row)
     passed-all done = no-one refl by
       where
-        by : (h : ℕ) → h < length row → Leads forth i h → getD words h 0 ≡ 0 → (getD row h 0 ≡ far → ⊥) → ⊥
+        by : (h : ℕ) → h < length row → Leads forth i h → Unstruck words h → (getD row h 0 ≡ nobody → ⊥) → ⊥
         by h k (d, a, b, q) z other =
             p .nothing d a (omega arith) (ap (λ (x : ℕ). getD words x 0) q ∙ z)
             (λ f. other (sym (ap (λ (x : ℕ). getD row x 0) q) ∙ f))
@@ -48,8 +49,8 @@ module _ (words row forth : List ℕ) (i : ℕ) where
       pub passed-more : {b : Bool} → Helps words row j b → b ≡ false → Passed words row forth i (e + 1)
       passed-more h t = record { begun = let a = p .begun in omega arith; nothing = λ d a l. by d a l (ℕ-discrete d e) }
         where
-          by : (d : ℕ) → startAt forth i ≤ d → d < e + 1 → Dec (d ≡ e) → getD words (cellAt forth d) 0 ≡ 0
-              → (getD row (cellAt forth d) 0 ≡ far → ⊥) → ⊥
+          by : (d : ℕ) → startAt forth i ≤ d → d < e + 1 → Dec (d ≡ e) → Unstruck words (cellAt forth d)
+              → (getD row (cellAt forth d) 0 ≡ nobody → ⊥) → ⊥
           by d a l (no q) z other = p .nothing d a (omega arith) z other
           by d a l (yes q) z other =
               let s : cellAt forth d ≡ j = ap (cellAt forth) q ∙ sym here in

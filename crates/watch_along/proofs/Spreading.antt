@@ -9,8 +9,8 @@ use lib.ListN.{length, getD}
 use Rattle.ground.specs.Listed.{Between}
 use Rattle.meaning.specs.Promises.{mostStates}
 use Rattle.moves.specs.Layout.{Backed}
-use Rattle.distances.specs.Far.{far}
-use Rattle.watch.specs.Witness.{Hangs, Rehung}
+use Rattle.distances.specs.Far.{Unstruck}
+use Rattle.watch.specs.Witness.{nobody, Hangs, Rehung}
 use Rattle.watch.specs.Turns.{weight, unstruckAt, countAt, Redirects, turns, stays, Redirected, Line}
 use Rattle.watch_along.specs.Along.{Walkable, Redirectable, InLine, Hanging}
 use Rattle.watch.proofs.Turning.{redirected-counts}
@@ -18,7 +18,8 @@ use Rattle.watch_along.proofs.Redirecting.{redirectable-along}
 use Rattle.watch.proofs.Hooked.{Hooks, as-was, hooked, Hooked, hangs-hooked}
 
 -- what hangs while places hang anew
-pub hanging-hangs : {words old row line : List ℕ} {M : ℕ → ℕ → Type 0} {head tail : ℕ} → Hanging words old row M line head tail → Hangs words old row M
+pub hanging-hangs : {words old row line : List ℕ} {M : ℕ → ℕ → Type 0} {head tail : ℕ} → Hanging words old row M line head tail
+    → Hangs words old row M
 hanging-hangs h = record { long = h .long; pointed = h .pointed; hung = h .hung; own = h .own; only = h .only }
 
 -- the rows of the line's first `head` places were redirected, and it has `tail` places
@@ -27,14 +28,14 @@ pub record SpreadTo (words row₀ back line₀ : List ℕ) (n : ℕ) (row line :
   pub line-long : length line ≡ length line₀
   pub within : head ≤ tail
   pub in-line : InLine words row line tail
-  pub room : tail + countAt far words row ≤ length line
+  pub room : tail + countAt nobody words row ≤ length line
   pub hanging : (old : List ℕ) → Hanging words old row₀ (Backed back) line₀ 0 n → Hanging words old row (Backed back) line head tail
 
 -- what is asked of `spread`
 abbrev pub Spreadable : (words row back line : List ℕ) (n : ℕ) → Type 0
 Spreadable words row back line n =
     Walkable back (length row) × (length row ≤ length words) × Line row line × (n ≤ length line) × InLine words row line n
-    × (n + countAt far words row ≤ length line)
+    × (n + countAt nobody words row ≤ length line)
 
 module _ (words row₀ back line₀ : List ℕ) (n : ℕ) (pre : Spreadable words row₀ back line₀ n) where
   -- Before the first turn all is as it was.
@@ -50,14 +51,14 @@ module _ (words row₀ back line₀ : List ℕ) (n : ℕ) (pre : Spreadable word
       hung = now .hung;
       own = now .own;
       only = now .only;
-      closed = λ i j a b z y l f o. nobody (now .pending i j a b z y l f o);
+      closed = λ i j a b z y l f o. none-waits (now .pending i j a b z y l f o);
     }
       where
         now : Hanging words old row (Backed back) line head tail
         now = r .hanging old h
 
-        nobody : {j : ℕ} → Between line head tail j → ⊥
-        nobody (t, a, b, e) = omega arith
+        none-waits : {j : ℕ} → Between line head tail j → ⊥
+        none-waits (t, a, b, e) = omega arith
 
     module _ (more : head < tail) where
       -- the next place of the line
@@ -76,11 +77,11 @@ module _ (words row₀ back line₀ : List ℕ) (n : ℕ) (pre : Spreadable word
           (a, omega arith, omega arith, omega arith)
 
       -- it is not the number of a place without a witness
-      apart : far ≡ getD line head 0 → ⊥
+      apart : nobody ≡ getD line head 0 → ⊥
       apart e = let a = spread-next .1 in omega arith
 
       -- Its row may be redirected.
-      pub spread-ready : Redirectable words row back (getD line head 0) far (getD line head 0) line tail
+      pub spread-ready : Redirectable words row back (getD line head 0) nobody (getD line head 0) line tail
       spread-ready =
           let a = pre .1 in
           let b = pre .2 .in-line in
@@ -92,12 +93,12 @@ module _ (words row₀ back line₀ : List ℕ) (n : ℕ) (pre : Spreadable word
           (record { few = omega arith; in-words = omega arith; apart = apart; room = r .room; line-few = omega arith })
 
       module _ (row′ line′ : List ℕ) (m : ℕ)
-          (done : Redirected (λ (i : ℕ). Backed back i (getD line head 0)) words far (getD line head 0) row row′ tail line line′ m) where
+          (done : Redirected (λ (i : ℕ). Backed back i (getD line head 0)) words nobody (getD line head 0) row row′ tail line line′ m) where
         -- who has a witness keeps it
-        kept : (i : ℕ) → i < length row → (getD row i 0 ≡ far → ⊥) → getD row′ i 0 ≡ getD row i 0
+        kept : (i : ℕ) → i < length row → (getD row i 0 ≡ nobody → ⊥) → getD row′ i 0 ≡ getD row i 0
         kept i h other = by (done .each i h)
           where
-            by : Redirects (Backed back i next) (getD words i 0) far next (getD row i 0) (getD row′ i 0) → getD row′ i 0 ≡ getD row i 0
+            by : Redirects (Backed back i next) (getD words i 0) nobody next (getD row i 0) (getD row′ i 0) → getD row′ i 0 ≡ getD row i 0
             by (turns p z o g) = absurd (other o)
             by (stays e f) = e
 
@@ -105,7 +106,7 @@ module _ (words row₀ back line₀ : List ℕ) (n : ℕ) (pre : Spreadable word
         hooks : Hooked words row row′ (Backed back)
         hooks = record { long = done .long; each = λ i h. by i (done .each i h) }
           where
-            by : (i : ℕ) → Redirects (Backed back i next) (getD words i 0) far next (getD row i 0) (getD row′ i 0)
+            by : (i : ℕ) → Redirects (Backed back i next) (getD words i 0) nobody next (getD row i 0) (getD row′ i 0)
                 → Hooks words row (Backed back) i (getD row′ i 0)
             by i (turns p z o g) = let u = r .in-line head more in hooked next o g (u .0) (u .1) (u .2) p
             by i (stays e f) = as-was e
@@ -114,7 +115,7 @@ module _ (words row₀ back line₀ : List ℕ) (n : ℕ) (pre : Spreadable word
         in-line′ t h = by (decLt t tail)
           where
             by : Dec (t < tail)
-                → (getD line′ t 0 < length row′) × (getD words (getD line′ t 0) 0 ≡ 0) × (getD row′ (getD line′ t 0) 0 ≡ far → ⊥)
+                → (getD line′ t 0 < length row′) × Unstruck words (getD line′ t 0) × (getD row′ (getD line′ t 0) 0 ≡ nobody → ⊥)
             by (yes k) =
                 let e = done .kept t k in
                 let u = r .in-line t k in
@@ -130,23 +131,24 @@ module _ (words row₀ back line₀ : List ℕ) (n : ℕ) (pre : Spreadable word
                 let l = done .long in
                 (omega arith, u .1, λ f. apart (sym f ∙ u .3))
 
-        room′ : m + countAt far words row′ ≤ length line′
+        room′ : m + countAt nobody words row′ ≤ length line′
         room′ =
-            let a = redirected-counts words far next row row′ tail line line′ m apart done in
-            let b : countAt far words row′ ≡ weight (unstruckAt far) words row′ (length row) = ap (λ (x : ℕ). weight (unstruckAt far) words row′ x)
+            let a = redirected-counts words nobody next row row′ tail line line′ m apart done in
+            let b : countAt nobody words row′ ≡ weight (unstruckAt nobody) words row′ (length row) =
+            ap (λ (x : ℕ). weight (unstruckAt nobody) words row′ x)
             (done .long) in
             let c = r .room in
             let d = done .line-long in
             omega arith
 
         module _ (old : List ℕ) (was : Hanging words old row (Backed back) line head tail) where
-          pending′ : (i j : ℕ) → i < length row → j < length row → getD words i 0 ≡ 0 → getD words j 0 ≡ 0 → Backed back i j
-              → getD row′ i 0 ≡ far → (getD row′ j 0 ≡ far → ⊥) → Between line′ (head + 1) m j
+          pending′ : (i j : ℕ) → i < length row → j < length row → Unstruck words i → Unstruck words j → Backed back i j
+              → getD row′ i 0 ≡ nobody → (getD row′ j 0 ≡ nobody → ⊥) → Between line′ (head + 1) m j
           pending′ i j a b z y l f other = at (done .each j b)
             where
               -- i waited before, and its row does not lead back from the next place
-              lone : Redirects (Backed back i next) (getD words i 0) far next (getD row i 0) (getD row′ i 0)
-                  → (getD row i 0 ≡ far) × (Backed back i next → ⊥)
+              lone : Redirects (Backed back i next) (getD words i 0) nobody next (getD row i 0) (getD row′ i 0)
+                  → (getD row i 0 ≡ nobody) × (Backed back i next → ⊥)
               lone (turns p v o g) = absurd (apart (sym f ∙ g))
               lone (stays e s) = (sym e ∙ f, λ p. s p z (sym e ∙ f))
 
@@ -161,7 +163,7 @@ module _ (words row₀ back line₀ : List ℕ) (n : ℕ) (pre : Spreadable word
               later : Between line′ tail m j → Between line′ (head + 1) m j
               later (t, c, d, e) = (t, omega arith, d, e)
 
-              at : Redirects (Backed back j next) (getD words j 0) far next (getD row j 0) (getD row′ j 0) → Between line′ (head + 1) m j
+              at : Redirects (Backed back j next) (getD words j 0) nobody next (getD row j 0) (getD row′ j 0) → Between line′ (head + 1) m j
               at (turns p v o g) = later (done .whole j b y o g)
               at (stays e s) =
                   let u = lone (done .each i a) in

@@ -1,5 +1,6 @@
--- Watching a promise along stored moves: rows forth and back that can be read, and what the functions promise one another. That place i moves to
--- place j is said by i's row forth (`Leads`), or by j's row back, which has one place for each chain (`Backed` of web). Assumes nothing.
+-- Watching a promise along stored moves: rows forth and back that can be read, and what the functions promise one another. That place i
+-- moves to place j is said by i's row forth (`Leads`), or by j's row back, which has one place for each chain (`Backed` of web).
+-- Assumes nothing.
 use mathlib.Core.Path.{_≡_}
 use mathlib.Core.List.{List}
 use Prim.Native.Nat.{ℕ, _+_, _≤_, _<_}
@@ -7,8 +8,8 @@ use lib.ListN.{length, getD}
 use Rattle.ground.specs.Listed.{Between}
 use Rattle.meaning.specs.Promises.{mostStates}
 use Rattle.moves.specs.Layout.{movesSize, startAt, endAt, cellsOf, cellAt, HasRow, Ascending, Backed}
-use Rattle.distances.specs.Far.{far}
-use Rattle.watch.specs.Witness.{Pointed, AllHung, SameOwn, Hangable}
+use Rattle.distances.specs.Far.{Unstruck}
+use Rattle.watch.specs.Witness.{nobody, Pointed, AllHung, SameOwn, Hangable}
 use Rattle.watch.specs.Turns.{countAt, Turnable, Line, Before}
 
 -- j stands in place i's row of stored moves
@@ -49,19 +50,20 @@ pub record Passable (words row back : List ℕ) (was to : ℕ) (line : List ℕ)
 -- the line's first n are unstruck places with a witness
 abbrev pub InLine : (words row line : List ℕ) (n : ℕ) → Type 0
 InLine words row line n =
-    (t : ℕ) → t < n → (getD line t 0 < length row) × (getD words (getD line t 0) 0 ≡ 0) × (getD row (getD line t 0) 0 ≡ far → ⊥)
+    (t : ℕ) → t < n → (getD line t 0 < length row) × Unstruck words (getD line t 0) × (getD row (getD line t 0) 0 ≡ nobody → ⊥)
 
--- While places hang anew: who has a witness hangs, and where a place without one has a next place with one, that stands in the line from `head` on.
+-- While places hang anew: who has a witness hangs, and where a place without one has a next place with one, that stands in the line from
+-- `head` on.
 pub record Hanging (words old row : List ℕ) (M : ℕ → ℕ → Type 0) (line : List ℕ) (head tail : ℕ) : Type 0 where
   pub long : length row ≡ length old
   pub pointed : Pointed row M
   pub hung : AllHung words row
   pub own : SameOwn old row
-  pub only : (i : ℕ) → i < length row → getD row i 0 ≡ far → getD old i 0 ≡ far
+  pub only : (i : ℕ) → i < length row → getD row i 0 ≡ nobody → getD old i 0 ≡ nobody
   pub in-line : InLine words row line tail
-  pub room : tail + countAt far words row ≤ length line
-  pub pending : (i j : ℕ) → i < length row → j < length row → getD words i 0 ≡ 0 → getD words j 0 ≡ 0 → M i j
-      → getD row i 0 ≡ far → (getD row j 0 ≡ far → ⊥) → Between line head tail j
+  pub room : tail + countAt nobody words row ≤ length line
+  pub pending : (i j : ℕ) → i < length row → j < length row → Unstruck words i → Unstruck words j → M i j
+      → getD row i 0 ≡ nobody → (getD row j 0 ≡ nobody → ⊥) → Between line head tail j
 
 -- places that stand alone may look for a helper: the line has room for all of them
 pub record Askable (words row forth log : List ℕ) (m tail : ℕ) (line : List ℕ) : Type 0 where

@@ -1,5 +1,5 @@
-// Reason 0 along stored moves: each unstruck place names a next place that is unstruck, its way on. A round looks again only at places whose way
-// on was struck since; who finds no other falls.
+// Reason 0 along stored moves: each unstruck place names a next place that is unstruck, its way on. A round looks again only at places
+// whose way on was struck since; who finds no other falls.
 use super::redirect;
 use watch::NOBODY;
 use watch::fall;
@@ -32,7 +32,8 @@ fn cut(
     m: usize,
 ) -> usize
     requires { ⌜ Going (now words) (now row) (now back) (now log) from m × (length (now log) ≤ mostStates) ⌝ }
-    ensures { λ tail. ⌜ CutOff (now (words .entry)) (now (row .entry)) (now (row .exit)) (now (back .entry)) (now (log .entry)) (now (log .exit)) m tail ⌝ }
+    ensures { λ tail. ⌜ CutOff (now (words .entry)) (now (row .entry)) (now (row .exit)) (now (back .entry)) (now (log .entry))
+        (now (log .exit)) m tail ⌝ }
 {
     let mut tail = m;
     let mut h = from;
@@ -45,7 +46,8 @@ fn cut(
     tail
 }
 
-// The places that need a way on, behind the log's first m: before the first round, when `from` is above m, all unstruck ones; else those cut off.
+// The places that need a way on, behind the log's first m: before the first round, when `from` is above m, all unstruck ones; else those
+// cut off.
 fn lost(
     words: &[u32],
     row: &mut [u16],
@@ -55,7 +57,8 @@ fn lost(
     m: usize,
 ) -> usize
     requires { ⌜ Ahead (now words) (now row) (now back) (now log) from m × (length (now log) ≤ mostStates) ⌝ }
-    ensures { λ tail. ⌜ CutOff (now (words .entry)) (now (row .entry)) (now (row .exit)) (now (back .entry)) (now (log .entry)) (now (log .exit)) m tail ⌝ }
+    ensures { λ tail. ⌜ CutOff (now (words .entry)) (now (row .entry)) (now (row .exit)) (now (back .entry)) (now (log .entry))
+        (now (log .exit)) m tail ⌝ }
 {
     if m < from {
         return list_alone(words, row, log, m);
@@ -111,8 +114,8 @@ pub fn phase(
     word: u32,
 ) -> usize
     requires { ⌜ Endable (now words) (now row) (now forth) (now back) (now log) m from word ⌝ }
-    ensures { λ end. ⌜ Ended (now (words .entry)) (now (words .exit)) (now (row .entry)) (now (row .exit)) (now (forth .entry)) (now (back .entry))
-        (now (log .entry)) (now (log .exit)) m end word ⌝ }
+    ensures { λ end. ⌜ Ended (now (words .entry)) (now (words .exit)) (now (row .entry)) (now (row .exit)) (now (forth .entry))
+        (now (back .entry)) (now (log .entry)) (now (log .exit)) m end word ⌝ }
 {
     let tail = lost(words, row, back, log, from, m);
     look(words, row, forth, log, m, tail);

@@ -1,5 +1,5 @@
-// Watching a promise along stored moves. A phase looks again only at places whose witnesses were cut by a strike since the promise's last phase, and
-// at those that hang on them; who finds no new witness falls.
+// Watching a promise along stored moves. A phase looks again only at places whose witnesses were cut by a strike since the promise's last
+// phase, and at those that hang on them; who finds no new witness falls.
 use watch::NOBODY;
 use watch::fall;
 use watch::is_helped;
@@ -11,15 +11,15 @@ ghost use Prim.Native.Nat.{ℕ, _+_, _<_, _≤_};
 ghost use lib.ListN.{length};
 ghost use Rattle.meaning.specs.Promises.{mostStates};
 ghost use Rattle.moves.specs.Layout.{Linked, Backed};
-ghost use Rattle.distances.specs.Far.{far};
-ghost use Rattle.watch.specs.Witness.{Rested, Hangable, Rehung};
+ghost use Rattle.watch.specs.Witness.{nobody, Rested, Hangable, Rehung};
 ghost use Rattle.watch.specs.Turns.{countAt, Redirected, Loosened, HelperIn, HelperFor, Line, Before, Watched};
-ghost use Rattle.watch_along.specs.Along.{Leads, Readable, Walkable, Woven, Redirectable, Passable, InLine, Hanging, Askable, Asked, Watching};
+ghost use Rattle.watch_along.specs.Along.{Leads, Readable, Walkable, Woven, Redirectable, Passable};
+ghost use Rattle.watch_along.specs.Along.{InLine, Hanging, Askable, Asked, Watching};
 
 pub mod ends;
 
-// Of the places on the chain that begins with place c, gives `to` to the unstruck ones whose number is `was`, and puts them into the line behind
-// its first n; how long the line then is.
+// Of the places on the chain that begins with place c, gives `to` to the unstruck ones whose number is `was`, and puts them into the line
+// behind its first n; how long the line then is.
 fn redirect_chain(
     words: &[u32],
     row: &mut [u16],
@@ -50,8 +50,8 @@ fn redirect_chain(
     tail
 }
 
-// Of the places that move to place t, gives `to` to the unstruck ones whose number is `was`, and puts them into the line behind its first n; how
-// long the line then is.
+// Of the places that move to place t, gives `to` to the unstruck ones whose number is `was`, and puts them into the line behind its first
+// n; how long the line then is.
 fn redirect(
     words: &[u32],
     row: &mut [u16],
@@ -77,8 +77,8 @@ fn redirect(
     tail
 }
 
-// Cuts off who hangs on a place that was struck since, or on one that is cut off: these stand in the log behind its first m, up to the place
-// returned.
+// Cuts off who hangs on a place that was struck since, or on one that is cut off: these stand in the log behind its first m, up to the
+// place returned.
 fn loosen(
     words: &[u32],
     row: &mut [u16],
@@ -102,7 +102,8 @@ fn loosen(
     tail
 }
 
-// The places that need a witness, behind the log's first m: before the first phase, when `from` is above m, all without one; else those cut off.
+// The places that need a witness, behind the log's first m: before the first phase, when `from` is above m, all without one; else those cut
+// off.
 fn lost(
     words: &[u32],
     row: &mut [u16],
@@ -182,11 +183,12 @@ fn ask(
 
 // From each place of the line in turn, hangs the places on it that move to it and have no witness, and puts them into the line.
 fn spread(words: &[u32], row: &mut [u16], back: &[u16], line: &mut [u16], n: usize)
-    requires { ⌜ Walkable (now back) (length (now row)) × (length (now row) ≤ length (now words)) × Line (now row) (now line) × (n ≤ length (now line))
-        × InLine (now words) (now row) (now line) n × (n + countAt far (now words) (now row) ≤ length (now line)) ⌝ }
-    ensures { λ _. ⌜ ((old : List ℕ) → Hanging (now (words .entry)) old (now (row .entry)) (Backed (now (back .entry))) (now (line .entry)) 0 n
-        → Rehung (now (words .entry)) old (now (row .exit)) (Backed (now (back .entry)))) × (length (now (row .exit)) ≡ length (now (row .entry)))
-        × (length (now (line .exit)) ≡ length (now (line .entry))) ⌝ }
+    requires { ⌜ Walkable (now back) (length (now row)) × (length (now row) ≤ length (now words)) × Line (now row) (now line)
+        × (n ≤ length (now line))
+        × InLine (now words) (now row) (now line) n × (n + countAt nobody (now words) (now row) ≤ length (now line)) ⌝ }
+    ensures { λ _. ⌜ ((old : List ℕ) → Hanging (now (words .entry)) old (now (row .entry)) (Backed (now (back .entry))) (now (line .entry))
+        0 n → Rehung (now (words .entry)) old (now (row .exit)) (Backed (now (back .entry))))
+        × (length (now (row .exit)) ≡ length (now (row .entry))) × (length (now (line .exit)) ≡ length (now (line .entry))) ⌝ }
 {
     let mut tail = n;
     let mut head: usize = 0;

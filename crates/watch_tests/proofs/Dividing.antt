@@ -1,5 +1,5 @@
--- Dividing the unstruck places before a promise's first phase: who has a witness stands in the line's front, who stands alone in the log behind its
--- first m. Assumes nothing.
+-- Dividing the unstruck places before a promise's first phase: who has a witness stands in the line's front, who stands alone in the log
+-- behind its first m. Assumes nothing.
 use mathlib.Core.Path.{_≡_, refl, sym, ap, subst, _∙_}
 use mathlib.Core.List.{List}
 use Prim.Native.Nat.{ℕ, _+_, _≤_, _<_}
@@ -9,8 +9,8 @@ use lib.ListN.{length, getD, set, length-set}
 use lib.Seq.{getD-set-same, getD-set-other}
 use Rattle.ground.specs.Listed.{Between}
 use Rattle.meaning.specs.Promises.{mostStates}
-use Rattle.distances.specs.Far.{far}
-use Rattle.watch.specs.Witness.{Fresh}
+use Rattle.distances.specs.Far.{Unstruck}
+use Rattle.watch.specs.Witness.{nobody, Fresh}
 use Rattle.watch.specs.Turns.{Loosened, Line}
 use Rattle.watch_tests.specs.Tests.{Fronted}
 use Rattle.watch.proofs.Falling.{stands-still, Alone, alone-none, alone-inside, alone-more, alone-past, alone-done}
@@ -28,7 +28,8 @@ fronted-none words row line = record {
 
 module _ {words row before line : List ℕ} {i k : ℕ} (F : Fronted words row i before line k) where
   -- One more is put behind the others.
-  pub fronted-more : i < length line → getD words i 0 ≡ 0 → (getD row i 0 ≡ far → ⊥) → Fronted words row (i + 1) before (set line k i) (k + 1)
+  pub fronted-more : i < length line → Unstruck words i → (getD row i 0 ≡ nobody → ⊥)
+      → Fronted words row (i + 1) before (set line k i) (k + 1)
   fronted-more inside free has = record {
     long = length-set line k i ∙ F .long;
     room = let a = F .room in omega arith;
@@ -40,7 +41,8 @@ module _ {words row before line : List ℕ} {i k : ℕ} (F : Fronted words row i
       here = getD-set-same line k i 0 (let a = F .room in omega arith)
 
       place-at : (s : ℕ) → s < k + 1 → Dec (s ≡ k)
-          → (getD (set line k i) s 0 < i + 1) × (getD words (getD (set line k i) s 0) 0 ≡ 0) × (getD row (getD (set line k i) s 0) 0 ≡ far → ⊥)
+          → (getD (set line k i) s 0 < i + 1) × Unstruck words (getD (set line k i) s 0)
+          × (getD row (getD (set line k i) s 0) 0 ≡ nobody → ⊥)
       place-at s h (yes q) =
           let e : getD (set line k i) s 0 ≡ i = ap (λ (x : ℕ). getD (set line k i) x 0) q ∙ here in
           (omega arith, ap (λ (x : ℕ). getD words x 0) e ∙ free, λ f. has (sym (ap (λ (x : ℕ). getD row x 0) e) ∙ f))
@@ -50,12 +52,12 @@ module _ {words row before line : List ℕ} {i k : ℕ} (F : Fronted words row i
           let a = p .0 in
           (omega arith, ap (λ (x : ℕ). getD words x 0) e ∙ p .1, λ f. p .2 (sym (ap (λ (x : ℕ). getD row x 0) e) ∙ f))
 
-      at : (j : ℕ) → j < i + 1 → getD words j 0 ≡ 0 → (getD row j 0 ≡ far → ⊥) → Dec (j ≡ i) → Between (set line k i) 0 (k + 1) j
+      at : (j : ℕ) → j < i + 1 → Unstruck words j → (getD row j 0 ≡ nobody → ⊥) → Dec (j ≡ i) → Between (set line k i) 0 (k + 1) j
       at j h u o (yes q) = (k, omega arith, omega arith, here ∙ sym q)
       at j h u o (no q) = stands-still line 0 k i j (F .whole j (omega arith) u o)
 
   -- One that is struck or stands alone is passed by.
-  pub fronted-past : (getD words i 0 ≡ 0 → (getD row i 0 ≡ far → ⊥) → ⊥) → Fronted words row (i + 1) before line k
+  pub fronted-past : (Unstruck words i → (getD row i 0 ≡ nobody → ⊥) → ⊥) → Fronted words row (i + 1) before line k
   fronted-past not-so = record {
     long = F .long;
     room = let a = F .room in omega arith;
@@ -63,9 +65,9 @@ module _ {words row before line : List ℕ} {i k : ℕ} (F : Fronted words row i
     whole = λ j h u o. at j h u o (ℕ-discrete j i);
   }
     where
-      at : (j : ℕ) → j < i + 1 → getD words j 0 ≡ 0 → (getD row j 0 ≡ far → ⊥) → Dec (j ≡ i) → Between line 0 k j
+      at : (j : ℕ) → j < i + 1 → Unstruck words j → (getD row j 0 ≡ nobody → ⊥) → Dec (j ≡ i) → Between line 0 k j
       at j h u o (yes q) =
-          absurd (not-so (subst (λ (x : ℕ). getD words x 0 ≡ 0) q u) (λ f. o (ap (λ (x : ℕ). getD row x 0) q ∙ f)))
+          absurd (not-so (subst (λ (x : ℕ). Unstruck words x) q u) (λ f. o (ap (λ (x : ℕ). getD row x 0) q ∙ f)))
       at j h u o (no q) = F .whole j (omega arith) u o
 
 -- ---- both together
@@ -97,7 +99,8 @@ module _ {words row before log : List ℕ} {m tail : ℕ} {old line : List ℕ} 
       let d = F .few in
       (omega arith, omega arith, omega arith)
 
-  pub dividing-room : length before ≤ mostStates → i < length row → getD words i 0 ≡ 0 → getD row i 0 ≡ far → (tail < length log) × (tail < mostStates)
+  pub dividing-room : length before ≤ mostStates → i < length row → Unstruck words i → getD row i 0 ≡ nobody → (tail < length log)
+      × (tail < mostStates)
   dividing-room most inside u e =
       let a = alone-inside F (D .lone) inside u e in
       let b = D .lone .log-long in
@@ -105,7 +108,8 @@ module _ {words row before log : List ℕ} {m tail : ℕ} {old line : List ℕ} 
 
   module _ (inside : i < length row) where
     -- One that stands alone is put into the log,
-    pub dividing-lone : getD words i 0 ≡ 0 → getD row i 0 ≡ far → Dividing words row before (set log tail i) m (tail + 1) old line k (i + 1)
+    pub dividing-lone : Unstruck words i → getD row i 0 ≡ nobody → Dividing words row before (set log tail i) m (tail + 1) old line k
+        (i + 1)
     dividing-lone u e = record {
       within = omega arith;
       lone = alone-more F (D .lone) inside u e;
@@ -114,7 +118,7 @@ module _ {words row before log : List ℕ} {m tail : ℕ} {old line : List ℕ} 
     }
 
     -- one that has a witness into the line,
-    pub dividing-helped : Line row old → getD words i 0 ≡ 0 → (getD row i 0 ≡ far → ⊥)
+    pub dividing-helped : Line row old → Unstruck words i → (getD row i 0 ≡ nobody → ⊥)
         → Dividing words row before log m tail old (set line k i) (k + 1) (i + 1)
     dividing-helped K u n = record {
       within = omega arith;
@@ -124,7 +128,7 @@ module _ {words row before log : List ℕ} {m tail : ℕ} {old line : List ℕ} 
     }
 
     -- and one that is struck is passed by.
-    pub dividing-struck : (getD words i 0 ≡ 0 → ⊥) → Dividing words row before log m tail old line k (i + 1)
+    pub dividing-struck : (Unstruck words i → ⊥) → Dividing words row before log m tail old line k (i + 1)
     dividing-struck n = record {
       within = omega arith;
       lone = alone-past F (D .lone) (λ v e. n v);
@@ -133,7 +137,8 @@ module _ {words row before log : List ℕ} {m tail : ℕ} {old line : List ℕ} 
     }
 
   -- When all are passed, all unstruck places stand in the line or in the log.
-  pub dividing-done : length row ≤ i → Loosened words row row before log m tail × Fronted words row (length row) old line k × (k + tail ≤ m + length row)
+  pub dividing-done : length row ≤ i → Loosened words row row before log m tail × Fronted words row (length row) old line k
+      × (k + tail ≤ m + length row)
   dividing-done over =
       let a = D .within in
       let e : i ≡ length row = omega arith in

@@ -8,8 +8,8 @@ use native.Mathlib.Omega.{arith}
 use lib.ListN.{length, getD, set, length-set}
 use lib.Seq.{getD-set-same, getD-set-other}
 use Rattle.ground.specs.Listed.{Between}
-use Rattle.distances.specs.Far.{far}
-use Rattle.watch.specs.Witness.{Hangable}
+use Rattle.distances.specs.Far.{Unstruck}
+use Rattle.watch.specs.Witness.{nobody, Hangable}
 use Rattle.watch_tests.specs.Tests.{Brought, Fronted, Copied, Ranked, Pending}
 
 -- ---- two numbers of the line change places
@@ -101,7 +101,8 @@ copied-more {log = log} {m = m} {g = g} {line = line} {n = n} {k = k} C inside =
     at : (s : ℕ) → n + s < k + 1 → Dec (n + s ≡ k) → getD (set line k (getD log g 0)) (n + s) 0 ≡ getD log (m + s) 0
     at s h (yes q) =
         let e : g ≡ m + s = let a = C .count in omega arith in
-        ap (λ (x : ℕ). getD (set line k (getD log g 0)) x 0) q ∙ getD-set-same line k (getD log g 0) 0 inside ∙ ap (λ (x : ℕ). getD log x 0) e
+        ap (λ (x : ℕ). getD (set line k (getD log g 0)) x 0) q ∙ getD-set-same line k (getD log g 0) 0 inside ∙ ap (λ (x : ℕ). getD log x 0)
+        e
     at s h (no q) = getD-set-other line k (n + s) (getD log g 0) 0 q ∙ C .same s (omega arith)
 
 -- up to the last.
@@ -117,7 +118,7 @@ copied-done {log = log} {m = m} {before = before} {line = line} {n = n} {k = k} 
 -- a line's first n places are unstruck and have a witness
 abbrev pub Front : (words row line : List ℕ) (n : ℕ) → Type 0
 Front words row line n =
-    (s : ℕ) → s < n → (getD line s 0 < length row) × (getD words (getD line s 0) 0 ≡ 0) × (getD row (getD line s 0) 0 ≡ far → ⊥)
+    (s : ℕ) → s < n → (getD line s 0 < length row) × Unstruck words (getD line s 0) × (getD row (getD line s 0) 0 ≡ nobody → ⊥)
 
 -- Where those in front have a witness, and all who stand alone are copied behind them, the line is ranked.
 pub copied-ranked : {words row : List ℕ} {M : ℕ → ℕ → Type 0} {log : List ℕ} {m tail : ℕ} {before line : List ℕ} {n k : ℕ}
@@ -129,7 +130,7 @@ copied-ranked {words = words} {row = row} {log = log} {m = m} {tail = tail} {bef
   alone = λ i h u e. at i (H .alone i h u e);
 }
   where
-    place-at : (s : ℕ) → s < k → Dec (s < n) → (getD line s 0 < length row) × (getD words (getD line s 0) 0 ≡ 0)
+    place-at : (s : ℕ) → s < k → Dec (s < n) → (getD line s 0 < length row) × Unstruck words (getD line s 0)
     place-at s h (yes q) =
         let e = C .kept s q in
         let p = F s q in

@@ -11,8 +11,8 @@ use lib.Seq.{getD-set-same, getD-set-other, set-out}
 use Rattle.ground.specs.Listed.{Between}
 use Rattle.meaning.specs.Promises.{mostStates}
 use Rattle.rules_signs.specs.Signs.{Signed}
-use Rattle.distances.specs.Far.{far}
-use Rattle.watch.specs.Witness.{Hangs, Rehung}
+use Rattle.distances.specs.Far.{Unstruck}
+use Rattle.watch.specs.Witness.{nobody, Hangs, Rehung}
 use Rattle.watch.specs.Turns.{HelperFor, found, not-found}
 use Rattle.watch_tests.specs.Tests.{Brought, Ranked, Pending, Shut, Seen, Noted, Spreading, Testable}
 use Rattle.watch.proofs.Hooked.{Hooks, as-was, hooked, hangs-hooked}
@@ -25,7 +25,8 @@ pub hangs-self : {words old row : List ℕ} {M : ℕ → ℕ → Type 0} → Han
 hangs-self H = record { long = refl; pointed = H .pointed; hung = H .hung; own = λ i h. (λ e. e, λ e. e); only = λ i h e. e }
 
 -- Two such changes are one.
-pub hangs-then : {words old row row′ : List ℕ} {M : ℕ → ℕ → Type 0} → Hangs words old row M → Hangs words row row′ M → Hangs words old row′ M
+pub hangs-then : {words old row row′ : List ℕ} {M : ℕ → ℕ → Type 0} → Hangs words old row M → Hangs words row row′ M
+    → Hangs words old row′ M
 hangs-then H K = record {
   long = K .long ∙ H .long;
   pointed = K .pointed;
@@ -35,7 +36,8 @@ hangs-then H K = record {
 }
 
 -- So is a change and a rehanging.
-pub rehung-then : {words old row row′ : List ℕ} {M : ℕ → ℕ → Type 0} → Hangs words old row M → Rehung words row row′ M → Rehung words old row′ M
+pub rehung-then : {words old row row′ : List ℕ} {M : ℕ → ℕ → Type 0} → Hangs words old row M → Rehung words row row′ M
+    → Rehung words old row′ M
 rehung-then H R =
     let K = hangs-then H (record { long = R .long; pointed = R .pointed; hung = R .hung; own = R .own; only = R .only }) in
     record { long = K .long; pointed = K .pointed; hung = K .hung; own = K .own; only = K .only; closed = R .closed }
@@ -46,10 +48,10 @@ rehung-then H R =
 pub record Hooking (words row : List ℕ) (M : ℕ → ℕ → Type 0) (line : List ℕ) (g i j : ℕ) : Type 0 where
   pub here : getD line g 0 ≡ i
   pub inside : i < length row
-  pub lone : getD row i 0 ≡ far
+  pub lone : getD row i 0 ≡ nobody
   pub below : j < length row
-  pub free : getD words j 0 ≡ 0
-  pub has : getD row j 0 ≡ far → ⊥
+  pub free : Unstruck words j
+  pub has : getD row j 0 ≡ nobody → ⊥
   pub leads : M i j
 
 module _ {words old row : List ℕ} {M : ℕ → ℕ → Type 0} {line line′ : List ℕ} {n g i j : ℕ} (H : Hangs words old row M)
@@ -61,13 +63,13 @@ module _ {words old row : List ℕ} {M : ℕ → ℕ → Type 0} {line line′ :
   row-here = getD-set-same row i j 0 (K .inside)
 
   -- who has no witness now is another place, and had none
-  still-alone : (a : ℕ) → getD (set row i j) a 0 ≡ far → a ≡ i → ⊥
+  still-alone : (a : ℕ) → getD (set row i j) a 0 ≡ nobody → a ≡ i → ⊥
   still-alone a f q =
-      let d : j ≡ far = sym row-here ∙ sym (ap (λ (x : ℕ). getD (set row i j) x 0) q) ∙ f in
+      let d : j ≡ nobody = sym row-here ∙ sym (ap (λ (x : ℕ). getD (set row i j) x 0) q) ∙ f in
       let c = small in
       omega arith
 
-  was-alone : (a : ℕ) → getD (set row i j) a 0 ≡ far → getD row a 0 ≡ far
+  was-alone : (a : ℕ) → getD (set row i j) a 0 ≡ nobody → getD row a 0 ≡ nobody
   was-alone a f = sym (getD-set-other row i a j 0 (still-alone a f)) ∙ f
 
   pub hangs-more : Hangs words old (set row i j) M
@@ -88,25 +90,25 @@ module _ {words old row : List ℕ} {M : ℕ → ℕ → Type 0} {line line′ :
     alone = λ a h u f. at a f (brought-behind B after k a more (R .alone a (let e = length-set row i j in omega arith) u (was-alone a f)));
   }
     where
-      place-at : (s : ℕ) → Between line 0 k (getD line′ s 0) → (getD line′ s 0 < length (set row i j)) × (getD words (getD line′ s 0) 0 ≡ 0)
+      place-at : (s : ℕ) → Between line 0 k (getD line′ s 0) → (getD line′ s 0 < length (set row i j)) × Unstruck words (getD line′ s 0)
       place-at s (t, a, b, e) =
           let p = R .places t b in
           let c = p .0 in
           let d = length-set row i j in
           (omega arith, sym (ap (λ (x : ℕ). getD words x 0) e) ∙ p .1)
 
-      front : (s : ℕ) → s < n + 1 → Dec (s ≡ n) → getD (set row i j) (getD line′ s 0) 0 ≡ far → ⊥
+      front : (s : ℕ) → s < n + 1 → Dec (s ≡ n) → getD (set row i j) (getD line′ s 0) 0 ≡ nobody → ⊥
       front s h (yes q) f = still-alone (getD line′ s 0) f (ap (λ (x : ℕ). getD line′ x 0) q ∙ B .here ∙ K .here)
       front s h (no q) f =
           let e = B .other s q (λ p. let a = after in omega arith) in
           R .helped s (omega arith) (sym (ap (λ (x : ℕ). getD row x 0) e) ∙ was-alone (getD line′ s 0) f)
 
-      at : (a : ℕ) → getD (set row i j) a 0 ≡ far → (a ≡ getD line g 0) ⊎ Between line′ (n + 1) k a → Between line′ (n + 1) k a
+      at : (a : ℕ) → getD (set row i j) a 0 ≡ nobody → (a ≡ getD line g 0) ⊎ Between line′ (n + 1) k a → Between line′ (n + 1) k a
       at a f (inl q) = absurd (still-alone a f (q ∙ K .here))
       at a f (inr s) = s
 
   -- Who is waited for is still in the line, or is this place.
-  pub front-more : (head b : ℕ) → head ≤ n → (getD (set row i j) b 0 ≡ far → ⊥) → ((getD row b 0 ≡ far → ⊥) → Between line head n b)
+  pub front-more : (head b : ℕ) → head ≤ n → (getD (set row i j) b 0 ≡ nobody → ⊥) → ((getD row b 0 ≡ nobody → ⊥) → Between line head n b)
       → Between line′ head (n + 1) b
   front-more head b low has before = by (ℕ-discrete b i)
     where
@@ -124,7 +126,8 @@ module _ {words old row : List ℕ} {M : ℕ → ℕ → Type 0} {line line′ :
 -- where a place that stands alone moves to one with a witness, that stands in front, or the place itself is still to be asked
 abbrev pub WaitsOn : (words row : List ℕ) (M : ℕ → ℕ → Type 0) (line : List ℕ) (n g k : ℕ) → Type 0
 WaitsOn words row M line n g k =
-    (i j : ℕ) → i < length row → j < length row → getD words i 0 ≡ 0 → getD words j 0 ≡ 0 → M i j → getD row i 0 ≡ far → (getD row j 0 ≡ far → ⊥)
+    (i j : ℕ) → i < length row → j < length row → Unstruck words i → Unstruck words j → M i j → getD row i 0 ≡ nobody
+    → (getD row j 0 ≡ nobody → ⊥)
     → Between line 0 n j ⊎ Between line g k i
 
 -- the line's places before g were asked
@@ -147,7 +150,8 @@ asked-on-none H R = record {
   waits = λ i j a b z y l f o. inr (R .alone i a z f);
 }
 
-module _ {words old row : List ℕ} {M : ℕ → ℕ → Type 0} {before line : List ℕ} {n g k : ℕ} (A : AskedOn words old row M before line n g k) where
+module _ {words old row : List ℕ} {M : ℕ → ℕ → Type 0} {before line : List ℕ} {n g k : ℕ}
+    (A : AskedOn words old row M before line n g k) where
   -- A place that found a helper hangs on it, and is brought forward.
   pub asked-on-more : {line′ : List ℕ} {j : ℕ} → g < k → j < length row → HelperFor words row M (getD line g 0) j → Brought line line′ n g
       → AskedOn words old (set row (getD line g 0) j) M before line′ (n + 1) (g + 1) k
@@ -194,7 +198,8 @@ module _ {words old row : List ℕ} {M : ℕ → ℕ → Type 0} {before line : 
               (λ d. o (getD-set-other row (getD line g 0) b j 0 t ∙ d)))
 
   -- One without a helper moves to no place with a witness.
-  pub asked-on-past : {j : ℕ} → g < k → length row ≤ j → HelperFor words row M (getD line g 0) j → AskedOn words old row M before line n (g + 1) k
+  pub asked-on-past : {j : ℕ} → g < k → length row ≤ j → HelperFor words row M (getD line g 0) j
+      → AskedOn words old row M before line n (g + 1) k
   asked-on-past {j = j} more over F = record {
     hangs = A .hangs;
     ranked = A .ranked;
@@ -204,13 +209,13 @@ module _ {words old row : List ℕ} {M : ℕ → ℕ → Type 0} {before line : 
     waits = λ a b p q z y l f o. on a b q z y l f o (A .waits a b p q z y l f o);
   }
     where
-      none : (a b : ℕ) → b < length row → getD words a 0 ≡ 0 → getD words b 0 ≡ 0 → M a b → getD row a 0 ≡ far → (getD row b 0 ≡ far → ⊥)
+      none : (a b : ℕ) → b < length row → Unstruck words a → Unstruck words b → M a b → getD row a 0 ≡ nobody → (getD row b 0 ≡ nobody → ⊥)
           → getD line g 0 ≡ a → HelperFor words row M (getD line g 0) j → ⊥
       none a b q z y l f o e (found z′ f′ c l′ y′ o′) = omega arith
       none a b q z y l f o e (not-found d no-one) =
           no-one (ap (λ (x : ℕ). getD words x 0) e ∙ z) (ap (λ (x : ℕ). getD row x 0) e ∙ f) b q (subst (λ (x : ℕ). M x b) (sym e) l) y o
 
-      on : (a b : ℕ) → b < length row → getD words a 0 ≡ 0 → getD words b 0 ≡ 0 → M a b → getD row a 0 ≡ far → (getD row b 0 ≡ far → ⊥)
+      on : (a b : ℕ) → b < length row → Unstruck words a → Unstruck words b → M a b → getD row a 0 ≡ nobody → (getD row b 0 ≡ nobody → ⊥)
           → Between line 0 n b ⊎ Between line g k a → Between line 0 n b ⊎ Between line (g + 1) k a
       on a b q z y l f o (inl s) = inl s
       on a b q z y l f o (inr (s, c, d, e)) = by (ℕ-discrete s g)
@@ -241,9 +246,10 @@ pub record SiftedTo (words old row : List ℕ) (M : ℕ → ℕ → Type 0) (bef
   pub begun : from ≤ n
   pub ordered : n ≤ g
   pub within : g ≤ k
-  pub tested : (s : ℕ) → n ≤ s → s < g → getD row (getD line s 0) 0 ≡ far → M (getD line s 0) (getD before head 0) → ⊥
+  pub tested : (s : ℕ) → n ≤ s → s < g → getD row (getD line s 0) 0 ≡ nobody → M (getD line s 0) (getD before head 0) → ⊥
 
-pub sifted-none : {words old row : List ℕ} {M : ℕ → ℕ → Type 0} {line : List ℕ} {head from k : ℕ} → Spreading words old row M line head from k
+pub sifted-none : {words old row : List ℕ} {M : ℕ → ℕ → Type 0} {line : List ℕ} {head from k : ℕ}
+    → Spreading words old row M line head from k
     → SiftedTo words old row M line line head from from from k
 sifted-none S = record {
   spreading = S;
@@ -258,7 +264,8 @@ sifted-none S = record {
 module _ {words old row : List ℕ} {M : ℕ → ℕ → Type 0} {before line : List ℕ} {head from n g k : ℕ}
     (S : SiftedTo words old row M before line head from n g k) (front : head < from) where
   -- One that stands alone and moves to that place hangs on it, and is brought forward.
-  pub sifted-more : {line′ : List ℕ} → g < k → getD row (getD line g 0) 0 ≡ far → M (getD line g 0) (getD before head 0) → Brought line line′ n g
+  pub sifted-more : {line′ : List ℕ} → g < k → getD row (getD line g 0) 0 ≡ nobody → M (getD line g 0) (getD before head 0)
+      → Brought line line′ n g
       → SiftedTo words old (set row (getD line g 0) (getD before head 0)) M before line′ head from (n + 1) (g + 1) k
   sifted-more {line′ = line′} more lone leads B = record {
     spreading = record {
@@ -267,7 +274,8 @@ module _ {words old row : List ℕ} {M : ℕ → ℕ → Type 0} {before line : 
       pending = pending-more H K (S .ordered) B head (let a = S .begun in omega arith) (S .spreading .pending);
     };
     line-long = B .long ∙ S .line-long;
-    at-head = B .other head (λ q. let a = S .begun in omega arith) (λ q. let a = S .begun in let b = S .ordered in omega arith) ∙ S .at-head;
+    at-head = B .other head (λ q. let a = S .begun in omega arith) (λ q. let a = S .begun in let b = S .ordered in omega arith)
+        ∙ S .at-head;
     begun = let a = S .begun in omega arith;
     ordered = let a = S .ordered in omega arith;
     within = omega arith;
@@ -298,14 +306,15 @@ module _ {words old row : List ℕ} {M : ℕ → ℕ → Type 0} {before line : 
             leads = leads;
           }
 
-      tested′ : (s : ℕ) → Between line n g (getD line′ s 0) → getD (set row (getD line g 0) (getD before head 0)) (getD line′ s 0) 0 ≡ far
+      tested′ : (s : ℕ) → Between line n g (getD line′ s 0) → getD (set row (getD line g 0) (getD before head 0)) (getD line′ s 0)
+          0 ≡ nobody
           → M (getD line′ s 0) (getD before head 0) → ⊥
       tested′ s (t, a, b, e) f l =
           S .tested t a b (ap (λ (x : ℕ). getD row x 0) e ∙ was-alone H K (S .ordered) B (getD line′ s 0) f)
           (subst (λ (x : ℕ). M x (getD before head 0)) (sym e) l)
 
   -- One that does not is passed by.
-  pub sifted-past : g < k → (getD row (getD line g 0) 0 ≡ far → M (getD line g 0) (getD before head 0) → ⊥)
+  pub sifted-past : g < k → (getD row (getD line g 0) 0 ≡ nobody → M (getD line g 0) (getD before head 0) → ⊥)
       → SiftedTo words old row M before line head from n (g + 1) k
   sifted-past more not-so = record {
     spreading = S .spreading;
@@ -317,7 +326,7 @@ module _ {words old row : List ℕ} {M : ℕ → ℕ → Type 0} {before line : 
     tested = λ s a b. at s a b (ℕ-discrete s g);
   }
     where
-      at : (s : ℕ) → n ≤ s → s < g + 1 → Dec (s ≡ g) → getD row (getD line s 0) 0 ≡ far → M (getD line s 0) (getD before head 0) → ⊥
+      at : (s : ℕ) → n ≤ s → s < g + 1 → Dec (s ≡ g) → getD row (getD line s 0) 0 ≡ nobody → M (getD line s 0) (getD before head 0) → ⊥
       at s a b (yes q) f l =
           let e : getD line g 0 ≡ getD line s 0 = ap (λ (x : ℕ). getD line x 0) (sym q) in
           not-so (ap (λ (x : ℕ). getD row x 0) e ∙ f) (subst (λ (x : ℕ). M x (getD before head 0)) (sym e) l)
@@ -346,7 +355,8 @@ module _ {words old row : List ℕ} {M : ℕ → ℕ → Type 0} {line : List �
     pending = λ i j a b z y l f o. by i j a z l f (S .pending i j a b z y l f o);
   }
     where
-      by : (i j : ℕ) → i < length row → getD words i 0 ≡ 0 → M i j → getD row i 0 ≡ far → Between line head n j → Between line (head + 1) n j
+      by : (i j : ℕ) → i < length row → Unstruck words i → M i j → getD row i 0 ≡ nobody → Between line head n j
+          → Between line (head + 1) n j
       by i j a z l f (s, c, d, e) = at (ℕ-discrete s head)
         where
           at : Dec (s ≡ head) → Between line (head + 1) n j
@@ -361,11 +371,11 @@ module _ {words old row : List ℕ} {M : ℕ → ℕ → Type 0} {line : List �
     hung = S .hangs .hung;
     own = S .hangs .own;
     only = S .hangs .only;
-    closed = λ i j a b z y l f o. nobody (S .pending i j a b z y l f o);
+    closed = λ i j a b z y l f o. none-waits (S .pending i j a b z y l f o);
   }
     where
-      nobody : {j : ℕ} → Between line head n j → ⊥
-      nobody (t, a, b, e) = omega arith
+      none-waits : {j : ℕ} → Between line head n j → ⊥
+      none-waits (t, a, b, e) = omega arith
 
   -- Where all of the line have a witness, nobody waits, either.
   pub spreading-all : n ≡ k → Rehung words old row M
@@ -375,11 +385,11 @@ module _ {words old row : List ℕ} {M : ℕ → ℕ → Type 0} {line : List �
     hung = S .hangs .hung;
     own = S .hangs .own;
     only = S .hangs .only;
-    closed = λ i j a b z y l f o. nobody (S .ranked .alone i a z f);
+    closed = λ i j a b z y l f o. none-waits (S .ranked .alone i a z f);
   }
     where
-      nobody : {i : ℕ} → Between line n k i → ⊥
-      nobody (t, a, b, same) = omega arith
+      none-waits : {i : ℕ} → Between line n k i → ⊥
+      none-waits (t, a, b, same) = omega arith
 
 -- What was sifted since is part of the whole.
 pub spreading-then : {words old row row′ : List ℕ} {M : ℕ → ℕ → Type 0} {line : List ℕ} {head n k : ℕ} → Hangs words old row M
@@ -398,11 +408,13 @@ spreading-sifted {words = words} {row′ = row′} {M = M} S T shut e =
 -- At first no place is noted.
 pub seen-none : (words row : List ℕ) (M : ℕ → ℕ → Type 0) (n : ℕ) → Seen words row M (replicate {A = ℕ} n 0)
 seen-none words row M n = record {
-  shut = λ q t h is l. let e = getD-replicate {A = ℕ} n q 0 0 (omega (arith, h, length-replicate {A = ℕ} n 0)) in absurd (omega (arith, e, is));
+  shut = λ q t h is l. let e = getD-replicate {A = ℕ} n q 0 0 (omega (arith, h, length-replicate {A = ℕ} n 0)) in
+      absurd (omega (arith, e, is));
 }
 
 -- As places hang, fewer stand alone.
-pub seen-kept : {words row row′ : List ℕ} {M : ℕ → ℕ → Type 0} {seen : List ℕ} → Hangs words row row′ M → Seen words row M seen → Seen words row′ M seen
+pub seen-kept : {words row row′ : List ℕ} {M : ℕ → ℕ → Type 0} {seen : List ℕ} → Hangs words row row′ M → Seen words row M seen
+    → Seen words row′ M seen
 seen-kept H S = record {
   shut = λ q t h is l i k u f m. let e = H .long in S .shut q t h is (omega (arith, e, l)) i (omega (arith, e, k)) u (H .only i k f) m;
 }
@@ -410,9 +422,11 @@ seen-kept H S = record {
 -- One more is noted, to which nobody moves who stands alone.
 pub seen-noted : {words row : List ℕ} {M : ℕ → ℕ → Type 0} {before seen : List ℕ} {t : ℕ} → Seen words row M before → Shut words row M t
     → Noted before seen t → Seen words row M seen
-seen-noted {words = words} {row = row} {M = M} {before = before} {seen = seen} {t = t} S shut-now N = record { shut = λ q s h. by q s h (N .each q) }
+seen-noted {words = words} {row = row} {M = M} {before = before} {seen = seen} {t = t} S shut-now N =
+    record { shut = λ q s h. by q s h (N .each q) }
   where
-    by : (q s : ℕ) → q < length seen → (getD seen q 0 ≡ getD before q 0) ⊎ (getD seen q 0 ≡ suc t) → getD seen q 0 ≡ suc s → s < length row → Shut words row M s
+    by : (q s : ℕ) → q < length seen → (getD seen q 0 ≡ getD before q 0) ⊎ (getD seen q 0 ≡ suc t) → getD seen q 0 ≡ suc s → s < length row
+        → Shut words row M s
     by q s h (inl e) is l = S .shut q s (omega (arith, h, N .long)) (sym e ∙ is) l
     by q s h (inr e) is l = let same : t ≡ s = omega (arith, e, is) in subst (λ (x : ℕ). Shut words row M x) same shut-now
 
@@ -430,12 +444,14 @@ noted-set seen p t x is = record { long = length-set seen p x; each = λ q. by q
     by q (yes e) (no h) = inl (ap (λ (l : List ℕ). getD l q 0) (set-out seen p x (omega arith)))
 
 -- Nobody who stands alone moves to place t if whoever does moves to a noted place, too.
-pub seen-shut : {words row : List ℕ} {M : ℕ → ℕ → Type 0} {seen : List ℕ} (q t noted place : ℕ) → q < length seen → noted ≡ getD seen q 0 → 0 < noted
+pub seen-shut : {words row : List ℕ} {M : ℕ → ℕ → Type 0} {seen : List ℕ} (q t noted place : ℕ) → q < length seen → noted ≡ getD seen q 0
+    → 0 < noted
     → place ≡ noted - 1 → place < length row → ((i : ℕ) → i < length row → M i t → M i place) → Seen words row M seen → Shut words row M t
 seen-shut q t noted place h e some is l stricter S i k u f m = S .shut q place h (omega (arith, e, some, is)) l i k u f (stricter i k m)
 
 -- The moves can be tested as before.
-pub testable-same : {book table words row row′ signs line line′ : List ℕ} {k : ℕ} → Testable book table words row signs line k → length row′ ≡ length row
+pub testable-same : {book table words row row′ signs line line′ : List ℕ} {k : ℕ} → Testable book table words row signs line k
+    → length row′ ≡ length row
     → length line′ ≡ length line → Testable book table words row′ signs line′ k
 testable-same {book = book} {table = table} {signs = signs} T e f = record {
   signed = subst (λ (x : ℕ). Signed book table x signs) (sym e) (T .signed);

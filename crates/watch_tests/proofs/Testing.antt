@@ -1,4 +1,5 @@
--- Watching by tests: whether one place helps another, the search for a helper, cutting off by number, and one phase as a whole. Assumes nothing.
+-- Watching by tests: whether one place helps another, the search for a helper, cutting off by number, and one phase as a whole.
+-- Assumes nothing.
 use mathlib.Core.Path.{_≡_, refl, sym, ap, subst, _∙_}
 use mathlib.Core.Logic.{_⊎_, inl, inr}
 use mathlib.Core.Bool.{Bool, true, false}
@@ -11,8 +12,8 @@ use Rattle.ground.specs.Says.{Says}
 use Rattle.meaning.specs.Promises.{mostStates}
 use Rattle.rules.specs.Table.{To}
 use Rattle.rules_signs.specs.Signs.{Signed}
-use Rattle.distances.specs.Far.{far}
-use Rattle.watch.specs.Witness.{Rested, Hangs, Hangable}
+use Rattle.distances.specs.Far.{Unstruck}
+use Rattle.watch.specs.Witness.{nobody, Rested, Hangs, Hangable}
 use Rattle.watch.specs.Turns.{IsSo, Helps, HelperIn, someone, no-one, Turnable, Redirected, Loosened, Line, Before, first}
 use Rattle.watch_tests.specs.Tests.{Anywhere, Fronted, Copied, Spreading, Testable, HelpsIt, JoinsIt, WatchingByTests}
 use Rattle.watch.proofs.Beginning.{no-both}
@@ -24,25 +25,28 @@ use Rattle.watch_tests.proofs.Sifting.{testable-same}
 -- ---- tests of pairs
 
 -- Place j has a witness, and the move is tested; or it has none.
-pub helps-met : {words row : List ℕ} {M : ℕ → ℕ → Type 0} {i j : ℕ} {a b : Bool} → Helps words row j a → a ≡ true → Says (M i j) b → HelpsIt words row M i j b
+pub helps-met : {words row : List ℕ} {M : ℕ → ℕ → Type 0} {i j : ℕ} {a b : Bool} → Helps words row j a → a ≡ true → Says (M i j) b
+    → HelpsIt words row M i j b
 helps-met H t S = record { yes = λ e. let u = H .yes t in (u .0, u .1, S .yes e); never = λ e z o l. S .never e l }
 
-pub helps-not : {words row : List ℕ} {M : ℕ → ℕ → Type 0} {i j : ℕ} {a : Bool} → Helps words row j a → a ≡ false → HelpsIt words row M i j false
+pub helps-not : {words row : List ℕ} {M : ℕ → ℕ → Type 0} {i j : ℕ} {a : Bool} → Helps words row j a → a ≡ false
+    → HelpsIt words row M i j false
 helps-not H t = record { yes = λ e. absurd (no-both e refl); never = λ e z o l. H .never t z o }
 
 -- Place i stands alone, and the move is tested; or it does not.
-pub joins-met : {words row : List ℕ} {M : ℕ → ℕ → Type 0} {i t : ℕ} {a b : Bool} → IsSo words row i far a → a ≡ true → Says (M i t) b
+pub joins-met : {words row : List ℕ} {M : ℕ → ℕ → Type 0} {i t : ℕ} {a b : Bool} → IsSo words row i nobody a → a ≡ true → Says (M i t) b
     → JoinsIt words row M i t b
 joins-met H t S = record { yes = λ e. let u = H .yes t in (u .0, u .1, S .yes e); never = λ e z f l. S .never e l }
 
-pub joins-not : {words row : List ℕ} {M : ℕ → ℕ → Type 0} {i t : ℕ} {a : Bool} → IsSo words row i far a → a ≡ false → JoinsIt words row M i t false
+pub joins-not : {words row : List ℕ} {M : ℕ → ℕ → Type 0} {i t : ℕ} {a : Bool} → IsSo words row i nobody a → a ≡ false
+    → JoinsIt words row M i t false
 joins-not H t = record { yes = λ e. absurd (no-both e refl); never = λ e z f l. H .never t z f }
 
 -- ---- seeking a helper, place by place
 
 -- none of the first e places helps place i
 abbrev pub NoHelper : (words row : List ℕ) (M : ℕ → ℕ → Type 0) (i e : ℕ) → Type 0
-NoHelper words row M i e = (j : ℕ) → j < e → getD words j 0 ≡ 0 → (getD row j 0 ≡ far → ⊥) → M i j → ⊥
+NoHelper words row M i e = (j : ℕ) → j < e → Unstruck words j → (getD row j 0 ≡ nobody → ⊥) → M i j → ⊥
 
 module _ (words row : List ℕ) (M : ℕ → ℕ → Type 0) (i : ℕ) where
   pub seek-more : (e : ℕ) {b : Bool} → NoHelper words row M i e → HelpsIt words row M i e b → b ≡ false → NoHelper words row M i (e + 1)
@@ -89,16 +93,20 @@ module _ (words : List ℕ) (was to : ℕ) (old : List ℕ) (n : ℕ) (before : 
     pub turn-more : {b : Bool} → IsSo words row i was b → b ≡ true
         → Redirected (Below (i + 1)) words was to old (set row i to) n before (set line m i) (m + 1)
     turn-more so t =
-        place-more (Below i) words was to old n before ready row line m r i inside (Below (i + 1)) grows splits (so .yes t .0) (so .yes t .1) (omega arith)
+        place-more (Below i) words was to old n before ready row line m r i inside (Below (i + 1)) grows splits (so .yes t .0)
+        (so .yes t .1) (omega arith)
 
-  pub turn-done : (row line : List ℕ) (m i : ℕ) → Redirected (Below i) words was to old row n before line m → i ≤ length old → length old ≤ i
+  pub turn-done : (row line : List ℕ) (m i : ℕ) → Redirected (Below i) words was to old row n before line m → i ≤ length old
+      → length old ≤ i
       → Redirected (Below (length old)) words was to old row n before line m
-  turn-done row line m i r most over = redirected-by words was to old row n before line m r (λ j. redirects-same (λ p. omega arith) (λ p. omega arith))
+  turn-done row line m i r most over = redirected-by words was to old row n before line m r
+      (λ j. redirects-same (λ p. omega arith) (λ p. omega arith))
 
 -- ---- from part to part
 
 -- For cutting off, the moves need not be known.
-pub rested-anywhere : {words row log : List ℕ} {M : ℕ → ℕ → Type 0} {from m : ℕ} → Rested words row M log from m → Rested words row Anywhere log from m
+pub rested-anywhere : {words row log : List ℕ} {M : ℕ → ℕ → Type 0} {from m : ℕ} → Rested words row M log from m
+    → Rested words row Anywhere log from m
 rested-anywhere R = record {
   log-is = R .log-is;
   since = R .since;
@@ -124,7 +132,8 @@ module _ {book table words row signs line line′ log : List ℕ} {m tail n k : 
   }
 
 -- After the places were cut off, the moves can be tested.
-pub cut-testable : {book table words row row′ signs log log′ line : List ℕ} {M : ℕ → ℕ → Type 0} {from m tail : ℕ} → Before words row M log from m
+pub cut-testable : {book table words row row′ signs log log′ line : List ℕ} {M : ℕ → ℕ → Type 0} {from m tail : ℕ}
+    → Before words row M log from m
     → Loosened words row row′ log log′ m tail → Signed book table (length row) signs → Line row line
     → Testable book table words row′ signs line (length row′)
 cut-testable {book = book} {table = table} {signs = signs} B L S K = record {
@@ -147,10 +156,12 @@ watching-first h W = record {
   before = first (omega arith) (before-fresh h (W .before));
 }
 
-module _ {book table words row signs log log′ old line : List ℕ} {m from word tail n : ℕ} (W : WatchingByTests book table words row signs log old m from word)
+module _ {book table words row signs log log′ old line : List ℕ} {m from word tail n : ℕ}
+    (W : WatchingByTests book table words row signs log old m from word)
     (L : Loosened words row row log log′ m tail) (F : Fronted words row (length row) old line n) (within : n + tail ≤ m + length row) where
   -- Who stands alone may be copied behind those that have a witness.
-  pub first-copy : (m ≤ tail) × (tail ≤ length log′) × (n + tail ≤ m + length line) × (length log′ ≤ mostStates) × (length line ≤ mostStates)
+  pub first-copy : (m ≤ tail) × (tail ≤ length log′) × (n + tail ≤ m + length line) × (length log′ ≤ mostStates)
+      × (length line ≤ mostStates)
   first-copy =
       let a = before-log (W .before) .in-log in
       let b = L .log-long in

@@ -1,5 +1,5 @@
--- Watching a promise by tests of pairs: what the functions promise one another. The line holds first the places that have a witness and are to be
--- spread from, and behind them those that stand alone. Assumes nothing.
+-- Watching a promise by tests of pairs: what the functions promise one another. The line holds first the places that have a witness and are
+-- to be spread from, and behind them those that stand alone. Assumes nothing.
 use mathlib.Core.Path.{_≡_}
 use mathlib.Core.Bool.{Bool, true, false}
 use mathlib.Core.Logic.{_⊎_}
@@ -10,8 +10,8 @@ use Rattle.ground.specs.Listed.{Between}
 use Rattle.meaning.specs.Promises.{mostStates}
 use Rattle.rules.specs.Table.{To}
 use Rattle.rules_signs.specs.Signs.{Signed}
-use Rattle.distances.specs.Far.{far}
-use Rattle.watch.specs.Witness.{Hangs, freeIn}
+use Rattle.distances.specs.Far.{Unstruck}
+use Rattle.watch.specs.Witness.{nobody, Hangs, freeIn}
 use Rattle.watch.specs.Turns.{Line, Before, countAt}
 
 -- every place may move to every other: more need not be known for cutting off
@@ -20,29 +20,30 @@ Anywhere i j = Unit {0}
 
 -- whether place i is unstruck and hangs on a place that was struck, or that has no witness itself
 pub record IsCut (words row : List ℕ) (i : ℕ) (b : Bool) : Type 0 where
-  pub yes : b ≡ true → (getD words i 0 ≡ 0) × (getD row i 0 < length row)
-  pub never : b ≡ false → getD words i 0 ≡ 0 → getD row i 0 < length row → (getD words (getD row i 0) 0 ≡ 0) × (getD row (getD row i 0) 0 ≡ far → ⊥)
+  pub yes : b ≡ true → Unstruck words i × (getD row i 0 < length row)
+  pub never : b ≡ false → Unstruck words i → getD row i 0 < length row → Unstruck words (getD row i 0)
+      × (getD row (getD row i 0) 0 ≡ nobody → ⊥)
 
 -- places may be cut off: the log has room behind its first n for every unstruck place that has a witness
 pub record Cuttable (words row log : List ℕ) (n : ℕ) : Type 0 where
   pub few : length row ≤ mostStates
   pub in-words : length row ≤ length words
-  pub room : n + freeIn words (length row) ≤ length log + countAt far words row
+  pub room : n + freeIn words (length row) ≤ length log + countAt nobody words row
   pub log-few : length log ≤ mostStates
 
--- after one pass over the first i places: who was cut off stands in the log behind its first n, and who of them still has a witness hangs on an unstruck
--- place which has one, too, or was itself cut off in this pass
+-- after one pass over the first i places: who was cut off stands in the log behind its first n, and who of them still has a witness hangs
+-- on an unstruck place which has one, too, or was itself cut off in this pass
 pub record CutBelow (words old row before log : List ℕ) (n tail i : ℕ) : Type 0 where
   pub long : length row ≡ length old
-  pub each : (j : ℕ) → j < length old → (getD row j 0 ≡ getD old j 0) ⊎ ((getD row j 0 ≡ far) × (getD old j 0 < length old))
+  pub each : (j : ℕ) → j < length old → (getD row j 0 ≡ getD old j 0) ⊎ ((getD row j 0 ≡ nobody) × (getD old j 0 < length old))
   pub log-long : length log ≡ length before
   pub kept : (t : ℕ) → t < n → getD log t 0 ≡ getD before t 0
   pub grows : n ≤ tail
-  pub places : (t : ℕ) → n ≤ t → t < tail → (getD log t 0 < length old) × (getD words (getD log t 0) 0 ≡ 0)
-  pub alone : (j : ℕ) → j < length old → getD words j 0 ≡ 0 → getD row j 0 ≡ far → (getD old j 0 ≡ far) ⊎ Between log n tail j
-  pub past : (j : ℕ) → j < i → j < length old → getD words j 0 ≡ 0 → getD row j 0 < length old
-      → (getD words (getD row j 0) 0 ≡ 0) × ((getD row (getD row j 0) 0 ≡ far → ⊥) ⊎ Between log n tail (getD row j 0))
-  pub counted : tail + countAt far words old ≡ n + countAt far words row
+  pub places : (t : ℕ) → n ≤ t → t < tail → (getD log t 0 < length old) × Unstruck words (getD log t 0)
+  pub alone : (j : ℕ) → j < length old → Unstruck words j → getD row j 0 ≡ nobody → (getD old j 0 ≡ nobody) ⊎ Between log n tail j
+  pub past : (j : ℕ) → j < i → j < length old → Unstruck words j → getD row j 0 < length old
+      → Unstruck words (getD row j 0) × ((getD row (getD row j 0) 0 ≡ nobody → ⊥) ⊎ Between log n tail (getD row j 0))
+  pub counted : tail + countAt nobody words old ≡ n + countAt nobody words row
 
 -- two numbers of the line changed places
 pub record Brought (before line : List ℕ) (n g : ℕ) : Type 0 where
@@ -55,8 +56,8 @@ pub record Brought (before line : List ℕ) (n g : ℕ) : Type 0 where
 pub record Fronted (words row : List ℕ) (i : ℕ) (before line : List ℕ) (k : ℕ) : Type 0 where
   pub long : length line ≡ length before
   pub room : k ≤ i
-  pub places : (s : ℕ) → s < k → (getD line s 0 < i) × (getD words (getD line s 0) 0 ≡ 0) × (getD row (getD line s 0) 0 ≡ far → ⊥)
-  pub whole : (j : ℕ) → j < i → getD words j 0 ≡ 0 → (getD row j 0 ≡ far → ⊥) → Between line 0 k j
+  pub places : (s : ℕ) → s < k → (getD line s 0 < i) × Unstruck words (getD line s 0) × (getD row (getD line s 0) 0 ≡ nobody → ⊥)
+  pub whole : (j : ℕ) → j < i → Unstruck words j → (getD row j 0 ≡ nobody → ⊥) → Between line 0 k j
 
 -- behind the line's first n, up to k, are the log's places from m up to `tail`
 pub record Copied (log : List ℕ) (m tail : ℕ) (before line : List ℕ) (n k : ℕ) : Type 0 where
@@ -69,19 +70,20 @@ pub record Copied (log : List ℕ) (m tail : ℕ) (before line : List ℕ) (n k 
 -- the line's first n have a witness, and who stands alone stands behind them, up to k
 pub record Ranked (words row line : List ℕ) (n k : ℕ) : Type 0 where
   pub ordered : n ≤ k
-  pub places : (s : ℕ) → s < k → (getD line s 0 < length row) × (getD words (getD line s 0) 0 ≡ 0)
-  pub helped : (s : ℕ) → s < n → getD row (getD line s 0) 0 ≡ far → ⊥
-  pub alone : (i : ℕ) → i < length row → getD words i 0 ≡ 0 → getD row i 0 ≡ far → Between line n k i
+  pub places : (s : ℕ) → s < k → (getD line s 0 < length row) × Unstruck words (getD line s 0)
+  pub helped : (s : ℕ) → s < n → getD row (getD line s 0) 0 ≡ nobody → ⊥
+  pub alone : (i : ℕ) → i < length row → Unstruck words i → getD row i 0 ≡ nobody → Between line n k i
 
 -- where a place that stands alone moves to one with a witness, that stands in the line from `head` on
 abbrev pub Pending : (words row : List ℕ) (M : ℕ → ℕ → Type 0) (line : List ℕ) (head n : ℕ) → Type 0
 Pending words row M line head n =
-    (i j : ℕ) → i < length row → j < length row → getD words i 0 ≡ 0 → getD words j 0 ≡ 0 → M i j → getD row i 0 ≡ far → (getD row j 0 ≡ far → ⊥)
+    (i j : ℕ) → i < length row → j < length row → Unstruck words i → Unstruck words j → M i j → getD row i 0 ≡ nobody
+    → (getD row j 0 ≡ nobody → ⊥)
     → Between line head n j
 
 -- no unstruck place that stands alone moves to place t
 abbrev pub Shut : (words row : List ℕ) (M : ℕ → ℕ → Type 0) (t : ℕ) → Type 0
-Shut words row M t = (i : ℕ) → i < length row → getD words i 0 ≡ 0 → getD row i 0 ≡ far → M i t → ⊥
+Shut words row M t = (i : ℕ) → i < length row → Unstruck words i → getD row i 0 ≡ nobody → M i t → ⊥
 
 -- nobody who stands alone moves to a place that is noted in a slot: the slot has that place plus one, and 0 where none is noted
 pub record Seen (words row : List ℕ) (M : ℕ → ℕ → Type 0) (seen : List ℕ) : Type 0 where
@@ -107,13 +109,13 @@ pub record Testable (book table words row signs line : List ℕ) (k : ℕ) : Typ
 
 -- whether place j is unstruck, has a witness, and place i moves to it
 pub record HelpsIt (words row : List ℕ) (M : ℕ → ℕ → Type 0) (i j : ℕ) (b : Bool) : Type 0 where
-  pub yes : b ≡ true → (getD words j 0 ≡ 0) × (getD row j 0 ≡ far → ⊥) × M i j
-  pub never : b ≡ false → getD words j 0 ≡ 0 → (getD row j 0 ≡ far → ⊥) → M i j → ⊥
+  pub yes : b ≡ true → Unstruck words j × (getD row j 0 ≡ nobody → ⊥) × M i j
+  pub never : b ≡ false → Unstruck words j → (getD row j 0 ≡ nobody → ⊥) → M i j → ⊥
 
 -- whether place i is unstruck, stands alone and moves to place t
 pub record JoinsIt (words row : List ℕ) (M : ℕ → ℕ → Type 0) (i t : ℕ) (b : Bool) : Type 0 where
-  pub yes : b ≡ true → (getD words i 0 ≡ 0) × (getD row i 0 ≡ far) × M i t
-  pub never : b ≡ false → getD words i 0 ≡ 0 → getD row i 0 ≡ far → M i t → ⊥
+  pub yes : b ≡ true → Unstruck words i × (getD row i 0 ≡ nobody) × M i t
+  pub never : b ≡ false → Unstruck words i → getD row i 0 ≡ nobody → M i t → ⊥
 
 -- a phase may be run by tests
 pub record WatchingByTests (book table words row signs log line : List ℕ) (m from word : ℕ) : Type 0 where

@@ -1,5 +1,6 @@
-// Watching a promise by tests of pairs, where the moves are too many to be stored. A phase looks again only at places whose witnesses were cut by
-// a strike since the promise's last phase. The line holds first the places to be spread from, and behind them those that stand alone.
+// Watching a promise by tests of pairs, where the moves are too many to be stored. A phase looks again only at places whose witnesses were
+// cut by a strike since the promise's last phase. The line holds first the places to be spread from, and behind them those that stand
+// alone.
 use ground::State;
 use watch::NOBODY;
 use watch::fall;
@@ -65,7 +66,8 @@ fn is_cut(words: &[u32], row: &[u16], i: usize) -> bool
     false
 }
 
-// One pass over all places: cuts off who hangs on a place that was struck or cut off. They stand in the log behind its first n, up to the place returned.
+// One pass over all places: cuts off who hangs on a place that was struck or cut off. They stand in the log behind its first n, up to the
+// place returned.
 fn cut(words: &[u32], row: &mut [u16], log: &mut [u16], n: usize) -> usize
     requires { ⌜ Cuttable (now words) (now row) (now log) n ⌝ }
     ensures { λ tail. ⌜ CutBelow (now (words .entry)) (now (row .entry)) (now (row .exit)) (now (log .entry)) (now (log .exit)) n tail
@@ -86,8 +88,8 @@ fn cut(words: &[u32], row: &mut [u16], log: &mut [u16], n: usize) -> usize
     tail
 }
 
-// Cuts off who hangs on a place that was struck since, or on one that is cut off: these stand in the log behind its first m, up to the place
-// returned. Who hangs on many places of the log is found in one pass.
+// Cuts off who hangs on a place that was struck since, or on one that is cut off: these stand in the log behind its first m, up to the
+// place returned. Who hangs on many places of the log is found in one pass.
 fn loosen(words: &[u32], row: &mut [u16], log: &mut [u16], from: usize, m: usize) -> usize
     requires { ⌜ Rested (now words) (now row) Anywhere (now log) from m × (length (now log) ≤ mostStates) ⌝ }
     ensures { λ tail. ⌜ Loosened (now (words .entry)) (now (row .entry)) (now (row .exit)) (now (log .entry)) (now (log .exit)) m tail ⌝ }
@@ -117,8 +119,8 @@ fn bring(line: &mut [u16], n: usize, g: usize)
     line[n] = x;
 }
 
-// Before the promise's first phase: the unstruck places that have a witness stand in the line's front, those that nobody helps in the log behind its
-// first m.
+// Before the promise's first phase: the unstruck places that have a witness stand in the line's front, those that nobody helps in the log
+// behind its first m.
 fn divide(words: &[u32], row: &[u16], log: &mut [u16], m: usize, line: &mut [u16]) -> Divided
     requires { ⌜ Fresh (now words) (now row) (now log) m × (length (now log) ≤ mostStates) × Line (now row) (now line) ⌝ }
     ensures { λ d. ⌜ Loosened (now (words .entry)) (now (row .entry)) (now (row .entry)) (now (log .entry)) (now (log .exit)) m (d .tail)
@@ -191,7 +193,8 @@ fn seek_helper(
     signs: &[u64],
     i: usize,
 ) -> usize
-    requires { ⌜ Signed (now book) (now table) (length (now row)) (now signs) × (i < length (now row)) × (length (now row) ≤ length (now words)) ⌝ }
+    requires { ⌜ Signed (now book) (now table) (length (now row)) (now signs) × (i < length (now row))
+        × (length (now row) ≤ length (now words)) ⌝ }
     ensures { λ j. ⌜ HelperIn (now (words .entry)) (now (row .entry)) (To (now (book .entry)) (now (table .entry))) i j ⌝ }
 {
     let mut j: usize = 0;
@@ -213,7 +216,8 @@ fn helper(
     signs: &[u64],
     i: usize,
 ) -> usize
-    requires { ⌜ Signed (now book) (now table) (length (now row)) (now signs) × (i < length (now row)) × (length (now row) ≤ length (now words)) ⌝ }
+    requires { ⌜ Signed (now book) (now table) (length (now row)) (now signs) × (i < length (now row))
+        × (length (now row) ≤ length (now words)) ⌝ }
     ensures { λ j. ⌜ HelperFor (now (words .entry)) (now (row .entry)) (To (now (book .entry)) (now (table .entry))) i j ⌝ }
 {
     if is_so(words, row, i, NOBODY) {
@@ -330,8 +334,8 @@ fn is_shut(
     left: usize,
 ) -> bool
     requires { ⌜ Signed (now book) (now table) (length (now row)) (now signs) × (t < length (now row)) × (0 < length (now seen)) ⌝ }
-    ensures { λ b. ⌜ (b ≡ true → (words : List ℕ) → Seen words (now (row .entry)) (To (now (book .entry)) (now (table .entry))) (now (seen .entry))
-        → Shut words (now (row .entry)) (To (now (book .entry)) (now (table .entry))) t) ⌝ }
+    ensures { λ b. ⌜ (b ≡ true → (words : List ℕ) → Seen words (now (row .entry)) (To (now (book .entry)) (now (table .entry)))
+        (now (seen .entry)) → Shut words (now (row .entry)) (To (now (book .entry)) (now (table .entry))) t) ⌝ }
 {
     if left <= rules_signs::FEW_WAITING {
         return false;
@@ -348,8 +352,8 @@ fn is_shut(
     false
 }
 
-// Notes that place t was spread from: its slot has t plus one, and 0 says that none is noted. Not where few are left: then it is not asked, and they
-// only get fewer.
+// Notes that place t was spread from: its slot has t plus one, and 0 says that none is noted. Not where few are left: then it is not asked,
+// and they only get fewer.
 fn note(signs: &[u64], r: usize, seen: &mut [u16], t: usize, left: usize)
     requires { ⌜ Roomed r (now signs) × (t < r) × (r ≤ mostStates) × (0 < length (now seen)) ⌝ }
     ensures { λ _. ⌜ Noted (now (seen .entry)) (now (seen .exit)) t ⌝ }
@@ -362,8 +366,8 @@ fn note(signs: &[u64], r: usize, seen: &mut [u16], t: usize, left: usize)
     seen[q] = noted as u16;
 }
 
-// From each of the line's first n places in turn, hangs the places on it that move to it and have no witness, until nobody stands alone. A place is
-// passed by if it is sure that there are none: the slots have places that were spread from.
+// From each of the line's first n places in turn, hangs the places on it that move to it and have no witness, until nobody stands alone. A
+// place is passed by if it is sure that there are none: the slots have places that were spread from.
 fn spread_noting(
     book: &[State],
     table: &[State],
@@ -439,7 +443,8 @@ fn rehang_lost(
     line: &mut [u16],
 )
     requires { ⌜ Testable (now book) (now table) (now words) (now row) (now signs) (now line) (length (now row))
-        × Hangable (now words) (now row) (To (now book) (now table)) (now log) m tail × (tail ≤ length (now row)) × (length (now log) ≤ mostStates) ⌝ }
+        × Hangable (now words) (now row) (To (now book) (now table)) (now log) m tail × (tail ≤ length (now row))
+        × (length (now log) ≤ mostStates) ⌝ }
     ensures { λ _. ⌜ Rehung (now (words .entry)) (now (row .entry)) (now (row .exit)) (To (now (book .entry)) (now (table .entry)))
         × (length (now (line .exit)) ≡ length (now (line .entry))) ⌝ }
 {
@@ -471,8 +476,8 @@ fn first_phase(
     fall(words, row, log, m, d.tail, word)
 }
 
-// One phase of a promise: strikes together the places from which no witnesses lead on to it; how long the log then is. Before the first one, `from` is
-// above m.
+// One phase of a promise: strikes together the places from which no witnesses lead on to it; how long the log then is. Before the first
+// one, `from` is above m.
 pub fn phase(
     book: &[State],
     table: &[State],

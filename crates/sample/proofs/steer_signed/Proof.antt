@@ -1,15 +1,14 @@
 -- `sample::steer_signed` meets its contract: the lent arrays have next to no room. Assumes nothing.
 use borrow.Author.Needs.{needs}
-use Rattle.moves.specs.Moves.{tinyStates}
-use Rattle.sample.proofs.Ways.{lent-rows}
+use Rattle.rules_signs.specs.Sizes.{tinyStates}
+use Rattle.sample.proofs.Ways.{tests-ready}
 use Rattle.sample.proofs.steer_signed.Statement.{statement}
 use Rattle.sample.proofs.steer_signed.Tie as tie
 
 walk-by-tests-requires : tie.Need-walk-by-tests-requires
 walk-by-tests-requires c κs =
     let pre = c .before .before .before .before .before .before .before .before .before .pre in
-    let room = lent-rows (pre .0 .states) tinyStates (pre .2) in
-    (pre .0, room .0, room .1, pre .1)
+    tests-ready tinyStates (pre .0) (pre .1) (pre .2)
 
 pub steer-signed-spec : {M : Type 1} → statement M
 steer-signed-spec =

@@ -1,32 +1,23 @@
 -- `sample::walk_few` meets its contract: the lent arrays have room for few states. Assumes nothing.
 use borrow.Author.Needs.{needs}
 use native.Mathlib.Omega.{arith}
-use Prim.Native.Nat.{_+_, _*_}
-use Rattle.moves.specs.Moves.{fewStates}
-use Rattle.rules_signs.specs.Signs.{headSize}
-use Rattle.rules_signs.proofs.Rowing.{lent-signs}
-use Rattle.sample.proofs.Ways.{lent-rows}
+use Rattle.rules_signs.specs.Sizes.{fewStates, fewSigns}
+use Rattle.sample.proofs.Ways.{signs-ready, tests-ready}
 use Rattle.sample.proofs.walk_few.Statement.{statement}
 use Rattle.sample.proofs.walk_few.Tie as tie
 
-fill-requires : tie.Need-fill-requires
-fill-requires c κs =
-    let pre = c .before .before .before .before .before .pre in
-    (pre .0 .states .states, lent-signs (headSize + fewStates * 8) (omega arith))
-
 walk-by-tests-requires : tie.Need-walk-by-tests-requires
 walk-by-tests-requires c κs =
-    let signed = c .before .before .before .before .before .before in
-    let pre = signed .before .before .before .before .before .before .pre in
-    let room = lent-rows (pre .0 .states) fewStates (pre .1) in
-    (pre .0, room .0, room .1, signed .fill .ensures .0)
+    let filled = c .before .before .before .before .before .before in
+    let pre = filled .before .before .before .before .before .before .pre in
+    tests-ready fewStates (pre .0) (filled .fill .ensures .0) (pre .1)
 
 pub walk-few-spec : {M : Type 1} → statement M
 walk-few-spec =
     tie.close
     (tie.spec
     (λ c. search needs)
-    fill-requires
+    (λ c κs. signs-ready fewSigns (c .before .before .before .before .before .pre .0) (omega arith))
     (λ c. search needs)
     (λ c. search needs)
     (λ c. search needs)

@@ -6,8 +6,8 @@ use Rattle.strike.proofs.Ready.{rows-room}
 use Rattle.strike.proofs.strike_along.Statement.{statement}
 use Rattle.strike.proofs.strike_along.Tie as tie
 
-rounds-along-requires : tie.Need-rounds-along-requires
-rounds-along-requires c κs =
+strike-rounds-requires : tie.Need-strike-rounds-requires
+strike-rounds-requires c κs =
     let pre = c .before .before .before .before .before .before .before .before .before .pre in
     (record { stored = pre .0; roomed = rows-room mostStates (pre .0 .asked) (pre .0 .asked .few) (omega arith) }, pre .1)
 
@@ -18,6 +18,6 @@ strike-along-spec =
     (λ c. search needs)
     (λ c. search needs)
     (λ c. search needs)
-    rounds-along-requires
+    strike-rounds-requires
     (λ c. search needs)
     (λ c. search needs))

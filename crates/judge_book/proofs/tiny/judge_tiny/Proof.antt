@@ -2,8 +2,7 @@
 use borrow.Author.Needs.{needs}
 use native.Mathlib.Omega.{arith}
 use Prim.Native.Nat.{_+_, _*_}
-use Rattle.moves.specs.Moves.{tinyStates}
-use Rattle.rules_signs.specs.Signs.{headSize}
+use Rattle.rules_signs.specs.Sizes.{tinySigns}
 use Rattle.rules_signs.proofs.Rowing.{lent-signs}
 use Rattle.judge_book.proofs.tiny.judge_tiny.Statement.{statement}
 use Rattle.judge_book.proofs.tiny.judge_tiny.Tie as tie
@@ -11,7 +10,7 @@ use Rattle.judge_book.proofs.tiny.judge_tiny.Tie as tie
 judge-signed-requires : tie.Need-judge-signed-requires
 judge-signed-requires c κs =
     let pre = c .before .before .before .before .before .before .before .before .before .before .pre in
-    (pre .0, omega (arith, pre .1), lent-signs (headSize + tinyStates * 8) (omega arith))
+    (pre .0, omega (arith, pre .1), lent-signs tinySigns (omega arith))
 
 pub judge-tiny-spec : {M : Type 1} → statement M
 judge-tiny-spec =

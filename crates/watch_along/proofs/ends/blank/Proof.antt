@@ -4,13 +4,13 @@ use Prim.Native.Nat.{ℕ, _-_, _<_}
 use native.Mathlib.Omega.{arith}
 use borrow.Author.Needs.{needs}
 use lib.ListN.{length, getD, length-set}
-use Rattle.distances.specs.Far.{far}
+use Rattle.watch.specs.Witness.{nobody}
 use Rattle.watch_along.proofs.Ending.{blank-more}
 use Rattle.watch_along.proofs.ends.blank.Statement.{statement}
 use Rattle.watch_along.proofs.ends.blank.Tie as tie
 
 abbrev Inv-loop : tie.InvT-loop
-Inv-loop row₀ i₀ row i = (length row ≡ length row₀) × ((j : ℕ) → j < i → getD row j 0 ≡ far)
+Inv-loop row₀ i₀ row i = (length row ≡ length row₀) × ((j : ℕ) → j < i → getD row j 0 ≡ nobody)
 
 abbrev μ-loop : tie.MeasureT-loop
 μ-loop row₀ i₀ row i = length row - i
@@ -27,7 +27,7 @@ blank-spec =
     (λ c. search needs)
     (λ c. simp length-set (omega (arith, c .loop-test .taken)))
     (λ c. (
-      length-set (c .before .loop .row) (c .before .loop .i) far ∙ c .before .loop .inv .0,
+      length-set (c .before .loop .row) (c .before .loop .i) nobody ∙ c .before .loop .inv .0,
       blank-more (c .before .loop .row) (c .before .loop .i) (c .loop-test .taken) (c .before .loop .inv .1),
     ))
     (λ c. c .before .loop .inv .0)

@@ -1,5 +1,5 @@
--- `rounds::tests::rounds_by_tests` meets its contract. The loop's invariant: the words are right before the phase that comes next (`Running`), the rows
--- of the promises rest (`Moving`), and the pointers are right. Assumes nothing.
+-- `rounds::tests::strike_rounds` meets its contract. The loop's invariant: the words are right before the phase that comes next
+-- (`Running`), the rows of the promises rest (`Moving`), and the pointers are right. Assumes nothing.
 use mathlib.Core.Path.{_≡_, _∙_, refl}
 use Prim.Native.Nat.{suc, _+_, _-_, _*_, _<_, _≤_}
 use native.Mathlib.Omega.{arith}
@@ -7,7 +7,7 @@ use lib.ListN.{length, getD-replicate}
 use Rattle.rules.specs.Book.{promisesOf}
 use Rattle.rules.specs.Table.{To}
 use Rattle.ends_tests.specs.Phases.{Pointers}
-use Rattle.rounds.specs.Rows.{rowOf}
+use Rattle.rounds.specs.Rows.{neverYet, rowOf}
 use Rattle.rounds.proofs.Running.{
   Running,
   running-none,
@@ -22,8 +22,8 @@ use Rattle.rounds.proofs.Running.{
 }
 use Rattle.rounds.proofs.Moving.{Moving, rows-beginnable, moving-none, moving-news, moving-short, moving-more}
 use Rattle.rounds.proofs.Pointing.{pointers-begun, pointers-more, tests-testable, tests-stepped}
-use Rattle.rounds.proofs.tests.rounds_by_tests.Statement.{statement}
-use Rattle.rounds.proofs.tests.rounds_by_tests.Tie as tie
+use Rattle.rounds.proofs.tests.strike_rounds.Statement.{statement}
+use Rattle.rounds.proofs.tests.strike_rounds.Tie as tie
 
 abbrev Inv-loop : tie.InvT-loop
 Inv-loop book table words₀ r signs wit₀ log₀ line₀ p news₀ m₀ left₀ base₀ reason₀ quiet₀ words wit log line news m left base reason quiet =
@@ -42,17 +42,18 @@ abbrev start : tie.In-loop Inv-loop μ-loop → tie.Start Inv-loop μ-loop
 start c = entry (c .before .before)
 
 -- the loop's turn, seen from after its phase; and the phase, seen from where all is put back
-abbrev turn : tie.After-turn-by-tests Inv-loop μ-loop → tie.In-loop Inv-loop μ-loop
+abbrev turn : tie.After-phase Inv-loop μ-loop → tie.In-loop Inv-loop μ-loop
 turn c = c .before .before .before .before .before
 
-abbrev done : tie.After-slice-known9 Inv-loop μ-loop → tie.After-turn-by-tests Inv-loop μ-loop
+abbrev done : tie.After-slice-known9 Inv-loop μ-loop → tie.After-phase Inv-loop μ-loop
 done c = c .before .before .before .before .before .before .before .before
 
 -- within the loop: the round is small, the reason is one, and there are few promises
 base-small : (c : tie.In-loop Inv-loop μ-loop) → c .before .loop .base < 1000000
 base-small c =
     let l = c .before in
-    running-base _ _ _ _ (start c .pre .0 .asked) _ _ _ _ _ (l .loop .inv .0) _ (l .before .promises .ensures) (omega (arith, c .loop-test .taken))
+    running-base _ _ _ _ (start c .pre .0 .asked) _ _ _ _ _ (l .loop .inv .0) _ (l .before .promises .ensures)
+    (omega (arith, c .loop-test .taken))
 
 of-book : (c : tie.In-loop Inv-loop μ-loop) → c .before .loop .reason ≤ promisesOf (start c .args .book .now)
 of-book c = running-within _ _ _ _ (start c .pre .0 .asked) _ _ _ _ _ (c .before .loop .inv .0)
@@ -67,7 +68,8 @@ few : (c : tie.In-loop Inv-loop μ-loop) → c .before .before .promises .result
 few c = omega (arith, start c .pre .0 .asked .shaped .few-promises, c .before .before .promises .ensures)
 
 -- the rows are as long as they were lent
-begun-long : (c : tie.After-promises Inv-loop μ-loop) → length (c .before .before .before .begin-rows .last .1 .1 .1 .0) ≡ length (entry c .args .wit .now)
+begun-long : (c : tie.After-promises Inv-loop μ-loop) → length (c .before .before .before .begin-rows .last .1 .1 .1 .0) ≡ length
+    (entry c .args .wit .now)
 begun-long c = c .before .before .before .begin-rows .ensures .long
 
 rows-long : (c : tie.In-loop Inv-loop μ-loop) → length (c .before .loop .wit) ≡ length (start c .args .wit .now)
@@ -83,41 +85,42 @@ loop-holds c =
     let begun = c .before .before .before .begin-rows .ensures in (
       running-none _ _ _ _ (A .asked) _ refl zeros,
       moving-none (A .asked) (A .roomed) (To (entry c .args .book .now) (entry c .args .table .now)) zeros refl begun refl
-          (λ q h. getD-replicate 17 q 65535 0 h),
+          (λ q h. getD-replicate 17 q neverYet 0 h),
       pointers-begun A begun,
       refl,
       refl,
       refl,
     )
 
-turn-by-tests-requires : tie.Need-turn-by-tests-requires Inv-loop μ-loop
-turn-by-tests-requires c κs =
+phase-requires : tie.Need-phase-requires Inv-loop μ-loop
+phase-requires c κs =
     let l = c .before .before .before .before in
     let inv = l .before .loop .inv in
     tests-testable (start l .pre .0) (inv .1) (rows-long l) (of-book l) (inv .2) (inv .4) (inv .5)
     (running-unphased _ _ _ _ (start l .pre .0 .asked) _ _ _ _ _ (inv .0)) (small-reason l)
 
 -- the log grows, and stays short; no more fall than were left
-grows : (c : tie.After-turn-by-tests Inv-loop μ-loop) → turn c .before .loop .m ≤ c .turn-by-tests .result
+grows : (c : tie.After-phase Inv-loop μ-loop) → turn c .before .loop .m ≤ c .phase .result
 grows c =
     let l = turn c in
-    tests-stepped (start l .pre .0) (l .before .loop .inv .1) (rows-long l) (of-book l) (some l) (c .turn-by-tests .ensures .0) .fallen .grows
+    tests-stepped (start l .pre .0) (l .before .loop .inv .1) (rows-long l) (of-book l) (some l)
+    (c .phase .ensures .0) .fallen .grows
 
-short : (c : tie.After-turn-by-tests Inv-loop μ-loop) → c .turn-by-tests .result ≤ 16384
+short : (c : tie.After-phase Inv-loop μ-loop) → c .phase .result ≤ 16384
 short c =
     let l = turn c in
     let inv = l .before .loop .inv in
     let A = start l .pre .0 in
     moving-short (A .asked) (A .roomed) (inv .1) (rows-long l) (of-book l)
-    (tests-stepped A (inv .1) (rows-long l) (of-book l) (some l) (c .turn-by-tests .ensures .0))
+    (tests-stepped A (inv .1) (rows-long l) (of-book l) (some l) (c .phase .ensures .0))
 
-fewer : (c : tie.After-turn-by-tests Inv-loop μ-loop) → c .turn-by-tests .result - turn c .before .loop .m ≤ turn c .before .loop .left
+fewer : (c : tie.After-phase Inv-loop μ-loop) → c .phase .result - turn c .before .loop .m ≤ turn c .before .loop .left
 fewer c =
     let l = turn c in
     let inv = l .before .loop .inv in
     let A = start l .pre .0 in
     running-fewer _ _ _ _ (A .asked) _ _ _ _ _ (inv .0) _ _
-    (tests-stepped A (inv .1) (rows-long l) (of-book l) (some l) (c .turn-by-tests .ensures .0) .phased)
+    (tests-stepped A (inv .1) (rows-long l) (of-book l) (some l) (c .phase .ensures .0) .phased)
 
 loop-less : tie.Need-loop-less Inv-loop μ-loop
 loop-less c =
@@ -130,15 +133,16 @@ loop-again c =
     let l = turn T in
     let inv = l .before .loop .inv in
     let A = start l .pre .0 in
-    let D = T .turn-by-tests .ensures .0 in
+    let D = T .phase .ensures .0 in
     let step = tests-stepped A (inv .1) (rows-long l) (of-book l) (some l) D in (
-      running-more _ _ _ _ (A .asked) _ _ _ _ _ (inv .0) _ _ (step .phased) _ (l .before .before .promises .ensures) (omega (arith, l .loop-test .taken)) _ _ _
+      running-more _ _ _ _ (A .asked) _ _ _ _ _ (inv .0) _ _ (step .phased) _ (l .before .before .promises .ensures)
+          (omega (arith, l .loop-test .taken)) _ _ _
           (c .before .before .rested .ensures) (c .before .base-after .ensures) (c .reason-after .ensures),
       moving-more (A .asked) (A .roomed) (inv .1) (rows-long l) (of-book l) step _ (omega arith) (λ n. refl),
       pointers-more A (inv .1) (rows-long l) (of-book l) (some l) D (inv .2),
       D .long ∙ inv .3,
       step .fallen .log-long ∙ inv .4,
-      T .turn-by-tests .ensures .1 ∙ inv .5,
+      T .phase .ensures .1 ∙ inv .5,
     )
 
 returns : tie.Need-returns Inv-loop μ-loop
@@ -150,8 +154,8 @@ returns c =
       words-long = l .loop .inv .0 .long;
     }
 
-pub rounds-by-tests-spec : {M : Type 1} → statement M
-rounds-by-tests-spec =
+pub strike-rounds-spec : {M : Type 1} → statement M
+strike-rounds-spec =
     tie.close
     (tie.spec
     Inv-loop
@@ -164,7 +168,7 @@ rounds-by-tests-spec =
     (λ c. omega (arith, small-reason c))
     (λ c. omega (arith, small-reason c, c .before .loop .inv .1 .reasons))
     (λ c. let A = start c .pre .0 in omega (arith, moving-news (A .asked) (A .roomed) (c .before .loop .inv .1) (rows-long c) (of-book c)))
-    turn-by-tests-requires
+    phase-requires
     (λ c. grows (done c))
     (λ c. omega (arith, short (done c)))
     (λ c. omega (arith, small-reason (turn (done c))))

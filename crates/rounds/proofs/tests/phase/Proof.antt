@@ -1,12 +1,12 @@
--- `rounds::tests::turn_by_tests` meets its contract: one row is lent to the phase, and put back. Assumes nothing.
+-- `rounds::tests::phase` meets its contract: one row is lent to the phase, and put back. Assumes nothing.
 use mathlib.Core.Path.{refl, sym}
 use borrow.Author.Needs.{needs}
 use native.Mathlib.Omega.{arith}
 use lib.Seq.{length-take-le}
 use Rattle.rounds.proofs.Rows.{front-inside}
 use Rattle.rounds.proofs.Pointing.{turn-striking, turn-dead, turn-watching, turn-watched}
-use Rattle.rounds.proofs.tests.turn_by_tests.Statement.{statement}
-use Rattle.rounds.proofs.tests.turn_by_tests.Tie as tie
+use Rattle.rounds.proofs.tests.phase.Statement.{statement}
+use Rattle.rounds.proofs.tests.phase.Tie as tie
 
 slice-aggregate-dead-ends : tie.Need-slice-aggregate-dead-ends
 slice-aggregate-dead-ends c =
@@ -26,8 +26,8 @@ returns-2 c =
     let entry = at-phase .before .before .before .before .before .before .before .before .before .before .before .before .before in
     (turn-watched (entry .pre) (omega arith) (at-phase .phase .ensures .0), at-phase .phase .ensures .1)
 
-pub turn-by-tests-spec : {M : Type 1} → statement M
-turn-by-tests-spec =
+pub phase-spec : {M : Type 1} → statement M
+phase-spec =
     tie.close
     (tie.spec
     (λ c. search needs)

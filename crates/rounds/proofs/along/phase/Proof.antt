@@ -1,12 +1,12 @@
--- `rounds::along::turn_along` meets its contract: one row is lent to the phase, and put back. Assumes nothing.
+-- `rounds::along::phase` meets its contract: one row is lent to the phase, and put back. Assumes nothing.
 use mathlib.Core.Path.{refl, sym}
 use borrow.Author.Needs.{needs}
 use native.Mathlib.Omega.{arith}
 use lib.Seq.{length-take-le}
 use Rattle.rounds.proofs.Rows.{front-inside}
 use Rattle.rounds.proofs.WaysOn.{turn-endable, turn-ended, turn-watching, turn-watched}
-use Rattle.rounds.proofs.along.turn_along.Statement.{statement}
-use Rattle.rounds.proofs.along.turn_along.Tie as tie
+use Rattle.rounds.proofs.along.phase.Statement.{statement}
+use Rattle.rounds.proofs.along.phase.Tie as tie
 
 slice-aggregate-phase : tie.Need-slice-aggregate-phase
 slice-aggregate-phase c =
@@ -26,8 +26,8 @@ returns-2 c =
     let entry = at-phase .before .before .before .before .before .before .before .before .before .before .before .before in
     (turn-watched (entry .pre) (omega arith) (at-phase .phase2 .ensures .0), at-phase .phase2 .ensures .1)
 
-pub turn-along-spec : {M : Type 1} → statement M
-turn-along-spec =
+pub phase-spec : {M : Type 1} → statement M
+phase-spec =
     tie.close
     (tie.spec
     (λ c. search needs)
