@@ -9,7 +9,7 @@ use lib.Dec.{leb, eqb}
 use lib.ListN.{length}
 use borrow.Author.Tests.{le-leb, lt-leb}
 use native.Mathlib.Omega.{arith}
-use Rattle.meaning.specs.Sheet.{badSize, badVersion, badLength, badLetters, _then_, Fault, byte, lettersIn, firstFault}
+use Rattle.meaning.specs.Sheet.{badSize, badVersion, badLength, badLetters, _then_, Fault, byte, lettersIn, mostLetters, firstFault}
 use Rattle.ground.proofs.Tests.{second-false}
 use Rattle.reader.specs.declared.Why.the-variants.{BadSize, BadVersion, BadLength, BadLetters, TooMany}
 use Rattle.reader.specs.declared.Fault as F
@@ -58,11 +58,11 @@ module _ (s : List ℕ) where
 
       module _ (t3 : eqb (byte s 1 * 256 + byte s 2) (length s) ≡ true) where
         pub letters-bad :
-            leb 1 (byte s 3) && leb (byte s 3) 24 ≡ false → Refused (record { why = BadLetters; at = 3 }) ≡ stepTo 8 (headerFault s)
+            leb 1 (byte s 3) && leb (byte s 3) mostLetters ≡ false → Refused (record { why = BadLetters; at = 3 }) ≡ stepTo 8 (headerFault s)
         unfolding headerFault
         letters-bad q = rw (t1, t2, t3, q)
 
-        module _ (t4 : leb 1 (byte s 3) && leb (byte s 3) 24 ≡ true) where
+        module _ (t4 : leb 1 (byte s 3) && leb (byte s 3) mostLetters ≡ true) where
           pub limits-bad : leb (byte s 4) 32 ≡ false → Refused (record { why = TooMany; at = 4 }) ≡ stepTo 8 (headerFault s)
           unfolding headerFault
           limits-bad q = rw (t1, t2, t3, t4, q)
@@ -138,11 +138,11 @@ header-passed s q =
     let p1 = first-passed (leb 8 (length s) && leb (length s) 4096) badSize 0 _ (m .0) in
     let p2 = first-passed (eqb (byte s 0) 1) badVersion 0 _ (p1 .1) in
     let p3 = first-passed (eqb (byte s 1 * 256 + byte s 2) (length s)) badLength 1 _ (p2 .1) in
-    let p4 = first-passed (leb 1 (byte s 3) && leb (byte s 3) 24) badLetters 3 _ (p3 .1) in
+    let p4 = first-passed (leb 1 (byte s 3) && leb (byte s 3) mostLetters) badLetters 3 _ (p3 .1) in
     record {
       behind = m .1;
       least = bounds 8 (length s) (length s) 4096 (p1 .0) .0;
-      letters = bounds 1 (byte s 3) (byte s 3) 24 (p4 .0) .1;
+      letters = bounds 1 (byte s 3) (byte s 3) mostLetters (p4 .0) .1;
     }
 
 -- the sheet's fault is then that of its sections
