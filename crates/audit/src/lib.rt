@@ -24,7 +24,7 @@ pub const MOMENTS: u32 = 1000000;
 // moment and its step rule; and for each step rule how often its left side led to a kept move and how often to a broken one.
 pub struct Account {
     pub count: u32,
-    pub last: u32,
+    pub last: State,
     pub what: u32,
     pub moment: u32,
     pub rule: u32,
@@ -106,7 +106,7 @@ fn audit_good(sheet: &[u8], account: Account, states: &[State]) -> Report
             account,
         };
     }
-    let mut book = [0u32; rules::BOOK_SIZE];
+    let mut book = [0 as State; rules::BOOK_SIZE];
     compile::compile(sheet, &mut book);
     let back = carry::carry(&book, account, states);
     Report {

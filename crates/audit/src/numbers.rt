@@ -1,6 +1,7 @@
 // An account as 515 numbers, for callers in C.
 use super::Account;
 use audit_follow::TALLIES;
+use ground::State;
 ghost use mathlib.Core.Path.{_≡_};
 ghost use Prim.Native.Nat.{_+_, _≤_};
 ghost use lib.ListN.{length};
@@ -51,7 +52,7 @@ pub fn account_of(numbers: &[u32; NUMBERS]) -> Account
     let broken = tallies_at(numbers, BROKEN);
     Account {
         count: numbers[0],
-        last: numbers[1],
+        last: numbers[1] as State,
         what: numbers[2],
         moment: numbers[3],
         rule: numbers[4],
@@ -68,7 +69,7 @@ pub fn numbers_of(account: Account) -> [u32; NUMBERS]
     let broken = account.broken;
     let mut numbers = [0u32; NUMBERS];
     numbers[0] = account.count;
-    numbers[1] = account.last;
+    numbers[1] = account.last as u32;
     numbers[2] = account.what;
     numbers[3] = account.moment;
     numbers[4] = account.rule;

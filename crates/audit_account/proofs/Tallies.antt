@@ -16,7 +16,7 @@ use Rattle.rules.specs.Book.{allAt, someAt, stepAt, rightAt, stepsOf}
 use Rattle.audit_account.specs.Account.{Account, mostTallies}
 use Rattle.audit_account.specs.Carry.{mostMoments}
 use Rattle.audit_account.specs.Book.{keptBy, brokenBy, bump, bumped, firstOf, bookBroke, bookBreaks, bookTallies, Within, Ruled, Tallied}
-use Rattle.audit_account.specs.Book.{Moved}
+use Rattle.audit_account.specs.Book.{mostTally, Moved}
 
 -- What one rule adds: to the kept moves, to the broken ones, or nothing.
 pub rule-tallied : (book : List ℕ) (s t times i : ℕ) (kept broken : List ℕ) (asks allows : Bool) (more-kept more-broken : ℕ)
@@ -165,11 +165,11 @@ tallied-all {book} {s} {t} {times} {m} {n} {kept} {broken} {kept′} {broken′}
 -- The place of the next rule has not been counted at yet, and `times` more fit.
 pub place-fits : (book : List ℕ) (s t times n : ℕ) (kept broken kept′ broken′ : List ℕ) (some : Bool) → times ≤ mostMoments
     → Within (mostMoments + mostMoments) kept → Within (mostMoments + mostMoments) broken → Tallied book s t times n kept broken kept′ broken′ some
-    → n < mostTallies → (getD kept′ n 0 + times ≤ 4294967295) × (getD broken′ n 0 + times ≤ 4294967295)
+    → n < mostTallies → (getD kept′ n 0 + times ≤ mostTally) × (getD broken′ n 0 + times ≤ mostTally)
 place-fits book s t times n kept broken kept′ broken′ some few-times k b before few =
     (one kept kept′ (keptBy book s t) k (before .keeps), one broken broken′ (brokenBy book s t) b (before .breaks))
   where
-    one : (l l′ : List ℕ) (test : ℕ → Bool) → Within (mostMoments + mostMoments) l → l′ ≡ bumped times test n l → getD l′ n 0 + times ≤ 4294967295
+    one : (l l′ : List ℕ) (test : ℕ → Bool) → Within (mostMoments + mostMoments) l → l′ ≡ bumped times test n l → getD l′ n 0 + times ≤ mostTally
     one l l′ test w e =
         let same : getD l′ n 0 ≡ getD l n 0 = ap (λ (x : List ℕ). getD x n 0) e ∙ bumped-above times test n l n (omega arith) in
         omega (arith, w .within n few)

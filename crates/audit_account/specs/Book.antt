@@ -119,6 +119,10 @@ pub record SameMoves (states : List ℕ) (i count last times : ℕ) : Type 0 whe
 
 -- ---- bounds, so that no sum wraps
 
+-- the most that a tally can hold
+abbrev pub mostTally : ℕ
+mostTally = 4294967295
+
 -- no tally is above b
 pub record Within (b : ℕ) (tallies : List ℕ) : Type 0 where
   pub within : (i : ℕ) → i < mostTallies → getD tallies i 0 ≤ b

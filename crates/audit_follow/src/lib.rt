@@ -18,7 +18,7 @@ pub const TALLIES: usize = 255;
 // An account's five numbers without its tallies.
 pub struct Head {
     pub count: u32,
-    pub last: u32,
+    pub last: State,
     pub what: u32,
     pub moment: u32,
     pub rule: u32,

@@ -23,7 +23,7 @@ fn standing(states: &[State], from: usize, s: State) -> usize
 
 // How many of the states from place i on come by one and the same move, where `count` states came before, the last of them `last`: as many as
 // the log stands still, or one.
-pub fn same_moves(states: &[State], i: usize, count: u32, last: u32) -> usize
+pub fn same_moves(states: &[State], i: usize, count: u32, last: State) -> usize
     requires { ⌜ i < length (now states) ⌝ }
     ensures { λ r. ⌜ SameMoves (now (states .entry)) i count last r ⌝ }
 {

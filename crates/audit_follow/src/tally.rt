@@ -7,7 +7,7 @@ ghost use Prim.Native.Nat.{_+_, _<_, _≤_};
 ghost use lib.ListN.{getD};
 ghost use Rattle.rules.specs.Book.{Shaped, stepsOf};
 ghost use Rattle.audit_account.specs.Carry.{mostMoments};
-ghost use Rattle.audit_account.specs.Book.{brokenBy, bookBroke, Within, Ruled, Tallied};
+ghost use Rattle.audit_account.specs.Book.{mostTally, brokenBy, bookBroke, Within, Ruled, Tallied};
 
 // `times` where the test passed, else 0.
 fn counted(passed: bool, times: u32) -> u32
@@ -31,7 +31,7 @@ fn tally_rule(
     broken: &mut [u32; TALLIES],
 ) -> bool
     requires { ⌜ Shaped (now book) × (i < stepsOf (now book))
-        × (getD (now kept) i 0 + times ≤ 4294967295) × (getD (now broken) i 0 + times ≤ 4294967295) ⌝ }
+        × (getD (now kept) i 0 + times ≤ mostTally) × (getD (now broken) i 0 + times ≤ mostTally) ⌝ }
     ensures { λ r. ⌜ Ruled (now (book .entry)) s t times i
         (now (kept .entry)) (now (broken .entry)) (now (kept .exit)) (now (broken .exit)) r ⌝ }
 {

@@ -2,11 +2,12 @@
 use mathlib.Core.Path.{_≡_, _∙_, ap, subst}
 use mathlib.Core.Bool.{Bool, true, false, not}
 use mathlib.Core.List.{List, [], _∷_}
-use Prim.Native.Nat.{ℕ, _+_, _-_, _*_, _%_, _^_, _≤_, _<_}
+use Prim.Native.Nat.{ℕ, _+_, _-_, _^_, _≤_, _<_}
 use native.Mathlib.Omega.{arith}
 use lib.ListN.{getD}
-use lib.Pow.{pow-mono, shl-exact}
-use Rattle.meaning.specs.Sheet.{positive, size, lettersIn}
+use lib.Pow.{pow-mono}
+use Rattle.meaning.specs.Sheet.{positive, size, lettersIn, mostLetters}
+use Rattle.ground.specs.States.{allStates}
 use Rattle.reader.specs.Place.{part}
 use Rattle.reader.proofs.Bodies.{part-none, part-more}
 use Rattle.compile.specs.Literals.{maskOf, Ordered}
@@ -25,17 +26,17 @@ module _ (s : List ℕ) (start end : ℕ) (sound : ListSound s start end) where
   pub none-summed : Summed s start end start 0 0
   none-summed = record { within = sound .order; above = 0; ordered = sound .ordered; helds = omega arith; unhelds = omega arith }
 
-  -- The masks of the whole list are below 2 ^ 24.
-  pub held-fits : maskOf true (part start end s) < 2 ^ 24
+  -- The masks of the whole list are below all states.
+  pub held-fits : maskOf true (part start end s) < allStates
   held-fits =
       let t = tells (lettersIn s) 0 (part start end s) (sound .ordered) .held in
-      let m = pow-mono {i = lettersIn s} {j = 24} (sound .few) in
+      let m = pow-mono {i = lettersIn s} {j = mostLetters} (sound .few) in
       omega arith
 
-  pub unheld-fits : maskOf false (part start end s) < 2 ^ 24
+  pub unheld-fits : maskOf false (part start end s) < allStates
   unheld-fits =
       let t = tells (lettersIn s) 0 (part start end s) (sound .ordered) .unheld in
-      let m = pow-mono {i = lettersIn s} {j = 24} (sound .few) in
+      let m = pow-mono {i = lettersIn s} {j = mostLetters} (sound .few) in
       omega arith
 
   module _ (at held unheld : ℕ) (so : Summed s start end at held unheld) where
@@ -43,7 +44,7 @@ module _ (s : List ℕ) (start end : ℕ) (sound : ListSound s start end) where
     first-left h = subst (Ordered (lettersIn s) (so .above)) (part-more at end s h (sound .within)) (so .ordered)
 
     -- The next literal names a letter.
-    pub next-named : at < end → (1 ≤ size (getD s at 0)) × (size (getD s at 0) ≤ 24)
+    pub next-named : at < end → (1 ≤ size (getD s at 0)) × (size (getD s at 0) ≤ mostLetters)
     next-named h = let o = first-left h in let f = sound .few in (o .1, omega arith)
 
     left-is : at < end → (p : Bool) → maskOf p (part at end s) ≡ maskOf p (getD s at 0 ∷ part (at + 1) end s)
@@ -68,8 +69,8 @@ module _ (s : List ℕ) (start end : ℕ) (sound : ListSound s start end) where
         let d = left-is h false ∙ mask-same false (getD s at 0) (part (at + 1) end s) (ap not e) in
         record { within = omega arith; above = _; ordered = first-left h .3; helds = omega arith; unhelds = omega arith }
 
-    -- The sums stay below 2 ^ 24.
-    pub sums-fit : (held < 2 ^ 24) × (unheld < 2 ^ 24)
+    -- The sums stay below all states.
+    pub sums-fit : (held < allStates) × (unheld < allStates)
     sums-fit =
         let a = so .helds in
         let b = so .unhelds in
@@ -88,10 +89,3 @@ module _ (s : List ℕ) (start end : ℕ) (sound : ListSound s start end) where
         let a = so .helds in
         let b = so .unhelds in
         (omega arith, omega arith)
-
--- A literal's bit, as the machine shifts it.
-pub shifted-bit : (r m : ℕ) → r ≡ m → 1 ≤ m → m ≤ 24 → (1 * 2 ^ (r - 1)) % 4294967296 ≡ 2 ^ (m - 1)
-shifted-bit r m e one few =
-    shl-exact {a = 1} 1 (r - 1) 32 (omega arith) (omega arith)
-    ∙ (let q : 1 * 2 ^ (r - 1) ≡ 2 ^ (r - 1) = omega arith in q)
-    ∙ ap (λ (x : ℕ). 2 ^ (x - 1)) e

@@ -12,13 +12,13 @@ ghost use Rattle.compile.specs.Literals.{maskOf};
 ghost use Rattle.compile.specs.Compile.{ListSound, ListWritten};
 
 // The bit of the letter that a literal names.
-fn bit_of(b: u8) -> State
+fn named_bit(b: u8) -> State
     requires { ⌜ (1 ≤ size b) × (size b ≤ mostLetters) ⌝ }
     ensures { λ r. ⌜ r ≡ 2 ^ (size b - 1) ⌝ }
 {
     let letter = reader::literal::letter_of(b);
     let j = letter - 1;
-    (1 as State) << j
+    ground::bit_of(j as u32)
 }
 
 // The masks of the literals from `start` to `end`.
@@ -32,7 +32,7 @@ fn masks_of(sheet: &[u8], start: usize, end: usize) -> Pair
     let mut at = start;
     while at < end {
         let b = sheet[at];
-        let bit = bit_of(b);
+        let bit = named_bit(b);
         if reader::literal::is_positive(b) {
             held += bit;
             at += 1;

@@ -1,15 +1,16 @@
 -- One bit of a number, over any width. A bit is 0 or 1 (bit-small, bit-cases), and what a shift reads (bit-shifted); the bits of 0, of a power
--- of 2, of what two numbers have together (bit-or) and in common (bit-and); what setting a bit with `or` does to each bit (bit-marked,
+-- of 2 and of the number before it, of what two numbers have together (bit-or) and in common (bit-and); what setting a bit with `or` does to each bit (bit-marked,
 -- bit-unmarked), and what adding 2 ^ j does where bit j is not set (bit-added, and-set, set-below). Assumes nothing.
 use mathlib.Core.Path.{_≡_, refl, sym, _∙_, ap, ap₂}
 use mathlib.Core.Logic.{_⊎_, inl, inr}
-use Prim.Native.Nat.{ℕ, zero, suc, _+_, _*_, _/_, _%_, _^_, _<_, min, max}
-use native.Mathlib.Nat.{mod-lt, max-zero, pow-suc, mul-assoc, mul-div-cancel, mul-mod-left, div-one}
+use Prim.Native.Nat.{ℕ, zero, suc, _+_, _-_, _*_, _/_, _%_, _^_, _<_, min, max}
+use native.Mathlib.Nat.{mod-lt, max-zero, pow-suc, mul-assoc, mul-div-cancel, mul-mod-left, div-one, one-mul}
 use native.Mathlib.Decide.{decLt}
 use native.Mathlib.Omega.{arith}
 use lib.Arith.{digits-mod}
 use lib.Bits.{bitAnd, bitOr, and-step, and-shr, or-step, or-shr}
-use lib.Pow.{shr-shr}
+use lib.Dec.{lit<}
+use lib.Pow.{shr-shr, shl-exact, pow-pos}
 use Rattle.ground.specs.Bits.{bit}
 
 -- ---- one bit
@@ -68,6 +69,18 @@ bit-other zero zero n = absurd (n refl)
 bit-other zero (suc a) n = ap (λ (n : ℕ). n % 2) (pow-suc 2 a) ∙ mul-mod-left (2 ^ a) 2
 bit-other (suc j) zero n = bit-none j
 bit-other (suc j) (suc a) n = ap (bit j) (half-power a) ∙ bit-other j a (λ e. n (ap suc e))
+
+-- It is not lost where a machine of w bits shifts it.
+pub power-shifted : (w : ℕ) {a : ℕ} → a < w → (1 * 2 ^ a) % 2 ^ w ≡ 2 ^ a
+power-shifted w {a} h = shl-exact {a = 1} 1 a w (lit< tt) (omega arith) ∙ one-mul (2 ^ a)
+
+-- Below it every bit is set in the number before it.
+pub bit-full : (k v : ℕ) → v < k → bit v (2 ^ k - 1) ≡ 1
+bit-full zero v h = absurd (omega arith)
+bit-full (suc k) zero h = omega (arith, pow-suc 2 k, pow-pos k)
+bit-full (suc k) (suc v) h =
+    let half : (2 ^ suc k - 1) / 2 ≡ 2 ^ k - 1 = omega (arith, pow-suc 2 k, pow-pos k) in
+    ap (bit v) half ∙ bit-full k v (omega arith)
 
 -- ---- one bit more
 

@@ -4,6 +4,7 @@ pub mod Rising
 pub mod Storing
 pub mod Wiping
 pub mod Bits
+pub mod States
 pub mod Ones
 pub mod Writing
 pub mod Marking

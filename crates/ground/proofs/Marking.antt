@@ -1,16 +1,9 @@
--- A mark fits its word, and what asking for one shows. The laws of bits stand in `ground`. Assumes nothing.
+-- What asking for a mark shows. The laws of bits stand in `ground`. Assumes nothing.
 use mathlib.Core.Path.{_≡_, sym, _∙_}
 use mathlib.Core.Bool.{Bool, true, false, not}
-use Prim.Native.Nat.{ℕ, _*_, _%_, _^_, _<_}
-use native.Mathlib.Nat.{one-mul}
-use native.Mathlib.Omega.{arith}
+use Prim.Native.Nat.{ℕ}
 use borrow.Author.Tests.{eqb-true, eqb-false, not-true, not-false}
 use lib.Dec.{eqb}
-use lib.Pow.{shl-exact}
-
--- The mark of a bit fits a word.
-pub mark-fits : (a : ℕ) → a < 32 → 1 * 2 ^ a % 4294967296 ≡ 2 ^ a
-mark-fits a h = shl-exact {a = 1} 1 a 32 (omega arith) (omega arith) ∙ one-mul (2 ^ a)
 
 -- A test that says no shows an unmarked bit.
 pub unmarked-of : (x : ℕ) (r : Bool) → r ≡ eqb x 1 → not r ≡ true → x ≡ 1 → ⊥

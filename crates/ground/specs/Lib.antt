@@ -2,3 +2,4 @@ pub mod Says
 pub mod Listed
 pub mod Wiping
 pub mod Bits
+pub mod States

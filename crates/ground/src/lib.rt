@@ -1,5 +1,5 @@
-// The ground: what several crates use alike. A state's type, the most states that are judged, a sheet's bounds, the lesser of two numbers, and wiping. Beside
-// the code stand what a test says, what stands in a list, bits, and their laws.
+// The ground: what several crates use alike. A state's type and bits, the most states that are judged, a sheet's bounds, the lesser of two
+// numbers, and wiping. Beside the code stand what a test says, what stands in a list, bits, and their laws.
 ghost use mathlib.Core.Path.{_≡_};
 ghost use Prim.Native.Nat.{_≤_, min};
 ghost use lib.ListN.{length, take};
@@ -8,9 +8,16 @@ ghost use Rattle.ground.specs.Wiping.{Wiped};
 
 pub mod marks;
 pub mod pieces;
+pub mod state;
 
-// A state, and a mask: a bit for each letter.
-pub type State = u32;
+pub use state::ABOVE_LETTERS;
+pub use state::ALL_STATES;
+pub use state::EVERY_BIT;
+pub use state::MOST_LETTERS;
+pub use state::STATE_BITS;
+pub use state::State;
+pub use state::bit_of;
+pub use state::ones_in;
 
 // The most states that are judged: `mostStates` of the meaning.
 pub const MOST_STATES: usize = 16384;
@@ -29,8 +36,8 @@ pub fn lesser(a: usize, b: usize) -> usize
     if a < b { a } else { b }
 }
 
-// Zeros in the first n places; the rest is as it was.
-pub fn wipe_front(l: &mut [u32], n: usize)
+// Zeros in the first n words; the rest is as it was.
+pub fn wipe_words_front(l: &mut [u32], n: usize)
     requires { ⌜ n ≤ length (now l) ⌝ }
     ensures { λ _. ⌜ Wiped n (now (l .entry)) (now (l .exit)) ⌝ }
 {
@@ -41,8 +48,20 @@ pub fn wipe_front(l: &mut [u32], n: usize)
     }
 }
 
-// Zeros from a place on; what is before it is as it was.
-pub fn wipe_from(l: &mut [u32], from: usize)
+// Zeros from a word on; what is before it is as it was.
+pub fn wipe_words_from(l: &mut [u32], from: usize)
+    requires { ⌜ from ≤ length (now l) ⌝ }
+    ensures { λ _. ⌜ now (l .exit) ≡ over (take from (now (l .entry))) (zeros (now (l .entry))) ⌝ }
+{
+    let mut i = from;
+    while i < l.len() {
+        l[i] = 0;
+        i += 1;
+    }
+}
+
+// Zeros from a state on; what is before it is as it was.
+pub fn wipe_states_from(l: &mut [State], from: usize)
     requires { ⌜ from ≤ length (now l) ⌝ }
     ensures { λ _. ⌜ now (l .exit) ≡ over (take from (now (l .entry))) (zeros (now (l .entry))) ⌝ }
 {

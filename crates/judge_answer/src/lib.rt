@@ -38,9 +38,9 @@ pub fn leave(table: &mut [State], words: &mut [u32], scratch: &mut [State], t: u
     ensures { λ _.
         ⌜ LeftOver t w (now (table .entry)) (now (words .entry)) (now (scratch .entry)) (now (table .exit)) (now (words .exit)) (now (scratch .exit)) ⌝ }
 {
-    ground::wipe_from(table, t);
-    ground::wipe_from(words, w);
-    ground::wipe_from(scratch, 0);
+    ground::wipe_states_from(table, t);
+    ground::wipe_words_from(words, w);
+    ground::wipe_states_from(scratch, 0);
 }
 
 // C: the least of the table's length, the words' length, half the scratch length rounded down, and 16,384.

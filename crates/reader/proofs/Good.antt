@@ -20,7 +20,7 @@ use Rattle.meaning.specs.Sheet.{Why, badSize, badVersion, badLength, badLetters
 use Rattle.meaning.specs.Sheet.{notAscending, surplus, numberOf, Fault, unless, _then_, positive, size, signedBelow, names}
 use Rattle.meaning.specs.Sheet.{literalsFault, listFault, recordFault, recordsFault, firstFault, Kind, aLimit, aFirst, aStep, aPromise}
 use Rattle.meaning.specs.Sheet.{Limit, StepRule, limitOf, stepOf, promiseOf, byte, bodyAt, nextAt, afterAt, bodies}
-use Rattle.meaning.specs.Sheet.{lettersIn, firstsAt, stepsAt, promisesAt, endAt, decode}
+use Rattle.meaning.specs.Sheet.{lettersIn, mostLetters, firstsAt, stepsAt, promisesAt, endAt, decode}
 use Rattle.meaning.proofs.FirstFault.{bounds}
 use Rattle.meaning.proofs.Placing.{place-within}
 use Rattle.reader.specs.Header.{versionByte, lengthByte, lettersByte, limitsByte, promisesByte, recordsAt}
@@ -296,7 +296,7 @@ pub record Header (s : List ℕ) : Type 0 where
   pub version : versionIn s ≡ 1
   pub stated : lengthIn s ≡ length s
   pub some-letter : 1 ≤ lettersIn s
-  pub few-letters : lettersIn s ≤ 24
+  pub few-letters : lettersIn s ≤ mostLetters
   pub few-limits : limitsIn s ≤ 32
   pub few-promises : promisesIn s ≤ 16
   pub limits-read : recordsFault aLimit (lettersIn s) s (limitsIn s) recordsAt ≡ none
@@ -312,7 +312,7 @@ good-header s e =
     let p1 = first-passed (leb 8 (length s) && leb (length s) 4096) badSize 0 _ e in
     let p2 = first-passed (eqb (versionIn s) 1) badVersion versionByte _ (p1 .1) in
     let p3 = first-passed (eqb (lengthIn s) (length s)) badLength lengthByte _ (p2 .1) in
-    let p4 = first-passed (leb 1 (lettersIn s) && leb (lettersIn s) 24) badLetters lettersByte _ (p3 .1) in
+    let p4 = first-passed (leb 1 (lettersIn s) && leb (lettersIn s) mostLetters) badLetters lettersByte _ (p3 .1) in
     let p5 = first-passed (leb (limitsIn s) 32) tooMany limitsByte _ (p4 .1) in
     let p6 = first-passed (leb (promisesIn s) 16) tooMany promisesByte _ (p5 .1) in
     let p7 = then-none (recordsFault aLimit (lettersIn s) s (limitsIn s) recordsAt) _ (p6 .1) in
@@ -320,7 +320,7 @@ good-header s e =
     let p9 = then-none (recordsFault aStep (lettersIn s) s (stepsIn s) (stepsAt s)) _ (p8 .1) in
     let p10 = then-none (recordsFault aPromise (lettersIn s) s (promisesIn s) (promisesAt s)) _ (p9 .1) in
     let sizes = bounds 8 (length s) (length s) 4096 (p1 .0) in
-    let letters = bounds 1 (lettersIn s) (lettersIn s) 24 (p4 .0) in
+    let letters = bounds 1 (lettersIn s) (lettersIn s) mostLetters (p4 .0) in
     record {
       least = sizes .0;
       most = sizes .1;

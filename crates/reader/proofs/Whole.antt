@@ -9,7 +9,7 @@ use lib.Dec.{leb, eqb}
 use lib.ListN.{length}
 use borrow.Author.Tests.{le-leb, lt-leb}
 use native.Mathlib.Omega.{arith}
-use Rattle.meaning.specs.Sheet.{badSize, badVersion, badLength, badLetters, _then_, Fault, lettersIn, firstFault}
+use Rattle.meaning.specs.Sheet.{badSize, badVersion, badLength, badLetters, _then_, Fault, lettersIn, mostLetters, firstFault}
 use Rattle.ground.proofs.Tests.{second-false}
 use Rattle.reader.specs.declared.Why.the-variants.{BadSize, BadVersion, BadLength, BadLetters, TooMany}
 use Rattle.reader.specs.declared.Fault as F
@@ -62,12 +62,12 @@ module _ (s : List ℕ) where
 
       module _ (t3 : eqb (lengthIn s) (length s) ≡ true) where
         pub letters-bad :
-            leb 1 (lettersIn s) && leb (lettersIn s) 24 ≡ false
+            leb 1 (lettersIn s) && leb (lettersIn s) mostLetters ≡ false
             → Refused (record { why = BadLetters; at = lettersByte }) ≡ stepTo recordsAt (headerFault s)
         unfolding headerFault
         letters-bad q = rw (t1, t2, t3, q)
 
-        module _ (t4 : leb 1 (lettersIn s) && leb (lettersIn s) 24 ≡ true) where
+        module _ (t4 : leb 1 (lettersIn s) && leb (lettersIn s) mostLetters ≡ true) where
           pub limits-bad : leb (limitsIn s) 32 ≡ false
               → Refused (record { why = TooMany; at = limitsByte }) ≡ stepTo recordsAt (headerFault s)
           unfolding headerFault
@@ -145,11 +145,11 @@ header-passed s q =
     let p1 = first-passed (leb 8 (length s) && leb (length s) 4096) badSize 0 _ (m .0) in
     let p2 = first-passed (eqb (versionIn s) 1) badVersion versionByte _ (p1 .1) in
     let p3 = first-passed (eqb (lengthIn s) (length s)) badLength lengthByte _ (p2 .1) in
-    let p4 = first-passed (leb 1 (lettersIn s) && leb (lettersIn s) 24) badLetters lettersByte _ (p3 .1) in
+    let p4 = first-passed (leb 1 (lettersIn s) && leb (lettersIn s) mostLetters) badLetters lettersByte _ (p3 .1) in
     record {
       behind = m .1;
       least = bounds 8 (length s) (length s) 4096 (p1 .0) .0;
-      letters = bounds 1 (lettersIn s) (lettersIn s) 24 (p4 .0) .1;
+      letters = bounds 1 (lettersIn s) (lettersIn s) mostLetters (p4 .0) .1;
     }
 
 -- the sheet's fault is then that of its sections

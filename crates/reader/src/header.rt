@@ -15,7 +15,7 @@ pub const LEAST_BYTES: usize = 8;
 
 pub const MOST_BYTES: usize = 4096;
 
-pub const MOST_LETTERS: u8 = 24;
+pub const MOST_LETTERS: u8 = ground::MOST_LETTERS as u8;
 
 pub const MOST_LIMITS: u8 = ground::MOST_LIMITS as u8;
 

@@ -263,8 +263,8 @@ header-good s h =
     none-found (leb 8 (length s) && leb (length s) 4096) badSize 0 _ (between 8 (length s) 4096 (h .least) (h .most))
     (none-found (eqb (versionIn s) 1) badVersion versionByte _ (eq-eqb (versionIn s) 1 (h .version))
     (none-found (eqb (lengthIn s) (length s)) badLength lengthByte _ (eq-eqb (lengthIn s) (length s) (h .stated))
-    (none-found (leb 1 (lettersIn s) && leb (lettersIn s) 24) badLetters lettersByte _
-    (between 1 (lettersIn s) 24 (h .some-letter) (h .few-letters))
+    (none-found (leb 1 (lettersIn s) && leb (lettersIn s) mostLetters) badLetters lettersByte _
+    (between 1 (lettersIn s) mostLetters (h .some-letter) (h .few-letters))
     (none-found (leb (limitsIn s) 32) tooMany limitsByte _ (le-leb (limitsIn s) 32 (h .few-limits))
     (none-found (leb (promisesIn s) 16) tooMany promisesByte _ (le-leb (promisesIn s) 16 (h .few-promises))
     (none-either (recordsFault aLimit (lettersIn s) s (limitsIn s) recordsAt) _ (h .limits-read)

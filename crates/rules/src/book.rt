@@ -58,7 +58,7 @@ pub fn letters(book: &[State]) -> u32
     requires { ⌜ Shaped (now book) ⌝ }
     ensures { λ r. ⌜ r ≡ lettersOf (now (book .entry)) ⌝ }
 {
-    book[0]
+    book[0] as u32
 }
 
 // How many limits the sheet has.

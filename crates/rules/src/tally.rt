@@ -1,18 +1,11 @@
 // Two masks against a state: how many of their literals are true in it, whether some is, whether all are.
 use super::book::State;
+use ground::ones_in;
 ghost use mathlib.Core.Path.{_≡_};
-ghost use lib.Count.{ones};
 ghost use Rattle.rules.specs.Book.{countOf, someOf, allOf};
 
-// How many bits of x are set.
-pub fn ones_in(x: State) -> u32
-    ensures { λ r. ⌜ r ≡ ones x ⌝ }
-{
-    u32::count_ones(x)
-}
-
 // How many literals are true in s: of the letters asked to hold those that do, and of those asked not to hold those that do not.
-pub fn count_true(s: State, held: State, unheld: State) -> u32
+pub fn count_true(s: State, held: State, unheld: State) -> State
     ensures { λ r. ⌜ r ≡ countOf s held unheld ⌝ }
 {
     let holding = ones_in(s & held);

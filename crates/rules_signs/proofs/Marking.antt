@@ -1,21 +1,15 @@
--- A word built bit by bit: none yet (marked-none), a bit set (marked-set), a bit left out (marked-past), and the whole word (marked-word). A set
--- bit fits its word (mark-fits). Assumes nothing.
+-- A word built bit by bit: none yet (marked-none), a bit set (marked-set), a bit left out (marked-past), and the whole word (marked-word).
+-- Assumes nothing.
 use mathlib.Core.Path.{_≡_, sym, _∙_, subst}
 use mathlib.Core.Bool.{Bool, true, false}
-use Prim.Native.Nat.{ℕ, _+_, _*_, _%_, _^_, _≤_, _<_, min}
-use native.Mathlib.Nat.{one-mul}
+use Prim.Native.Nat.{ℕ, _+_, _^_, _≤_, _<_, min}
 use native.Mathlib.Decide.{ℕ-discrete, decLt}
 use native.Mathlib.Omega.{arith}
 use lib.Bits.{bitOr}
-use lib.Pow.{shl-exact}
 use Rattle.ground.specs.Bits.{bit}
 use Rattle.ground.proofs.Bits.{bit-none, bit-marked, bit-unmarked}
 use Rattle.ground.proofs.Tests.{no-both}
 use Rattle.rules_signs.specs.Words.{WordOf, wordSize}
-
--- A set bit fits a word.
-pub mark-fits : (b : ℕ) → b < wordSize → 1 * 2 ^ b % 18446744073709551616 ≡ 2 ^ b
-mark-fits b h = shl-exact {a = 1} 1 b 64 (omega arith) (omega arith) ∙ one-mul (2 ^ b)
 
 -- the bits of the numbers from `from` up to c are set as their test says
 pub record Marked (test : ℕ → Bool) (from n c x : ℕ) : Type 0 where

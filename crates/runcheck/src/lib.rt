@@ -65,7 +65,7 @@ fn check_paper(sheet: &[u8], bytes: &[u8], numbers: &[State], a: u32) -> u32
     if bytes.len() % STATE_BYTES != 0 {
         return 14;
     }
-    let mut book = [0u32; rules::BOOK_SIZE];
+    let mut book = [0 as State; rules::BOOK_SIZE];
     compile::compile(sheet, &mut book);
     if accepted(&book, bytes, numbers, a as usize) {
         0

@@ -10,9 +10,12 @@ use lib.ListN.{length, getD}
 use Rattle.meaning.specs.System.{System}
 use Rattle.meaning.specs.Papers.{StrikesAccepted}
 use Rattle.ground.proofs.Saying.{says-as}
+use Rattle.ground.proofs.States.{state-small}
 use Rattle.ground.specs.Says.{Says}
 use Rattle.rules.specs.Book.{Shaped, bookSystem, promisesOf}
+use Rattle.rules.proofs.Facts.{lawful-true, lawful-below}
 use Rattle.strikes_apart.specs.Apart.{Different}
+use Rattle.strikes_apart.specs.Windows.{AllSmall}
 use Rattle.strikes_covers.specs.Asks.{AllLawful, FirstsListed, StatesAsk}
 use Rattle.strikes_entries.specs.Entries.{Rising, EntriesOk}
 use Rattle.strikecheck.specs.Strikes.{ReasonsFit}
@@ -66,6 +69,11 @@ module _ (book : List ℕ) {word x promises : ℕ} (word-is : word ≡ x) (promi
 pub states-asked : {book states : List ℕ} {distinct : Bool} → Shaped book → AllLawful (bookSystem book) states → (distinct ≡ true → Different states)
     → StatesAsk book states (length states) distinct
 states-asked shaped lawful different = record { shaped = shaped; lawful = lawful; within = omega arith; different = different }
+
+-- Lawful states are among those that the most letters make.
+pub lawful-small : {book : List ℕ} (states : List ℕ) → Shaped book → AllLawful (bookSystem book) states → AllSmall states
+lawful-small {book} states shaped lawful i h =
+    state-small (shaped .few-letters) (lawful-below book (getD states i 0) (lawful-true book (getD states i 0) (lawful i h)))
 
 -- Where all but the entries is in order, the entries decide.
 pub entries-decide : (S : System) (states words : List ℕ) {r : Bool} → length words ≡ length states → Rising words → ReasonsFit S words → AllLawful S states

@@ -39,9 +39,9 @@ pub fn check_strikes(sheet: &[u8], states: &[State], words: &[u32]) -> Verdict
 pub fn check_strikes_bytes(sheet: &[u8], states: &[u8], words: &[u8]) -> u32
     ensures { λ r. ⌜ StrikesBytesChecked (now (sheet .entry)) (now (states .entry)) (now (words .entry)) r ⌝ }
 {
-    let none = [0u32; 1];
-    let empty = &none[..0];
-    let verdict = check(sheet, states, empty, words, empty);
+    let no_states = [0 as State; 1];
+    let no_words = [0u32; 1];
+    let verdict = check(sheet, states, &no_states[..0], words, &no_words[..0]);
     verdict.answer
 }
 
@@ -75,7 +75,7 @@ fn check_paper(sheet: &[u8], sb: &[u8], sn: &[State], wb: &[u8], wn: &[u32]) -> 
     if wb.len() % WORD_BYTES != 0 {
         return 14;
     }
-    let mut book = [0u32; rules::BOOK_SIZE];
+    let mut book = [0 as State; rules::BOOK_SIZE];
     compile::compile(sheet, &mut book);
     if accepted(&book, sb, sn, wb, wn) {
         0

@@ -4,16 +4,18 @@ use mathlib.Core.Bool.{true}
 use mathlib.Core.List.{List}
 use Prim.Native.Nat.{ℕ, _<_}
 use lib.ListN.{length, getD}
+use Rattle.ground.specs.States.{allStates}
 use Rattle.strikes_apart.specs.Apart.{apart, Different}
 use Rattle.strikes_apart.specs.declared.Looked.{Looked}
 use Rattle.strikes_apart.specs.declared.Looked.the-variants.{Twice, Next, Done}
 
--- how many numbers a window has, a mark for each; and a number above every state
+-- how many numbers a window has, a mark for each
 abbrev pub windowSize : ℕ
 windowSize = 8192
 
-abbrev pub pastAll : ℕ
-pastAll = 4294967296
+-- each number is one of the states that the most letters make
+abbrev pub AllSmall : List ℕ → Type 0
+AllSmall l = (i : ℕ) → i < length l → getD l i 0 < allStates
 
 -- Numbers below `low` are settled: none of them stands at an earlier place, too.
 abbrev pub Settled : List ℕ → (low : ℕ) → Type 0

@@ -1,4 +1,6 @@
 // Whether the states of a paper are all different, found out window by window with a mark for each number, in a small stack.
+use ground::ALL_STATES;
+use ground::marks::WORD_MARKS;
 use ground::marks::mark;
 use ground::marks::met;
 use papers::State;
@@ -7,30 +9,31 @@ use papers::states_in;
 ghost use mathlib.Core.Path.{_≡_};
 ghost use mathlib.Core.Bool.{true};
 ghost use Prim.Native.Nat.{_<_, min};
+ghost use Rattle.ground.specs.States.{allStates};
 ghost use Rattle.papers.specs.Paper.{statesOf};
 ghost use Rattle.strikes_apart.specs.Apart.{Different};
-ghost use Rattle.strikes_apart.specs.Windows.{pastAll, Window};
+ghost use Rattle.strikes_apart.specs.Windows.{AllSmall, Window};
 
-// How many numbers a window has, and the words of 32 marks for them; and a number above every state.
-const WINDOW: u64 = 8192;
+// How many numbers a window has, and the words of marks for them.
+const WINDOW: State = 8192;
 
-const MARKS: usize = 256;
-
-const PAST_ALL: u64 = 4294967296;
+const MARKS: usize = WINDOW as usize / WORD_MARKS;
 
 // What a window shows: a state that stands twice; or the least state after the window; or that there is none.
 pub enum Looked {
     Twice,
-    Next(u64),
+    Next(State),
     Done,
 }
 
-// True only if no state stands twice. Windows are looked at in turn, from 0 up; windows that hold no state are passed over.
+// True only if no state stands twice, of states that are numbers of letters. Windows are looked at in turn, from 0 up; windows that hold no
+// state are passed over.
 pub fn all_different(sb: &[u8], sn: &[State]) -> bool
+    requires { ⌜ AllSmall (statesOf (now sb) (now sn)) ⌝ }
     ensures { λ r. ⌜ (r ≡ true → Different (statesOf (now (sb .entry)) (now (sn .entry)))) ⌝ }
 {
-    let mut low: u64 = 0;
-    while low < PAST_ALL {
+    let mut low: State = 0;
+    while low < ALL_STATES {
         match window(sb, sn, low) {
             Looked::Twice => {
                 return false;
@@ -47,23 +50,24 @@ pub fn all_different(sb: &[u8], sn: &[State]) -> bool
 }
 
 // Looks at the states of the window that begins at low, with a mark for each.
-fn window(sb: &[u8], sn: &[State], low: u64) -> Looked
-    requires { ⌜ low < pastAll ⌝ }
+fn window(sb: &[u8], sn: &[State], low: State) -> Looked
+    requires { ⌜ (low < allStates) × AllSmall (statesOf (now sb) (now sn)) ⌝ }
     ensures { λ r. ⌜ Window (statesOf (now (sb .entry)) (now (sn .entry))) low r ⌝ }
 {
     let states = states_in(sb, sn);
     let mut marks = [0u32; MARKS];
-    let mut next = PAST_ALL;
+    let mut next = ALL_STATES;
     let mut i = 0;
     while i < states {
-        let s = state_at(sb, sn, i) as u64;
+        let s = state_at(sb, sn, i);
         if s < low {
             i += 1;
         } else {
             let k = s - low;
             if k < WINDOW {
-                let word = (k / 32) as usize;
-                let bit = (k % 32) as usize;
+                let place = k as usize;
+                let word = place / WORD_MARKS;
+                let bit = place % WORD_MARKS;
                 if met(marks[word], bit) {
                     return Looked::Twice;
                 }
@@ -75,7 +79,7 @@ fn window(sb: &[u8], sn: &[State], low: u64) -> Looked
             }
         }
     }
-    if next < PAST_ALL {
+    if next < ALL_STATES {
         Looked::Next(next)
     } else {
         Looked::Done
@@ -83,7 +87,7 @@ fn window(sb: &[u8], sn: &[State], low: u64) -> Looked
 }
 
 // The smaller of two numbers.
-fn smaller(a: u64, b: u64) -> u64
+fn smaller(a: State, b: State) -> State
     ensures { λ r. ⌜ r ≡ min a b ⌝ }
 {
     if a < b { a } else { b }

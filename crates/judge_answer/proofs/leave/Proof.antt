@@ -9,7 +9,7 @@ returns c =
     let scratch = c .before .before in
     let words = scratch .before .before .before .before in
     let table = words .before .before .before .before in
-    wiped-left (table .wipe-from .ensures) (words .wipe-from2 .ensures) (scratch .wipe-from3 .ensures)
+    wiped-left (table .wipe-states-from .ensures) (words .wipe-words-from .ensures) (scratch .wipe-states-from2 .ensures)
 
 pub leave-spec : {M : Type 1} → statement M
 leave-spec =

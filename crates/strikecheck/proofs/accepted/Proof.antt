@@ -5,9 +5,10 @@ use borrow.Author.Tests.{not-true, not-false}
 use lib.ListN.{length}
 use Rattle.ground.proofs.Saying.{says-no}
 use Rattle.papers.specs.Paper.{statesOf, wordsOf}
-use Rattle.strikes_covers.specs.Asks.{StatesAsk}
+use Rattle.rules.specs.Book.{bookSystem}
+use Rattle.strikes_covers.specs.Asks.{AllLawful, StatesAsk}
 use Rattle.strikes_entries.specs.Entries.{Rising}
-use Rattle.strikecheck.proofs.Conditions.{states-asked, entries-decide, accepted-rising, accepted-fit}
+use Rattle.strikecheck.proofs.Conditions.{states-asked, lawful-small, entries-decide, accepted-rising, accepted-fit}
 use Rattle.strikecheck.proofs.accepted.Statement.{statement}
 use Rattle.strikecheck.proofs.accepted.Tie as tie
 
@@ -18,9 +19,16 @@ as-many c = sym (c .before .words-in .ensures) ∙ c .if1 .left ∙ c .before .b
 rising : (c : tie.Else2) → let a = c .before .before .before .before .before .before .before .before .before .before .args in Rising (wordsOf (a .wb .now) (a .wn .now))
 rising c = c .before .words-rise .ensures .yes (not-false _ (c .if2 .left))
 
-asked : (c : tie.After-all-different) → let a = c .before .before .before .before .before .before .before .before .before .before .before .before .before .before .before .args in
+-- where the call began, seen from where all states are found lawful
+abbrev start : tie.Else4 → tie.Start
+start c = c .before .before .before .before .before .before .before .before .before .before .before .before .before .before
+
+lawful : (c : tie.Else4) → let a = start c .args in AllLawful (bookSystem (a .book .now)) (statesOf (a .sb .now) (a .sn .now))
+lawful c = c .before .all-lawful .ensures .yes (not-false _ (c .if4 .left))
+
+asked : (c : tie.After-all-different) → let a = start (c .before) .args in
     StatesAsk (a .book .now) (statesOf (a .sb .now) (a .sn .now)) (length (statesOf (a .sb .now) (a .sn .now))) (c .all-different .result)
-asked c = states-asked (c .before .before .before .before .before .before .before .before .before .before .before .before .before .before .before .pre) (c .before .before .all-lawful .ensures .yes (not-false _ (c .before .if4 .left))) (c .all-different .ensures)
+asked c = states-asked (start (c .before) .pre) (lawful (c .before)) (c .all-different .ensures)
 
 entries-right-requires : tie.Need-entries-right-requires
 entries-right-requires c κs =
@@ -48,7 +56,7 @@ accepted-spec =
     (λ c. says-no (λ h. c .before .reasons-fit .ensures .never (not-true _ (c .if3 .taken)) (accepted-fit (as-many (c .before .before .before .before)) h)))
     (λ c κs. search needs)
     (λ c. says-no (λ h. c .before .all-lawful .ensures .never (not-true _ (c .if4 .taken)) (h .lawful)))
-    (λ c κs. search needs)
+    (λ c κs. let a = start c .args in lawful-small (statesOf (a .sb .now) (a .sn .now)) (start c .pre) (lawful c))
     (λ c κs. asked c)
     (λ c. says-no (λ h. c .before .firsts-listed .ensures .never (not-true _ (c .if5 .taken)) (h .firsts)))
     entries-right-requires

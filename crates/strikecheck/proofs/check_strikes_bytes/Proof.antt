@@ -10,5 +10,7 @@ check-strikes-bytes-spec =
     (tie.spec
     (λ c. search needs)
     (λ c. search needs)
+    (λ c. search needs)
+    (λ c. search needs)
     (λ c κs. search needs)
     (λ c. strikes-bytes-checked _ _ _ _ (c .check .ensures .number)))

@@ -3,9 +3,10 @@ use mathlib.Core.Path.{refl, subst}
 use Prim.Native.Nat.{_-_}
 use native.Mathlib.Omega.{arith}
 use borrow.Author.Needs.{needs}
+use Rattle.ground.specs.States.{allStates}
 use Rattle.ground.proofs.Tests.{no-both}
 use Rattle.papers.specs.Paper.{statesOf}
-use Rattle.strikes_apart.specs.Windows.{pastAll, Settled, Window}
+use Rattle.strikes_apart.specs.Windows.{Settled, Window}
 use Rattle.strikes_apart.proofs.all_different.Statement.{statement}
 use Rattle.strikes_apart.proofs.all_different.Tie as tie
 
@@ -13,7 +14,7 @@ abbrev Inv-loop : tie.InvT-loop
 Inv-loop sb sn low₀ low = Settled (statesOf sb sn) low
 
 abbrev μ-loop : tie.MeasureT-loop
-μ-loop sb sn low₀ low = pastAll - low
+μ-loop sb sn low₀ low = allStates - low
 
 loop-again : tie.Need-loop-again Inv-loop μ-loop
 loop-again c =
@@ -29,7 +30,7 @@ all-different-spec =
     Inv-loop
     μ-loop
     (λ c. λ j h below. absurd (omega arith))
-    (λ c κs. c .loop-test .taken)
+    (λ c κs. (c .loop-test .taken, c .before .before .before .before .pre))
     (λ c. search needs)
     (λ c. λ e. absurd (no-both e refl))
     (λ c. search needs)

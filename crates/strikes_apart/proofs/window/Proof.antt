@@ -16,20 +16,20 @@ abbrev μ-loop : tie.MeasureT-loop
 
 loop-again : tie.Need-loop-again Inv-loop μ-loop
 loop-again c =
-    seen-below (c .before .before .before .loop .inv) (c .before .before .loop-test .taken) (c .before .state-at .ensures) (omega arith) (c .if1 .taken)
+    seen-below (c .before .before .before .loop .inv) (c .before .before .loop-test .taken) (c .before .state-at .ensures) (c .if1 .taken)
 
 loop-again-2 : tie.Need-loop-again-2 Inv-loop μ-loop
 loop-again-2 c =
     let asked = c .before .before in
     let read = asked .before .before .before in
-    seen-marked (read .before .before .loop .inv) (read .before .loop-test .taken) (read .state-at .ensures) (omega arith)
+    seen-marked (read .before .before .loop .inv) (read .before .loop-test .taken) (read .state-at .ensures)
     (read .state-at .result - read .before .before .before .before .before .before .args .low) (omega arith) (asked .before .if2 .taken)
     (asked .met .ensures) (c .before .if3 .left) (c .mark .ensures)
 
 loop-again-3 : tie.Need-loop-again-3 Inv-loop μ-loop
 loop-again-3 c =
     let read = c .before .before .before in
-    seen-later (read .before .before .loop .inv) (read .before .loop-test .taken) (read .state-at .ensures) (omega arith) (omega arith)
+    seen-later (read .before .before .loop .inv) (read .before .loop-test .taken) (read .state-at .ensures) (omega arith)
     (c .smaller .ensures)
 
 pub window-spec : {M : Type 1} → statement M
@@ -41,10 +41,10 @@ window-spec =
     (λ c κs. search needs)
     (λ c. seen-none _ (c .states-in .ensures) refl (c .before .before .before .pre))
     (λ c κs. omega (arith, c .before .loop .inv .counted))
-    (λ c. search needs)
     (λ c. omega arith)
     (λ c. omega arith)
     loop-again
+    (λ c. search needs)
     (λ c. omega arith)
     (λ c. omega (arith, c .before .before .before .before .loop .inv .long))
     (λ c κs. omega arith)

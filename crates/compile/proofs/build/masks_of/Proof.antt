@@ -13,7 +13,7 @@ abbrev μ-loop : tie.MeasureT-loop
 μ-loop sheet start end held₀ unheld₀ at₀ held unheld at = end - at
 
 -- a turn that has begun, seen from behind its bit, and the start
-abbrev turn : tie.After-bit-of Inv-loop μ-loop → tie.In-loop Inv-loop μ-loop
+abbrev turn : tie.After-named-bit Inv-loop μ-loop → tie.In-loop Inv-loop μ-loop
 turn c = c .before .before
 
 abbrev start : tie.In-loop Inv-loop μ-loop → tie.Start Inv-loop μ-loop
@@ -24,7 +24,7 @@ add-held c =
     let b = c .before .before in
     let t = turn b in
     let so = held-more _ _ _ (start t .pre) _ _ _ (t .before .loop .inv) (t .loop-test .taken)
-    (sym (c .before .is-positive .ensures) ∙ c .if1 .taken) (b .bit-of .ensures) in
+    (sym (c .before .is-positive .ensures) ∙ c .if1 .taken) (b .named-bit .ensures) in
     omega (arith, sums-fit _ _ _ (start t .pre) _ _ _ so .0)
 
 loop-again : tie.Need-loop-again Inv-loop μ-loop
@@ -32,14 +32,14 @@ loop-again c =
     let b = c .before .before in
     let t = turn b in
     held-more _ _ _ (start t .pre) _ _ _ (t .before .loop .inv) (t .loop-test .taken)
-    (sym (c .before .is-positive .ensures) ∙ c .if1 .taken) (b .bit-of .ensures)
+    (sym (c .before .is-positive .ensures) ∙ c .if1 .taken) (b .named-bit .ensures)
 
 add-unheld : tie.Need-add-unheld Inv-loop μ-loop
 add-unheld c =
     let b = c .before .before in
     let t = turn b in
     let so = unheld-more _ _ _ (start t .pre) _ _ _ (t .before .loop .inv) (t .loop-test .taken)
-    (sym (c .before .is-positive .ensures) ∙ c .if1 .left) (b .bit-of .ensures) in
+    (sym (c .before .is-positive .ensures) ∙ c .if1 .left) (b .named-bit .ensures) in
     omega (arith, sums-fit _ _ _ (start t .pre) _ _ _ so .1)
 
 loop-again-2 : tie.Need-loop-again-2 Inv-loop μ-loop
@@ -47,7 +47,7 @@ loop-again-2 c =
     let b = c .before .before in
     let t = turn b in
     unheld-more _ _ _ (start t .pre) _ _ _ (t .before .loop .inv) (t .loop-test .taken)
-    (sym (c .before .is-positive .ensures) ∙ c .if1 .left) (b .bit-of .ensures)
+    (sym (c .before .is-positive .ensures) ∙ c .if1 .left) (b .named-bit .ensures)
 
 pub masks-of-spec : {M : Type 1} → statement M
 masks-of-spec =

@@ -2,7 +2,8 @@
 use mathlib.Core.Path.{ap}
 use borrow.Author.Needs.{needs}
 use lib.Bits.{bitOr}
-use Rattle.ground.proofs.Marking.{mark-fits}
+use Rattle.ground.specs.Bits.{wordMarks}
+use Rattle.ground.proofs.Bits.{power-shifted}
 use Rattle.ground.proofs.marks.mark.Statement.{statement}
 use Rattle.ground.proofs.marks.mark.Tie as tie
 
@@ -12,4 +13,4 @@ mark-spec =
     (tie.spec
     (λ c. search needs)
     (λ c. search needs)
-    (λ c. ap (bitOr (c .args .word)) (mark-fits (c .args .k) (c .pre))))
+    (λ c. ap (bitOr (c .args .word)) (power-shifted wordMarks (c .pre))))

@@ -81,7 +81,7 @@ returns-4 c =
     let n = lettersIn (start (size v) .args .s .now) in
     c .refuse4 .ensures
     ∙ letters-bad _ (sized (size v)) (versioned v) (stated l)
-    (⊎-elim (λ w. below 1 n 24 (w .taken)) (λ w. above 1 n 24 (ltb-true _ _ (w .1 .taken))) (d .if5 .came))
+    (⊎-elim (λ w. below 1 n mostLetters (w .taken)) (λ w. above 1 n mostLetters (ltb-true _ _ (w .1 .taken))) (d .if5 .came))
 
 returns-5 : tie.Need-returns-5
 unfolding byte

@@ -2,7 +2,8 @@
 use mathlib.Core.Path.{ap}
 use borrow.Author.Needs.{needs}
 use lib.Bits.{bitOr}
-use Rattle.rules_signs.proofs.Marking.{mark-fits}
+use Rattle.ground.proofs.Bits.{power-shifted}
+use Rattle.rules_signs.specs.Words.{wordSize}
 use Rattle.rules_signs.proofs.words.mark.Statement.{statement}
 use Rattle.rules_signs.proofs.words.mark.Tie as tie
 
@@ -13,4 +14,4 @@ mark-spec =
     (λ c. search needs)
     (λ c. search needs)
     (λ c. search needs)
-    (λ c. ap (bitOr (c .args .word)) (mark-fits (c .args .b) (c .pre))))
+    (λ c. ap (bitOr (c .args .word)) (power-shifted wordSize (c .pre))))

@@ -1,10 +1,10 @@
--- `wipe_from` meets its contract: the places from `from` up to i are zero. Assumes nothing.
+-- `wipe_states_from` meets its contract: the places from `from` up to i are zero. Assumes nothing.
 use Prim.Native.Nat.{_-_}
 use native.Mathlib.Omega.{arith}
 use lib.ListN.{length, length-set}
 use Rattle.ground.proofs.Wiping.{Zeroed, zeroed-none, zeroed-more, zeroed-rest}
-use Rattle.ground.proofs.wipe_from.Statement.{statement}
-use Rattle.ground.proofs.wipe_from.Tie as tie
+use Rattle.ground.proofs.wipe_states_from.Statement.{statement}
+use Rattle.ground.proofs.wipe_states_from.Tie as tie
 
 abbrev Inv-loop : tie.InvT-loop
 Inv-loop l₀ from i₀ l i = Zeroed from i l₀ l
@@ -12,8 +12,8 @@ Inv-loop l₀ from i₀ l i = Zeroed from i l₀ l
 abbrev μ-loop : tie.MeasureT-loop
 μ-loop l₀ from i₀ l i = length l - i
 
-pub wipe-from-spec : {M : Type 1} → statement M
-wipe-from-spec =
+pub wipe-states-from-spec : {M : Type 1} → statement M
+wipe-states-from-spec =
     tie.close
     (tie.spec
     Inv-loop

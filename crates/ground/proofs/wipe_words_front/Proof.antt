@@ -1,9 +1,9 @@
--- `wipe_front` meets its contract: the first i are zero. Assumes nothing.
+-- `wipe_words_front` meets its contract: the first i are zero. Assumes nothing.
 use Prim.Native.Nat.{_-_, _≤_}
 use native.Mathlib.Omega.{arith}
 use Rattle.ground.proofs.Wiping.{Zeroed, zeroed-none, zeroed-more, zeroed-front}
-use Rattle.ground.proofs.wipe_front.Statement.{statement}
-use Rattle.ground.proofs.wipe_front.Tie as tie
+use Rattle.ground.proofs.wipe_words_front.Statement.{statement}
+use Rattle.ground.proofs.wipe_words_front.Tie as tie
 
 abbrev Inv-loop : tie.InvT-loop
 Inv-loop l₀ n i₀ l i = (i ≤ n) × Zeroed 0 i l₀ l
@@ -11,8 +11,8 @@ Inv-loop l₀ n i₀ l i = (i ≤ n) × Zeroed 0 i l₀ l
 abbrev μ-loop : tie.MeasureT-loop
 μ-loop l₀ n i₀ l i = n - i
 
-pub wipe-front-spec : {M : Type 1} → statement M
-wipe-front-spec =
+pub wipe-words-front-spec : {M : Type 1} → statement M
+wipe-words-front-spec =
     tie.close
     (tie.spec
     Inv-loop
