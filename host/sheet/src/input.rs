@@ -88,9 +88,21 @@ fn load(file: &str, most: usize) -> Result<Vec<u8>, Trouble> {
     Ok(content)
 }
 
-/// Are these bytes, and no text? No text is empty, begins with a byte below 9 or holds a zero byte.
+/// Are these bytes, and no text? A text is not empty, does not begin with a byte below 9, and holds no bytes that are no text. A zero byte
+/// in what else is a text is a fault of that text.
 pub fn looks_like_bytes(content: &[u8]) -> bool {
-    content.first().is_none_or(|&byte| byte < 9) || content.contains(&0)
+    content.first().is_none_or(|&byte| byte < 9) || (content.contains(&0) && !is_text_with_zeros(content))
+}
+
+/// Is this a text in which zero bytes stand? UTF-16 looks like that, and so does a text whose file was not written to its end.
+fn is_text_with_zeros(content: &[u8]) -> bool {
+    let odd = |byte: &u8| (1..9).contains(byte) || (14..27).contains(byte);
+    is_utf_16(content) || (!content.iter().any(odd) && std::str::from_utf8(content).is_ok())
+}
+
+/// Does it begin with the mark of UTF-16?
+fn is_utf_16(content: &[u8]) -> bool {
+    content.starts_with(&[0xff, 0xfe]) || content.starts_with(&[0xfe, 0xff])
 }
 
 /// The sheet in a file, in either form.
@@ -146,13 +158,31 @@ fn as_text(name: &str, content: Vec<u8>, most: usize, colour: Colour) -> Result<
     if content.len() > most {
         return Err(Trouble::new(format!("{name}: a text of over {most} bytes is too long")));
     }
-    String::from_utf8(content).map_err(|error| {
+    if is_utf_16(&content) {
+        let fault = Fault::whole("this is a text in UTF-16").expected("a text in UTF-8; an editor can save it so");
+        return Err(Trouble { message: fault.show(name, colour), status: BAD, answer: None });
+    }
+    let text = String::from_utf8(content).map_err(|error| {
         let good = error.utf8_error().valid_up_to();
         let line = 1 + error.as_bytes()[..good].iter().filter(|&&byte| byte == b'\n').count();
         let said = format!("line {line} holds byte {:02x}, which is no text (UTF-8)", error.as_bytes()[good]);
         let fault = Fault::whole(said).expected("a text; --bytes takes the file as a sheet's bytes");
         Trouble { message: fault.show(name, colour), status: BAD, answer: None }
-    })
+    })?;
+    if let Some(at) = text.find('\0') {
+        let said = zero_byte(text.as_bytes(), at);
+        let fault = Fault::whole(said).expected("a text without zero bytes; --bytes takes the file as a sheet's bytes");
+        return Err(Trouble { message: fault.show(name, colour), status: BAD, answer: None });
+    }
+    Ok(text)
+}
+
+/// Where a zero byte of a text stands, in words.
+pub fn zero_byte(text: &[u8], at: usize) -> String {
+    let before = &text[..at];
+    let line = 1 + before.iter().filter(|&&byte| byte == b'\n').count();
+    let in_line = at - before.iter().rposition(|&byte| byte == b'\n').map_or(0, |end| end + 1);
+    format!("this is text with a zero byte (NUL): line {line}, byte {} of the line", in_line + 1)
 }
 
 /// The text of a paper.

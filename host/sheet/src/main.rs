@@ -4,10 +4,16 @@
 
 use sheet::answers::BAD;
 use sheet::call::Call;
-use sheet::out::Page;
+use sheet::out::{self, Page};
 use sheet::text::names;
 use sheet::verbs::{Verb, ALL};
 use std::process::ExitCode;
+
+/// The loader calls this before the program begins, while a closed standard output can still be told from an open one: later the
+/// language's own beginning puts /dev/null in its place.
+#[used]
+#[link_section = ".init_array"]
+static LOOK_AT_OUTPUT: extern "C" fn() = out::look_at_output;
 
 fn main() -> ExitCode {
     let mut page = Page::new();
@@ -61,7 +67,8 @@ fn help() -> String {
     }
     help += "
 A file is a sheet as text (docs/TEXT.md) or as bytes (docs/FORMAT.md); - is standard input. A file that is
-empty, begins with a byte below 9 or holds a zero byte is taken as bytes; --bytes and --text overrule that.
+empty, begins with a byte below 9, or holds zero bytes and is no text, is taken as bytes; --bytes and --text
+overrule that.
 
   bin/sheet judge examples/clock.txt
 

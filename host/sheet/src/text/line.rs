@@ -1,6 +1,6 @@
 //! A line of text as words. A comma is a word of its own; `#` begins a comment.
 
-use crate::text::fault::{Fault, Place};
+use crate::text::fault::{quoted, Fault, Place};
 use crate::text::names;
 
 /// A word and its place.
@@ -28,7 +28,8 @@ pub fn lines(text: &str) -> impl Iterator<Item = Line<'_>> {
 }
 
 impl<'t> Line<'t> {
-    fn new(number: usize, text: &'t str) -> Line<'t> {
+    /// A line of a text, with its number.
+    pub fn new(number: usize, text: &'t str) -> Line<'t> {
         let mut words = Vec::new();
         let mut open: Option<(usize, usize)> = None;
         let said = &text[..text.find('#').unwrap_or(text.len())];
@@ -50,6 +51,16 @@ impl<'t> Line<'t> {
     /// The next word, which stays the next.
     pub fn peek(&self) -> Option<&'t str> {
         self.words.get(self.next).map(|word| word.text)
+    }
+
+    /// The word behind the next one.
+    pub fn peek_behind(&self) -> Option<&'t str> {
+        self.words.get(self.next + 1).map(|word| word.text)
+    }
+
+    /// All words of the line.
+    pub fn words(&self) -> Vec<&'t str> {
+        self.words.iter().map(|word| word.text).collect()
     }
 
     /// The next word, which is passed.
@@ -86,7 +97,7 @@ impl<'t> Line<'t> {
     pub fn unexpected(&self, expected: &str) -> Fault {
         let said = match self.peek() {
             None => "the line ends too soon".to_string(),
-            Some(word) => format!("`{word}` cannot stand here"),
+            Some(word) => format!("{} cannot stand here", quoted(word)),
         };
         self.fault(said).expected(expected)
     }
@@ -129,7 +140,7 @@ impl<'t> Line<'t> {
                 self.next += 1;
                 Ok(number)
             }
-            _ => Err(self.fault(format!("`{word}` is too large")).expected(expected)),
+            _ => Err(self.fault(format!("{} is too large", quoted(word))).expected(expected)),
         }
     }
 }

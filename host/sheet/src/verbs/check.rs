@@ -8,7 +8,7 @@ use crate::out::Page;
 use crate::paper::{parse, Paper};
 use crate::proved;
 use crate::story::count;
-use crate::verbs::Verb;
+use crate::verbs::{walk, Verb};
 
 /// The verb.
 pub const VERB: Verb = Verb {
@@ -52,11 +52,14 @@ fn act(call: &Call, page: &mut Page) -> Result<(), String> {
 fn take(call: &Call, page: &Page) -> Result<(Source, Paper), input::Trouble> {
     let source = input::sheet(&call.files[0], call, page.message_colour)?;
     let text = input::paper_text(&call.files[1], page.message_colour)?;
-    let paper = parse::parse(&text, &source.sheet).map_err(|fault| input::Trouble {
-        message: fault.show(&input::shown(&call.files[1]), page.message_colour),
-        ..input::Trouble::new(String::new())
-    })?;
-    Ok((source, paper))
+    match parse::parse(&text, &source.sheet) {
+        Ok(paper) => Ok((source, paper)),
+        Err(fault) => {
+            let shown = fault.show(&input::shown(&call.files[1]), page.message_colour);
+            let walk = parse::walk(&text, &source.sheet).map(|states| walk::told(&source, &states)).unwrap_or_default();
+            Err(input::Trouble { message: shown + &walk, ..input::Trouble::new(String::new()) })
+        }
+    }
 }
 
 /// The proved checker's answer, and then, if it does not accept, this command's reason.
