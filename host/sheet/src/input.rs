@@ -101,7 +101,7 @@ fn is_text_with_zeros(content: &[u8]) -> bool {
 }
 
 /// Does it begin with the mark of UTF-16?
-fn is_utf_16(content: &[u8]) -> bool {
+pub fn is_utf_16(content: &[u8]) -> bool {
     content.starts_with(&[0xff, 0xfe]) || content.starts_with(&[0xfe, 0xff])
 }
 

@@ -9,6 +9,9 @@ use plain::make::{random_sheet, Rng, DAMAGES};
 use plain::rules::Rules;
 use sheet::explain;
 use sheet::input::Source;
+use sheet::log::breach::{Audit, What};
+use sheet::log::read::Piece;
+use sheet::model::Sheet;
 use sheet::paper::{self, Paper};
 use sheet::picture::graph::explore;
 use sheet::plan::{plan, Plan};
@@ -19,7 +22,7 @@ use sheet::{bytes, proved};
 /// A part of the test: so many sheets; what is wrong, if something is.
 type Part = (&'static str, fn(&mut Rng, usize) -> Result<String, String>);
 
-const PARTS: [Part; 7] = [
+const PARTS: &[Part] = &[
     ("bytes to text and back", round_trip),
     ("damaged text", damaged_text),
     ("damaged bytes", damaged_bytes),
@@ -27,6 +30,7 @@ const PARTS: [Part; 7] = [
     ("reasons against papers", reasons),
     ("states struck in pictures", pictures),
     ("rules that fight", fights),
+    ("breaches of logs", breaches),
 ];
 
 fn main() {
@@ -310,4 +314,56 @@ fn fights(rng: &mut Rng, sheets: usize) -> Result<String, String> {
         return Err(format!("saw {seen:?}"));
     }
     Ok(format!("{} sheets that can be kept, {} without a rule that fights, {} with some", seen[0], seen[1], seen[2]))
+}
+
+/// What is wrong with a moment of a log, looked up rule by rule.
+fn wrong(sheet: &Sheet, before: Option<u32>, state: u32) -> Option<What> {
+    if !sheet.has(state) {
+        return Some(What::NoState);
+    }
+    let limit = sheet.broken_limit(state).map(|at| What::Limit(at + 1));
+    limit.or_else(|| match before {
+        None => sheet.broken_first(state).map(|at| What::First(at + 1)),
+        // Out of a number that is no state, letters beyond the sheet's are left aside.
+        Some(before) => sheet.broken_step(before, state).map(|at| What::Step(at + 1)),
+    })
+}
+
+/// The breaches that the command finds with the proved audit, however the log is cut, are those that a look at each moment finds.
+fn breaches(rng: &mut Rng, sheets: usize) -> Result<String, String> {
+    let mut seen = [0; 2];
+    for _ in 0..sheets / 20 {
+        let source = source(rng, 4);
+        let dense = rng.below(3) == 0;
+        let most = (1 << source.sheet.names.len()) + u32::from(dense);
+        let lucky = proved::judge(&source.bytes).run;
+        let states: Vec<u32> = (0..rng.below(60))
+            .map(
+                |at| if dense || lucky.is_empty() || rng.below(9) == 0 { rng.below(most as usize) as u32 } else { lucky[at % lucky.len()] },
+            )
+            .collect();
+        let mut audit = Audit::new(&source.sheet, &source.bytes, true);
+        for piece in states.chunks(rng.within(1, 30)) {
+            let piece = Piece { states: piece.to_vec(), times: Vec::new() };
+            audit.take(&piece).map_err(|answer| format!("answer {answer}"))?;
+        }
+        let before = |at: usize| at.checked_sub(1).map(|before| states[before]);
+        let wanted: Vec<(usize, What, Option<u32>)> =
+            (0..states.len()).filter_map(|at| Some((at, wrong(&source.sheet, before(at), states[at])?, before(at)))).collect();
+        let found: Vec<(usize, What, Option<u32>)> =
+            audit.told.iter().map(|breach| (breach.number, breach.what, breach.before.as_ref().map(|moment| moment.state))).collect();
+        let tallied = audit.tallies.iter().all(|(what, tally)| {
+            let of: Vec<usize> = wanted.iter().filter(|(_, other, _)| other == what).map(|&(at, ..)| at).collect();
+            (of.len(), of.first(), of.last()) == (tally.count, Some(&tally.first), Some(&tally.last))
+        });
+        if found != wanted || !tallied || audit.account.count() as usize != states.len() {
+            return Err(format!("{found:?}, but {wanted:?}\n{states:?}\n{}", print::print(&source.sheet)));
+        }
+        seen[0] += usize::from(found.is_empty());
+        seen[1] += found.len();
+    }
+    if seen.contains(&0) {
+        return Err(format!("saw {seen:?}"));
+    }
+    Ok(format!("{} logs without a breach, {} breaches in the others", seen[0], seen[1]))
 }

@@ -117,7 +117,7 @@ fn reason(line: &mut Line<'_>) -> Result<u32, Fault> {
 }
 
 /// A state on a line of its own.
-fn state(line: &mut Line<'_>, sheet: &Sheet) -> Result<State, Fault> {
+pub fn state(line: &mut Line<'_>, sheet: &Sheet) -> Result<State, Fault> {
     if line.skip("none") {
         line.end("the line's end")?;
         return Ok(0);

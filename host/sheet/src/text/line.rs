@@ -48,6 +48,11 @@ impl<'t> Line<'t> {
         Line { number, text: text.trim_end(), words, next: 0 }
     }
 
+    /// The words of a line's part, all else blank there, in a line that is shown whole.
+    pub fn shown_as(number: usize, part: &'t str, text: &'t str) -> Line<'t> {
+        Line { text: text.trim_end(), ..Line::new(number, part) }
+    }
+
     /// The next word, which stays the next.
     pub fn peek(&self) -> Option<&'t str> {
         self.words.get(self.next).map(|word| word.text)
