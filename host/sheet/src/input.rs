@@ -109,7 +109,7 @@ pub fn is_utf_16(content: &[u8]) -> bool {
 pub fn sheet(file: &str, call: &Call, colour: Colour) -> Result<Source, Trouble> {
     let content = load(file, MOST_TEXT)?;
     let name = shown(file);
-    if call.has("--bytes") || (!call.has("--text") && looks_like_bytes(&content)) {
+    if is_bytes(&content, call) {
         return from_bytes(name, content, call, colour);
     }
     if call.has("--names") {
@@ -153,28 +153,32 @@ fn given_names(list: &str, letters: usize) -> Result<Vec<String>, String> {
     Ok(given)
 }
 
-/// A file's content as text, or the line that is none.
+/// A file's content as text, or the trouble with it.
 fn as_text(name: &str, content: Vec<u8>, most: usize, colour: Colour) -> Result<String, Trouble> {
     if content.len() > most {
         return Err(Trouble::new(format!("{name}: a text of over {most} bytes is too long")));
     }
+    text_of(content).map_err(|fault| Trouble { message: fault.show(name, colour), status: BAD, answer: None })
+}
+
+/// Content as text, or the line that is none.
+pub fn text_of(content: Vec<u8>) -> Result<String, Fault> {
     if is_utf_16(&content) {
-        let fault = Fault::whole("this is a text in UTF-16").expected("a text in UTF-8; an editor can save it so");
-        return Err(Trouble { message: fault.show(name, colour), status: BAD, answer: None });
+        return Err(Fault::whole("this is a text in UTF-16").expected("a text in UTF-8; an editor can save it so"));
     }
     let text = String::from_utf8(content).map_err(|error| {
         let good = error.utf8_error().valid_up_to();
         let line = 1 + error.as_bytes()[..good].iter().filter(|&&byte| byte == b'\n').count();
         let said = format!("line {line} holds byte {:02x}, which is no text (UTF-8)", error.as_bytes()[good]);
-        let fault = Fault::whole(said).expected("a text; --bytes takes the file as a sheet's bytes");
-        Trouble { message: fault.show(name, colour), status: BAD, answer: None }
+        Fault::whole(said).expected("a text; --bytes takes the file as a sheet's bytes")
     })?;
-    if let Some(at) = text.find('\0') {
-        let said = zero_byte(text.as_bytes(), at);
-        let fault = Fault::whole(said).expected("a text without zero bytes; --bytes takes the file as a sheet's bytes");
-        return Err(Trouble { message: fault.show(name, colour), status: BAD, answer: None });
+    match text.find('\0') {
+        None => Ok(text),
+        Some(at) => {
+            let said = zero_byte(text.as_bytes(), at);
+            Err(Fault::whole(said).expected("a text without zero bytes; --bytes takes the file as a sheet's bytes"))
+        }
     }
-    Ok(text)
 }
 
 /// Where a zero byte of a text stands, in words.
@@ -190,10 +194,22 @@ pub fn paper_text(file: &str, colour: Colour) -> Result<String, Trouble> {
     as_text(&shown(file), load(file, MOST_PAPER)?, MOST_PAPER, colour)
 }
 
+/// The content of a file that may be a sheet, or why it cannot be read.
+pub fn content(file: &str) -> Result<Vec<u8>, String> {
+    let content = load(file, MOST_TEXT).map_err(|trouble| {
+        let said = trouble.message.trim_end();
+        said.strip_prefix(&format!("{}: ", shown(file))).unwrap_or(said).to_string()
+    })?;
+    if content.len() > MOST_TEXT {
+        return Err(format!("a file of over {MOST_TEXT} bytes is too long"));
+    }
+    Ok(content)
+}
+
 /// The bytes of the sheet in a file, in either form; of a sheet of bytes also if it is bad.
 pub fn sheet_bytes(file: &str, call: &Call, colour: Colour) -> Result<Vec<u8>, Trouble> {
     let content = load(file, MOST_TEXT)?;
-    if call.has("--bytes") || (!call.has("--text") && looks_like_bytes(&content)) {
+    if is_bytes(&content, call) {
         return Ok(content);
     }
     let name = shown(file);
@@ -202,16 +218,7 @@ pub fn sheet_bytes(file: &str, call: &Call, colour: Colour) -> Result<Vec<u8>, T
     Ok(bytes::write(&sheet))
 }
 
-/// The files of a folder that are sheets by their names, in the order of these.
-pub fn sheets_in(folder: &str) -> Result<Vec<String>, Trouble> {
-    let listed = std::fs::read_dir(folder).and_then(Iterator::collect::<Result<Vec<_>, _>>);
-    let listed = listed.map_err(|error| Trouble::new(format!("{folder}: cannot be read: {error}")))?;
-    let paths = listed.iter().map(std::fs::DirEntry::path);
-    let is_sheet = |path: &std::path::PathBuf| path.extension().is_some_and(|end| end == "sheet" || end == "txt") && !path.is_dir();
-    let mut files: Vec<String> = paths.filter(is_sheet).map(|path| path.to_string_lossy().into_owned()).collect();
-    files.sort();
-    if files.is_empty() {
-        return Err(Trouble::new(format!("{folder}: no file in this folder ends in .sheet or .txt")));
-    }
-    Ok(files)
+/// Is this content taken as bytes?
+pub fn is_bytes(content: &[u8], call: &Call) -> bool {
+    call.has("--bytes") || (!call.has("--text") && looks_like_bytes(content))
 }

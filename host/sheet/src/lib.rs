@@ -8,6 +8,7 @@
 pub mod answers;
 pub mod bytes;
 pub mod call;
+pub mod class;
 pub mod explain;
 pub mod input;
 pub mod json;

@@ -31,6 +31,7 @@ const PARTS: &[Part] = &[
     ("states struck in pictures", pictures),
     ("rules that fight", fights),
     ("breaches of logs", breaches),
+    ("sheets of a class", classes),
 ];
 
 fn main() {
@@ -366,4 +367,17 @@ fn breaches(rng: &mut Rng, sheets: usize) -> Result<String, String> {
         return Err(format!("saw {seen:?}"));
     }
     Ok(format!("{} logs without a breach, {} breaches in the others", seen[0], seen[1]))
+}
+
+/// What a class of sheets gets in one call is what each gets alone.
+fn classes(rng: &mut Rng, sheets: usize) -> Result<String, String> {
+    let class: Vec<Vec<u8>> = (0..sheets / 500).map(|_| source(rng, 6).bytes).collect();
+    let joined: Vec<&[u8]> = class.iter().map(Vec::as_slice).collect();
+    for (sheet, got) in class.iter().zip(proved::judge_class(&joined)) {
+        let alone = proved::judge(sheet).numbers;
+        if got != [alone.answer, alone.count, alone.a, alone.b] {
+            return Err(format!("{got:?}, but alone {alone:?}\n{sheet:02x?}"));
+        }
+    }
+    Ok(format!("{} sheets, the same numbers as alone", class.len()))
 }
