@@ -61,7 +61,11 @@ fn act(call: &Call, page: &mut Page) -> Result<(), String> {
 fn judged(files: &Files, call: &Call, page: &mut Page) {
     let mut progress = Progress::new();
     let all = files.files.len();
-    let class = look::all(&files.files, call, |done| progress.tell(page, || format!("class: {done} of {} so far", count(all, "file"))));
+    let class = look::all(&files.files, call, |done| {
+        if done < all {
+            progress.tell(page, || format!("class: {done} of {} so far", count(all, "file")));
+        }
+    });
     class.iter().for_each(|seen| page.raise(seen.verdict.status()));
     if call.has("--csv") {
         page.print(&told::csv(&class));
