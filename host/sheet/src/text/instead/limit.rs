@@ -102,6 +102,14 @@ fn at_least(number: usize, list: &[String]) -> Option<Instead> {
     )
 }
 
+/// `limit` and literals, without a bound: they are so at every moment. What `not a and b` denies, nobody can say.
+pub fn bare(rest: &[&str], names: &[String]) -> Option<Instead> {
+    if rest.len() > 2 && rest.contains(&"not") {
+        return None;
+    }
+    at_every_moment(false, rest, names)
+}
+
 /// `always` or `never` and literals: what is so at every moment is a limit.
 pub fn at_every_moment(never: bool, rest: &[&str], names: &[String]) -> Option<Instead> {
     let why = "what is so at every moment is a limit:";

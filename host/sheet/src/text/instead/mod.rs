@@ -34,7 +34,7 @@ pub fn of(line: &[&str], names: &[String]) -> Option<Instead> {
         (&"first", rest) => first(rest, names),
         (&"step", rest) => step::of(rest, names),
         (&"promise", rest) => promise::of(rest, names),
-        (&"limit", rest) => limit::of(rest, names),
+        (&"limit", rest) => limit::of(rest, names).or_else(|| limit::bare(rest, names)),
         _ => unmarked(line, names),
     }?;
     is_read(&found.lines, names).then_some(found)

@@ -5,6 +5,10 @@ use super::{limit, Instead};
 
 /// What to write instead of `promise` and these words.
 pub fn of(rest: &[&str], names: &[String]) -> Option<Instead> {
+    if let Some(at) = rest.iter().position(|&word| word == "leads") {
+        let right = &rest[at + 1..];
+        return later(&rest[..at], right.strip_prefix(&["to"]).unwrap_or(right), names);
+    }
     match rest.split_first()? {
         (&"always", more) => limit::at_every_moment(false, more, names),
         (&"never", more) => limit::at_every_moment(true, more, names),
@@ -40,13 +44,23 @@ fn all(list: &[String], names: &[String]) -> Option<Instead> {
     (list.len() > 1).then_some(())?;
     let helper = free_name("all", names);
     let each = list.iter().map(|literal| format!("promise {literal}"));
+    let or = ["# or, for all at one moment, with one more letter:".to_string(), format!("letters {}, {helper}", names.join(", "))];
     let at_once = list.iter().map(|literal| format!("limit at most 1 of {helper}, {}", opposite(literal)));
-    let together = [format!("letters {}, {helper}", names.join(", "))].into_iter().chain(at_once).chain([format!("promise {helper}")]);
-    let why = format!(
-        "a promise is one letter. For each again and again, at moments of its own: {}. For all at one moment, with one more letter `{helper}`:",
-        each.map(|line| format!("`{line}`")).collect::<Vec<_>>().join(", ")
-    );
-    Instead::new(why, together)
+    let lines = each.chain(or).chain(at_once).chain([format!("promise {helper}")]);
+    Instead::new("a promise is one letter; for each of them again and again, at moments of its own:", lines)
+}
+
+/// Whenever all of the left side holds, some of the right side at some later moment: a helper letter holds until it comes.
+pub fn later(left: &[&str], right: &[&str], names: &[String]) -> Option<Instead> {
+    let (left, right) = (literals(left, &["and"], names)?.list.join(" and "), literals(right, &["or"], names)?.list.join(" or "));
+    let helper = free_name("owed", names);
+    let lines = [
+        format!("letters {}, {helper}", names.join(", ")),
+        format!("step {left} leads to {right} or {helper}"),
+        format!("step {helper} leads to {right} or {helper}"),
+        format!("promise not {helper}"),
+    ];
+    Instead::new(format!("what must come at some later moment: let one more letter, `{helper}`, hold until it comes:"), lines)
 }
 
 /// What must be true again and again.

@@ -1,10 +1,12 @@
 //! Step rules with the wrong joining word on a side, another arrow, or without their first word.
 
 use super::words::{literals, opposite};
-use super::Instead;
+use super::{promise, Instead};
 
 /// Words and signs that people write for `leads to`.
 const ARROWS: [&str; 6] = ["->", "-->", "=>", "\u{2192}", "\u{21d2}", "leads"];
+/// Words for some later moment.
+const LATER: [&str; 4] = ["eventually", "sometime", "sometimes", "later"];
 /// Words that say "if .. then": whether now or at the next moment, they do not say.
 const IFS: [&str; 3] = ["if", "when", "whenever"];
 
@@ -22,6 +24,11 @@ fn arrow(rest: &[&str], names: &[String]) -> Option<Instead> {
     let at = rest.iter().position(|word| ARROWS.contains(word))?;
     let behind = &rest[at + 1..];
     let behind = behind.strip_prefix(&["to"]).unwrap_or(behind);
+    if let [word, right @ ..] = behind {
+        if LATER.contains(word) {
+            return promise::later(&rest[..at], right, names);
+        }
+    }
     let (lefts, rights) = (lefts(&rest[..at], names)?, rights(behind, names)?);
     let lines: Vec<String> =
         lefts.iter().flat_map(|left| rights.iter().map(move |right| format!("step {left} leads to {right}"))).collect();
