@@ -303,8 +303,8 @@ built() {
   [ -x "$program" ]
 }
 
-# fresh NAME BUILD PATHS..: sets `program` to NAME as built from the files at PATHS, calling BUILD, which sets `made`, where it is not there.
-# Where there is a function `before_building`, it is called first then, and may end the command.
+# fresh NAME BUILD PATHS..: sets `program` to NAME as built from the files at PATHS, calling BUILD, which sets `made`, where it is not
+# there. Where there is a function `before_building`, it is called first then, and may end the command.
 fresh() {
   local name=$1 build=$2
   shift 2

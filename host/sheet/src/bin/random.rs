@@ -4,19 +4,21 @@
 
 #![deny(warnings)]
 
+#[path = "random/logs.rs"]
+mod logs;
+#[path = "random/sentences.rs"]
+mod sentences;
+
 use plain::edges::edges;
 use plain::make::{random_sheet, Rng, DAMAGES};
 use plain::rules::Rules;
 use sheet::explain;
 use sheet::input::Source;
-use sheet::log::breach::{Audit, What};
-use sheet::log::read::Piece;
-use sheet::model::Sheet;
 use sheet::paper::{self, Paper};
 use sheet::picture::graph::explore;
 use sheet::plan::{plan, Plan};
 use sheet::proved::Room;
-use sheet::text::{instead, names, parse, print};
+use sheet::text::{names, parse, print};
 use sheet::{bytes, proved};
 
 /// A part of the test: so many sheets; what is wrong, if something is.
@@ -30,9 +32,9 @@ const PARTS: &[Part] = &[
     ("reasons against papers", reasons),
     ("states struck in pictures", pictures),
     ("rules that fight", fights),
-    ("breaches of logs", breaches),
+    ("breaches of logs", logs::breaches),
     ("sheets of a class", classes),
-    ("lines to write instead", written_instead),
+    ("lines to write instead", sentences::written_instead),
 ];
 
 fn main() {
@@ -318,58 +320,6 @@ fn fights(rng: &mut Rng, sheets: usize) -> Result<String, String> {
     Ok(format!("{} sheets that can be kept, {} without a rule that fights, {} with some", seen[0], seen[1], seen[2]))
 }
 
-/// What is wrong with a moment of a log, looked up rule by rule.
-fn wrong(sheet: &Sheet, before: Option<u32>, state: u32) -> Option<What> {
-    if !sheet.has(state) {
-        return Some(What::NoState);
-    }
-    let limit = sheet.broken_limit(state).map(|at| What::Limit(at + 1));
-    limit.or_else(|| match before {
-        None => sheet.broken_first(state).map(|at| What::First(at + 1)),
-        // Out of a number that is no state, letters beyond the sheet's are left aside.
-        Some(before) => sheet.broken_step(before, state).map(|at| What::Step(at + 1)),
-    })
-}
-
-/// The breaches that the command finds with the proved audit, however the log is cut, are those that a look at each moment finds.
-fn breaches(rng: &mut Rng, sheets: usize) -> Result<String, String> {
-    let mut seen = [0; 2];
-    for _ in 0..sheets / 20 {
-        let source = source(rng, 4);
-        let dense = rng.below(3) == 0;
-        let most = (1 << source.sheet.names.len()) + u32::from(dense);
-        let lucky = proved::judge(&source.bytes).run;
-        let states: Vec<u32> = (0..rng.below(60))
-            .map(
-                |at| if dense || lucky.is_empty() || rng.below(9) == 0 { rng.below(most as usize) as u32 } else { lucky[at % lucky.len()] },
-            )
-            .collect();
-        let mut audit = Audit::new(&source.sheet, &source.bytes, true);
-        for piece in states.chunks(rng.within(1, 30)) {
-            let piece = Piece { states: piece.to_vec(), times: Vec::new() };
-            audit.take(&piece).map_err(|answer| format!("answer {answer}"))?;
-        }
-        let before = |at: usize| at.checked_sub(1).map(|before| states[before]);
-        let wanted: Vec<(usize, What, Option<u32>)> =
-            (0..states.len()).filter_map(|at| Some((at, wrong(&source.sheet, before(at), states[at])?, before(at)))).collect();
-        let found: Vec<(usize, What, Option<u32>)> =
-            audit.told.iter().map(|breach| (breach.number, breach.what, breach.before.as_ref().map(|moment| moment.state))).collect();
-        let tallied = audit.tallies.iter().all(|(what, tally)| {
-            let of: Vec<usize> = wanted.iter().filter(|(_, other, _)| other == what).map(|&(at, ..)| at).collect();
-            (of.len(), of.first(), of.last()) == (tally.count, Some(&tally.first), Some(&tally.last))
-        });
-        if found != wanted || !tallied || audit.account.count() as usize != states.len() {
-            return Err(format!("{found:?}, but {wanted:?}\n{states:?}\n{}", print::print(&source.sheet)));
-        }
-        seen[0] += usize::from(found.is_empty());
-        seen[1] += found.len();
-    }
-    if seen.contains(&0) {
-        return Err(format!("saw {seen:?}"));
-    }
-    Ok(format!("{} logs without a breach, {} breaches in the others", seen[0], seen[1]))
-}
-
 /// What a class of sheets gets in one call is what each gets alone.
 fn classes(rng: &mut Rng, sheets: usize) -> Result<String, String> {
     let class: Vec<Vec<u8>> = (0..sheets / 500).map(|_| source(rng, 6).bytes).collect();
@@ -381,78 +331,4 @@ fn classes(rng: &mut Rng, sheets: usize) -> Result<String, String> {
         }
     }
     Ok(format!("{} sheets, the same numbers as alone", class.len()))
-}
-
-/// Sentences about one moment that the form does not have, and when they are true of how many of a list hold.
-type Sentence = (&'static str, &'static str, fn(usize, usize, usize) -> bool);
-
-const SENTENCES: [Sentence; 7] = [
-    ("limit at least N of", ", ", |held, _, n| held >= n),
-    ("limit more than N of", ", ", |held, _, n| held > n),
-    ("limit fewer than N of", " and ", |held, _, n| held < n),
-    ("limit none of", ", ", |held, _, _| held == 0),
-    ("never", " and ", |held, all, _| held < all),
-    ("always", " or ", |held, _, _| held > 0),
-    ("limit all of", ", ", |held, all, _| held == all),
-];
-
-/// What is proposed for a sentence says what the sentence says: a limit holds in just those states, and of a promise of one of two letters the
-/// sheet can be kept just if it can be kept with the one promise or with the other.
-fn written_instead(rng: &mut Rng, sheets: usize) -> Result<String, String> {
-    let mut seen = [0; 2];
-    for _ in 0..sheets / 100 {
-        let source = source(rng, 4);
-        let letters = source.sheet.names.len();
-        let list: Vec<(usize, bool)> = (0..letters).filter_map(|at| (rng.below(3) > 0).then(|| (at, rng.below(2) == 0))).collect();
-        if list.is_empty() {
-            continue;
-        }
-        let literal = |&(at, not): &(usize, bool)| format!("{}{}", if not { "not " } else { "" }, source.sheet.names[at]);
-        let (sentence, by, is_so) = *rng.pick(&SENTENCES);
-        let number = rng.within(1, list.len());
-        let line = format!("{} {}", sentence.replace('N', &number.to_string()), list.iter().map(literal).collect::<Vec<_>>().join(by));
-        let Some(limit) = proposed(&line, &source.sheet, 0)? else { continue };
-        for state in 0..1u32 << letters {
-            let held = list.iter().filter(|&&(at, not)| (state >> at & 1 == 1) != not).count();
-            if limit.broken_limit(state).is_none() != is_so(held, list.len(), number) {
-                return Err(format!("{line}\n{}state {state}", print::print(&limit)));
-            }
-        }
-        seen[0] += 1;
-        if list.len() > 1 && source.sheet.promises.len() < 16 {
-            seen[1] += usize::from(one_promise(&source, &literal(&list[0]), &literal(&list[1]))?);
-        }
-    }
-    if seen.contains(&0) {
-        return Err(format!("saw {seen:?}"));
-    }
-    Ok(format!("{} limits and {} promises", seen[0], seen[1]))
-}
-
-/// The sheet of the first line that is proposed for a line, with the letters alone; or of all of them, with all records of the sheet.
-fn proposed(line: &str, sheet: &Sheet, all: usize) -> Result<Option<Sheet>, String> {
-    let words = sheet::text::line::Line::new(1, line).words();
-    let Some(instead) = instead::of(&words, &sheet.names) else { return Ok(None) };
-    let text = print::print(sheet);
-    let (first, records) = text.split_once('\n').unwrap_or((&text, ""));
-    let own: String =
-        instead.lines.iter().filter(|line| !line.starts_with("letters ")).take(1 + all).map(|line| format!("{line}\n")).collect();
-    let letters = instead.lines.iter().find(|line| line.starts_with("letters ")).map_or(first, String::as_str);
-    let text = if all > 0 { format!("{letters}\n{records}{own}") } else { format!("{letters}\n{own}") };
-    parse::parse(&text).map(Some).map_err(|faults| format!("{faults:?}\n{text}"))
-}
-
-/// Whether the sheet can be kept with a promise of one of two letters is whether it can be kept with a promise of one of them.
-fn one_promise(source: &Source, one: &str, other: &str) -> Result<bool, String> {
-    let can_be_kept = |sheet: &Sheet| Room::new().answer(&bytes::write(sheet)) == 12;
-    let with = |promise: &str| {
-        let sheet = parse::parse(&format!("{}promise {promise}\n", print::print(&source.sheet)));
-        sheet.map(|sheet| can_be_kept(&sheet)).map_err(|faults| format!("{faults:?}"))
-    };
-    // A sheet that is nearly full has no room for one more limit.
-    let Ok(Some(helped)) = proposed(&format!("promise {one} or {other}"), &source.sheet, 9) else { return Ok(false) };
-    if can_be_kept(&helped) != (with(one)? || with(other)?) {
-        return Err(format!("promise {one} or {other}\n{}", print::print(&helped)));
-    }
-    Ok(true)
 }

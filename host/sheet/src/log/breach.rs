@@ -1,5 +1,5 @@
-//! All breaches of a log, by the proved audit. It tells the first breach of an account; after each one the account is handed back with what it
-//! says of a breach set to 0, and the next state is then held against the sheet as if nothing had happened.
+//! All breaches of a log, by the proved audit. It tells the first breach of an account; after each one the account is handed back with what
+//! it says of a breach set to 0, and the next state is then held against the sheet as if nothing had happened.
 
 use crate::log::read::Piece;
 use crate::model::{Sheet, State};

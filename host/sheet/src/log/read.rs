@@ -1,5 +1,5 @@
-//! A log from a file, or from standard input, a piece at a time: states as four bytes each with the highest first, or as text, one a line, or
-//! as a table with a time before each state. Nothing is kept of what was read, so a log may be as long as it likes.
+//! A log from a file, or from standard input, a piece at a time: states as four bytes each with the highest first, or as text, one a line,
+//! or as a table with a time before each state. Nothing is kept of what was read, so a log may be as long as it likes.
 
 use crate::input::{is_utf_16, open, shown, Trouble};
 use crate::log::csv;
@@ -64,7 +64,7 @@ impl<'s> Log<'s> {
         loop {
             let is_begin = self.before == 0 && self.left.is_empty();
             let ended = self.read()? == 0;
-            let form = *self.form.get_or_insert_with(|| form_of(&self.left));
+            let form = *self.form.get_or_insert_with(|| form_of(&self.left, self.sheet));
             if is_begin && form != Form::Bytes {
                 self.begin_text()?;
             }
@@ -206,14 +206,16 @@ fn decimal(word: &str) -> Option<State> {
     }
 }
 
-/// The form that a log's first piece is in. A state of four bytes begins with a zero byte, unless it is a number that no sheet has.
-fn form_of(piece: &[u8]) -> Form {
+/// The form that a log's first piece is in. A state of four bytes begins with a zero byte, unless it is a number that no sheet has. The head
+/// of a table is a state of a sheet with two letters of these names.
+fn form_of(piece: &[u8], sheet: &Sheet) -> Form {
     if piece.first().is_none_or(|&byte| byte < 9) {
         return Form::Bytes;
     }
     let text = String::from_utf8_lossy(piece.strip_prefix(MARK).unwrap_or(piece));
     let first = text.lines().find(|line| !line.trim().is_empty() && !line.trim().starts_with('#'));
-    if first.is_some_and(|line| csv::head(line).is_some()) {
+    let is_state = ["time", "state"].iter().all(|name| sheet.names.iter().any(|other| other.eq_ignore_ascii_case(name)));
+    if !is_state && first.is_some_and(|line| csv::head(line).is_some()) {
         Form::Table
     } else {
         Form::Text

@@ -1,5 +1,5 @@
-//! Which moves are drawn. In a small picture all are; in a larger one so many arrows would hide the states, and a few are chosen: one into each
-//! state on a shortest way from a first state, one out of it, and those of the sample run.
+//! Which moves are drawn. In a small picture all are; in a larger one so many arrows would hide the states, and a few are chosen: one into
+//! each state on a shortest way from a first state, one out of it, and those of the sample run.
 
 use crate::picture::graph::Graph;
 
@@ -34,14 +34,15 @@ pub fn drawn(graph: &Graph, run: &[(usize, usize)]) -> Vec<Vec<usize>> {
     drawn
 }
 
-/// A state one move nearer to a first state; of several the one from which the fewest arrows lead so far, so that they do not all come from one.
+/// A state one move nearer to a first state; of several the one from which the fewest arrows lead so far, so that they do not all come from
+/// one.
 fn finder(graph: &Graph, drawn: &[Vec<usize>], place: usize) -> Option<usize> {
     let nearer = |&from: &usize| graph.depth[from] + 1 == graph.depth[place] && graph.moves[from].contains(&place);
     (0..graph.states.len()).filter(nearer).min_by_key(|&from| drawn[from].len())
 }
 
-/// The move out of a state that says most: that it can stay, if it is livable and can; else to a livable state; else to the state struck last,
-/// for until then there was a way on.
+/// The move out of a state that says most: that it can stay, if it is livable and can; else to a livable state; else to the state struck
+/// last, for until then there was a way on.
 fn way_out(graph: &Graph, place: usize) -> Option<usize> {
     let livable = |to: &usize| graph.words[*to].is_none();
     let moves = &graph.moves[place];

@@ -1,4 +1,4 @@
-//! A walk handed in as a run: states in turn, and no word of where they go on. So many moves prove nothing, and the command says what would.
+//! A walk handed in as a run: states in turn, and no word of where they go on. So many moves prove nothing; the command says what would.
 
 use crate::input::Source;
 use crate::model::State;
