@@ -4,8 +4,9 @@
 # What is built is kept as target/launch/NAME-SUM-KIT: SUM is a sum over the sources' contents, KIT one over `rt version`. If the sources
 # differ from what was built, there is no such file, and it is built anew. Nothing is written outside the repository.
 
-# Whether standard input is closed; asked first, since any file opened later could take its place.
+# Whether standard input is closed, and standard output; asked first, since any file opened later could take its place.
 if { : 3<&0; } 2>/dev/null; then closed=; else closed=yes; fi
+if { : 3>&1; } 2>/dev/null; then deaf=; else deaf=yes; fi
 
 top=$(dirname "$(dirname "$(readlink -f "${BASH_SOURCE[0]}")")")
 kept=$top/target/launch
@@ -293,20 +294,29 @@ put() {
   mv "$kept/.$name.$$" "$2"
 }
 
-# fresh NAME BUILD PATHS..: sets `program` to NAME as built from the files at PATHS, calling BUILD, which sets `made`, where it is not there
+# built NAME PATHS..: sets `program` to the place of NAME as built from the files at PATHS, and `sources_now` to their sum; is it there?
+built() {
+  local name=$1
+  shift
+  sources_now=$(sum_of "$@")
+  program=$(echo "$kept/$name-$sources_now-"*)
+  ! command -v rt >/dev/null 2>&1 || program=$kept/$name-$sources_now-$(kit)
+  [ -x "$program" ]
+}
+
+# fresh NAME BUILD PATHS..: sets `program` to NAME as built from the files at PATHS, calling BUILD, which sets `made`, where it is not
+# there. Where there is a function `before_building`, it is called first then, and may end the command.
 fresh() {
-  local name=$1 build=$2 now
+  local name=$1 build=$2
   shift 2
-  now=$(sum_of "$@")
-  program=$(echo "$kept/$name-$now-"*)
-  ! command -v rt >/dev/null 2>&1 || program=$kept/$name-$now-$(kit)
-  [ ! -x "$program" ] || return 0
+  ! built "$name" "$@" || return 0
+  ! declare -F before_building >/dev/null || before_building
   need_rt
   hold
   if [ ! -x "$program" ]; then
     say "building $name from the sources as they are now; the first time this takes some minutes"
     "$build"
-    [ "$now" = "$(sum_of "$@")" ] || fail "the sources changed while $name was built; run this again"
+    [ "$sources_now" = "$(sum_of "$@")" ] || fail "the sources changed while $name was built; run this again"
     put "$made" "$program"
   fi
   release
@@ -327,5 +337,19 @@ build_sheet() {
 
 # fresh_sheet: sets `program` to the command for people as built from the sources as they are
 fresh_sheet() {
-  fresh sheet build_sheet $(proof_sources) host/archives.txt host/{sheet,plain,calls}/{src,Cargo.toml,Cargo.lock,build.rs} include
+  fresh sheet build_sheet $(proof_sources) host/archives.txt host/{sheet,plain,calls}/{src,Cargo.toml,Cargo.lock,build.rs} host/sheet/help include
+}
+
+# heard_by_nobody: ends with a sentence where standard output is closed
+heard_by_nobody() {
+  [ -z "$deaf" ] || fail "standard output is closed; there is nowhere to tell the result"
+}
+
+# version: the version, the commit if it is known, the toolchain if there is one
+version() {
+  local number commit kit_line
+  number=$(sed -n 's/^## \([0-9][0-9.]*\).*/\1/p' "$top/CHANGELOG.md" 2>/dev/null | sed 1q)
+  commit=$(git -C "$top" rev-parse --short=12 HEAD 2>/dev/null)
+  kit_line=$(rt version 2>/dev/null)
+  echo "$me ${number:-of no number}, commit ${commit:-not known}, ${kit_line:-toolchain not known}"
 }

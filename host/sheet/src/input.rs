@@ -88,16 +88,28 @@ fn load(file: &str, most: usize) -> Result<Vec<u8>, Trouble> {
     Ok(content)
 }
 
-/// Are these bytes, and no text? No text is empty, begins with a byte below 9 or holds a zero byte.
+/// Are these bytes, and no text? A text is not empty, does not begin with a byte below 9, and holds no bytes that are no text. A zero byte
+/// in what else is a text is a fault of that text.
 pub fn looks_like_bytes(content: &[u8]) -> bool {
-    content.first().is_none_or(|&byte| byte < 9) || content.contains(&0)
+    content.first().is_none_or(|&byte| byte < 9) || (content.contains(&0) && !is_text_with_zeros(content))
+}
+
+/// Is this a text in which zero bytes stand? UTF-16 looks like that, and so does a text whose file was not written to its end.
+fn is_text_with_zeros(content: &[u8]) -> bool {
+    let odd = |byte: &u8| (1..9).contains(byte) || (14..27).contains(byte);
+    is_utf_16(content) || (!content.iter().any(odd) && std::str::from_utf8(content).is_ok())
+}
+
+/// Does it begin with the mark of UTF-16?
+pub fn is_utf_16(content: &[u8]) -> bool {
+    content.starts_with(&[0xff, 0xfe]) || content.starts_with(&[0xfe, 0xff])
 }
 
 /// The sheet in a file, in either form.
 pub fn sheet(file: &str, call: &Call, colour: Colour) -> Result<Source, Trouble> {
     let content = load(file, MOST_TEXT)?;
     let name = shown(file);
-    if call.has("--bytes") || (!call.has("--text") && looks_like_bytes(&content)) {
+    if is_bytes(&content, call) {
         return from_bytes(name, content, call, colour);
     }
     if call.has("--names") {
@@ -141,18 +153,40 @@ fn given_names(list: &str, letters: usize) -> Result<Vec<String>, String> {
     Ok(given)
 }
 
-/// A file's content as text, or the line that is none.
+/// A file's content as text, or the trouble with it.
 fn as_text(name: &str, content: Vec<u8>, most: usize, colour: Colour) -> Result<String, Trouble> {
     if content.len() > most {
         return Err(Trouble::new(format!("{name}: a text of over {most} bytes is too long")));
     }
-    String::from_utf8(content).map_err(|error| {
+    text_of(content).map_err(|fault| Trouble { message: fault.show(name, colour), status: BAD, answer: None })
+}
+
+/// Content as text, or the line that is none.
+pub fn text_of(content: Vec<u8>) -> Result<String, Fault> {
+    if is_utf_16(&content) {
+        return Err(Fault::whole("this is a text in UTF-16").expected("a text in UTF-8; an editor can save it so"));
+    }
+    let text = String::from_utf8(content).map_err(|error| {
         let good = error.utf8_error().valid_up_to();
         let line = 1 + error.as_bytes()[..good].iter().filter(|&&byte| byte == b'\n').count();
         let said = format!("line {line} holds byte {:02x}, which is no text (UTF-8)", error.as_bytes()[good]);
-        let fault = Fault::whole(said).expected("a text; --bytes takes the file as a sheet's bytes");
-        Trouble { message: fault.show(name, colour), status: BAD, answer: None }
-    })
+        Fault::whole(said).expected("a text; --bytes takes the file as a sheet's bytes")
+    })?;
+    match text.find('\0') {
+        None => Ok(text),
+        Some(at) => {
+            let said = zero_byte(text.as_bytes(), at);
+            Err(Fault::whole(said).expected("a text without zero bytes; --bytes takes the file as a sheet's bytes"))
+        }
+    }
+}
+
+/// Where a zero byte of a text stands, in words.
+pub fn zero_byte(text: &[u8], at: usize) -> String {
+    let before = &text[..at];
+    let line = 1 + before.iter().filter(|&&byte| byte == b'\n').count();
+    let in_line = at - before.iter().rposition(|&byte| byte == b'\n').map_or(0, |end| end + 1);
+    format!("this is text with a zero byte (NUL): line {line}, byte {} of the line", in_line + 1)
 }
 
 /// The text of a paper.
@@ -160,10 +194,22 @@ pub fn paper_text(file: &str, colour: Colour) -> Result<String, Trouble> {
     as_text(&shown(file), load(file, MOST_PAPER)?, MOST_PAPER, colour)
 }
 
+/// The content of a file that may be a sheet, or why it cannot be read.
+pub fn content(file: &str) -> Result<Vec<u8>, String> {
+    let content = load(file, MOST_TEXT).map_err(|trouble| {
+        let said = trouble.message.trim_end();
+        said.strip_prefix(&format!("{}: ", shown(file))).unwrap_or(said).to_string()
+    })?;
+    if content.len() > MOST_TEXT {
+        return Err(format!("a file of over {MOST_TEXT} bytes is too long"));
+    }
+    Ok(content)
+}
+
 /// The bytes of the sheet in a file, in either form; of a sheet of bytes also if it is bad.
 pub fn sheet_bytes(file: &str, call: &Call, colour: Colour) -> Result<Vec<u8>, Trouble> {
     let content = load(file, MOST_TEXT)?;
-    if call.has("--bytes") || (!call.has("--text") && looks_like_bytes(&content)) {
+    if is_bytes(&content, call) {
         return Ok(content);
     }
     let name = shown(file);
@@ -172,16 +218,7 @@ pub fn sheet_bytes(file: &str, call: &Call, colour: Colour) -> Result<Vec<u8>, T
     Ok(bytes::write(&sheet))
 }
 
-/// The files of a folder that are sheets by their names, in the order of these.
-pub fn sheets_in(folder: &str) -> Result<Vec<String>, Trouble> {
-    let listed = std::fs::read_dir(folder).and_then(Iterator::collect::<Result<Vec<_>, _>>);
-    let listed = listed.map_err(|error| Trouble::new(format!("{folder}: cannot be read: {error}")))?;
-    let paths = listed.iter().map(std::fs::DirEntry::path);
-    let is_sheet = |path: &std::path::PathBuf| path.extension().is_some_and(|end| end == "sheet" || end == "txt") && !path.is_dir();
-    let mut files: Vec<String> = paths.filter(is_sheet).map(|path| path.to_string_lossy().into_owned()).collect();
-    files.sort();
-    if files.is_empty() {
-        return Err(Trouble::new(format!("{folder}: no file in this folder ends in .sheet or .txt")));
-    }
-    Ok(files)
+/// Is this content taken as bytes?
+pub fn is_bytes(content: &[u8], call: &Call) -> bool {
+    call.has("--bytes") || (!call.has("--text") && looks_like_bytes(content))
 }

@@ -8,8 +8,10 @@
 pub mod answers;
 pub mod bytes;
 pub mod call;
+pub mod class;
 pub mod explain;
 pub mod input;
+pub mod json;
 pub mod log;
 pub mod model;
 pub mod out;

@@ -4,10 +4,16 @@
 
 use sheet::answers::BAD;
 use sheet::call::Call;
-use sheet::out::Page;
+use sheet::out::{self, Page};
 use sheet::text::names;
 use sheet::verbs::{Verb, ALL};
 use std::process::ExitCode;
+
+/// The loader calls this before the program begins, while a closed standard output can still be told from an open one: later the
+/// language's own beginning puts /dev/null in its place.
+#[used]
+#[link_section = ".init_array"]
+static LOOK_AT_OUTPUT: extern "C" fn() = out::look_at_output;
 
 fn main() -> ExitCode {
     let mut page = Page::new();
@@ -31,7 +37,11 @@ fn answer(arguments: &[String], page: &mut Page) -> Result<(), String> {
     };
     if first == "--help" || first == "-h" || first == "help" {
         let verb = arguments.get(1).and_then(|name| ALL.iter().find(|verb| verb.name == name));
-        page.print(&verb.map_or_else(help, |verb| verb_help(verb)));
+        page.print(&verb.map_or_else(|| HELP.to_string(), |verb| verb_help(verb)));
+        return Ok(());
+    }
+    if first == "--version" {
+        page.print(&version());
         return Ok(());
     }
     let Some(verb) = ALL.iter().find(|verb| verb.name == first) else {
@@ -53,22 +63,12 @@ fn answer(arguments: &[String], page: &mut Page) -> Result<(), String> {
     (verb.act)(&call, page).map_err(|said| format!("{}: {said}{more}", verb.name))
 }
 
-/// The command's help.
-fn help() -> String {
-    let mut help = "Rule sheets for people: as text, judged, checked and drawn. The verdicts come from the proved library.\n\n".to_string();
-    for verb in ALL {
-        help += &format!("  bin/sheet {:<19} {}\n", format!("{} {}", verb.name, verb.usage), verb.about);
-    }
-    help += "
-A file is a sheet as text (docs/TEXT.md) or as bytes (docs/FORMAT.md); - is standard input. A file that is
-empty, begins with a byte below 9 or holds a zero byte is taken as bytes; --bytes and --text overrule that.
+/// The command's help. bin/sheet shows the same file before anything is built.
+const HELP: &str = include_str!("../help/sheet.txt");
 
-  bin/sheet judge examples/clock.txt
-
-bin/sheet VERB --help tells more about a verb. Exit status: 0 done, can be kept, accepted; 1 cannot be kept,
-not accepted; 2 a bad sheet, file or call; 3 no room.
-";
-    help
+/// Which program this is: its version, the commit that it was built from if that was known, and the toolchain that proved the library.
+fn version() -> String {
+    format!("sheet {}, {}, {}\n", env!("SHEET_VERSION"), env!("SHEET_COMMIT"), env!("SHEET_KIT"))
 }
 
 /// A verb's help.

@@ -2,7 +2,24 @@
 
 use crate::answers::{BAD, GOOD};
 use std::io::{ErrorKind, IsTerminal, Write};
+use std::sync::atomic::{AtomicBool, Ordering};
 use std::time::{Duration, Instant};
+
+/// Whether standard output was closed when the process began.
+static OUTPUT_IS_CLOSED: AtomicBool = AtomicBool::new(false);
+
+extern "C" {
+    fn fcntl(file: i32, command: i32, ...) -> i32;
+}
+
+/// Notes whether standard output is closed.
+pub extern "C" fn look_at_output() {
+    const STANDARD_OUTPUT: i32 = 1;
+    const GET_FLAGS: i32 = 1;
+    // SAFETY: asking for a descriptor's flags changes nothing, and a descriptor that is not open is answered with -1.
+    let flags = unsafe { fcntl(STANDARD_OUTPUT, GET_FLAGS) };
+    OUTPUT_IS_CLOSED.store(flags < 0, Ordering::Relaxed);
+}
 
 /// Whether colours are wanted.
 #[derive(Clone, Copy, Debug)]
@@ -67,6 +84,12 @@ impl Page {
     /// Writes a result's bytes.
     pub fn write(&mut self, bytes: &[u8]) {
         if self.closed {
+            return;
+        }
+        if OUTPUT_IS_CLOSED.load(Ordering::Relaxed) {
+            self.closed = true;
+            self.say("sheet: standard output is closed, so there is nowhere to tell the result\n");
+            self.raise(BAD);
             return;
         }
         let mut out = std::io::stdout().lock();

@@ -46,6 +46,11 @@ impl Account {
         self.0[4]
     }
 
+    /// Forgets the breach, so that the account can tell the next one. Any numbers can be handed in, so these, too.
+    pub fn pardon(&mut self) {
+        self.0[2..5].fill(0);
+    }
+
     /// How many moves kept each step rule.
     pub fn kept(&self) -> &[u32] {
         &self.0[5..5 + TALLIES]

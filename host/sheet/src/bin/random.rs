@@ -4,6 +4,11 @@
 
 #![deny(warnings)]
 
+#[path = "random/logs.rs"]
+mod logs;
+#[path = "random/sentences.rs"]
+mod sentences;
+
 use plain::edges::edges;
 use plain::make::{random_sheet, Rng, DAMAGES};
 use plain::rules::Rules;
@@ -20,7 +25,7 @@ use sheet::{bytes, proved};
 /// A part of the test: so many sheets; what is wrong, if something is.
 type Part = (&'static str, fn(&mut Rng, usize) -> Result<String, String>);
 
-const PARTS: [Part; 7] = [
+const PARTS: &[Part] = &[
     ("bytes to text and back", round_trip),
     ("damaged text", damaged_text),
     ("damaged bytes", damaged_bytes),
@@ -28,6 +33,9 @@ const PARTS: [Part; 7] = [
     ("reasons against papers", reasons),
     ("states struck in pictures", pictures),
     ("rules that fight", fights),
+    ("breaches of logs", logs::breaches),
+    ("sheets of a class", classes),
+    ("lines to write instead", sentences::written_instead),
 ];
 
 fn main() {
@@ -311,4 +319,17 @@ fn fights(rng: &mut Rng, sheets: usize) -> Result<String, String> {
         return Err(format!("saw {seen:?}"));
     }
     Ok(format!("{} sheets that can be kept, {} without a rule that fights, {} with some", seen[0], seen[1], seen[2]))
+}
+
+/// What a class of sheets gets in one call is what each gets alone.
+fn classes(rng: &mut Rng, sheets: usize) -> Result<String, String> {
+    let class: Vec<Vec<u8>> = (0..sheets / 500).map(|_| source(rng, 6).bytes).collect();
+    let joined: Vec<&[u8]> = class.iter().map(Vec::as_slice).collect();
+    for (sheet, got) in class.iter().zip(proved::judge_class(&joined)) {
+        let alone = proved::judge(sheet).numbers;
+        if got != [alone.answer, alone.count, alone.a, alone.b] {
+            return Err(format!("{got:?}, but alone {alone:?}\n{sheet:02x?}"));
+        }
+    }
+    Ok(format!("{} sheets, the same numbers as alone", class.len()))
 }

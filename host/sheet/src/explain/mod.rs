@@ -6,7 +6,7 @@ mod run;
 mod strikes;
 
 use crate::input::Source;
-use crate::model::{Sheet, State};
+use crate::model::{count_true, Limit, Sheet, State};
 use crate::paper::Paper;
 use crate::text::print;
 use plain::rules::Rules;
@@ -37,5 +37,14 @@ pub fn unlawful(sheet: &Sheet, state: State) -> Option<String> {
         return Some(format!("{state} is no state of this sheet: with {letters} letters, states are the numbers 0 to {most}"));
     }
     let limit = sheet.broken_limit(state)?;
-    Some(format!("limit {} is broken: {}", limit + 1, print::limit(sheet, &sheet.limits[limit])))
+    let (number, limit) = (limit + 1, &sheet.limits[limit]);
+    Some(format!("limit {number} is broken: {} ({})", print::limit(sheet, limit), held(limit, state)))
+}
+
+/// How many of a limit's list hold in a state, and how many may or must.
+fn held(limit: &Limit, state: State) -> String {
+    let (many, bound) = (count_true(&limit.list, state), limit.bound);
+    let verb = if many == 1 { "holds" } else { "hold" };
+    let asked = if limit.exactly { format!("exactly {bound} must") } else { format!("at most {bound} may") };
+    format!("{many} {verb}, {asked}")
 }

@@ -32,10 +32,12 @@ fn bad_move(sheet: &Sheet, states: &[State], back: usize) -> Option<Vec<String>>
         let is_last = moment + 1 == states.len();
         let next = if is_last { back } else { moment + 1 };
         let (from, to) = (states[moment], states[next]);
-        let said = unlawful(sheet, to).or_else(|| {
-            let step = sheet.broken_step(from, to)?;
-            Some(format!("step {} is broken: {}", step + 1, print::step(sheet, &sheet.steps[step])))
-        })?;
+        // A limit is about one moment, and no move is to blame.
+        if let Some(said) = unlawful(sheet, to) {
+            return Some(vec![format!("at moment {next}, {said}"), at(sheet, next, to)]);
+        }
+        let step = sheet.broken_step(from, to)?;
+        let said = format!("step {} is broken: {}", step + 1, print::step(sheet, &sheet.steps[step]));
         let going = if is_last { "back to" } else { "to" };
         Some(vec![format!("from moment {moment} {going} moment {next}, {said}"), at(sheet, moment, from), at(sheet, next, to)])
     })

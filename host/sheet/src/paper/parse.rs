@@ -33,7 +33,7 @@ fn run<'t>(lines: impl Iterator<Item = Line<'t>>, sheet: &Sheet) -> Result<Paper
     let mut states = Vec::new();
     let mut lines = lines;
     while let Some(mut line) = lines.next() {
-        if line.skip("back") {
+        if !is_letter(&line, sheet) && line.skip("back") {
             line.expect("to")?;
             let a = line.number("a moment", u32::MAX.into())? as u32;
             line.end("the line's end")?;
@@ -47,12 +47,27 @@ fn run<'t>(lines: impl Iterator<Item = Line<'t>>, sheet: &Sheet) -> Result<Paper
     Err(Fault::whole("this run does not say where it goes back to").expected("`back to MOMENT` as its last line, moments counted from 0"))
 }
 
+/// The states of a run that ends without `back to`, if that is the only thing wrong with it.
+pub fn walk(text: &str, sheet: &Sheet) -> Option<Vec<State>> {
+    let whole = format!("{text}\nback to 0\n");
+    match parse(&whole, sheet) {
+        Ok(Paper::Run(states, _)) if !states.is_empty() => Some(states),
+        _ => None,
+    }
+}
+
+/// Does the line name a state by a letter that is called like this word of papers? Then it ends behind it or goes on with a comma.
+fn is_letter(line: &Line<'_>, sheet: &Sheet) -> bool {
+    let named = sheet.names.iter().any(|name| Some(name.as_str()) == line.peek());
+    named && line.peek_behind().is_none_or(|behind| behind == ",")
+}
+
 /// Headings, each with its states below it.
 fn strikes<'t>(lines: impl Iterator<Item = Line<'t>>, sheet: &Sheet) -> Result<Paper, Fault> {
     let (mut states, mut words) = (Vec::new(), Vec::new());
     let mut heading = None;
     for mut line in lines {
-        if let Some(word) = word(&mut line)? {
+        if let Some(word) = word(&mut line, sheet)? {
             heading = Some(word);
             continue;
         }
@@ -68,8 +83,10 @@ fn strikes<'t>(lines: impl Iterator<Item = Line<'t>>, sheet: &Sheet) -> Result<P
 }
 
 /// A heading's word, if the line is a heading.
-fn word(line: &mut Line<'_>) -> Result<Option<u32>, Fault> {
-    let word = if line.skip("word") {
+fn word(line: &mut Line<'_>, sheet: &Sheet) -> Result<Option<u32>, Fault> {
+    let word = if is_letter(line, sheet) {
+        return Ok(None);
+    } else if line.skip("word") {
         line.number("a word", u32::MAX.into())? as u32
     } else if line.skip("round") {
         let round = line.number("a round", (u32::MAX / REASONS - 1).into())? as u32;
@@ -100,7 +117,7 @@ fn reason(line: &mut Line<'_>) -> Result<u32, Fault> {
 }
 
 /// A state on a line of its own.
-fn state(line: &mut Line<'_>, sheet: &Sheet) -> Result<State, Fault> {
+pub fn state(line: &mut Line<'_>, sheet: &Sheet) -> Result<State, Fault> {
     if line.skip("none") {
         line.end("the line's end")?;
         return Ok(0);

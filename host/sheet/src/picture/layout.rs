@@ -23,9 +23,9 @@ pub struct Spot {
 /// Gaps between boxes, wide enough for arrows.
 const GAP: (f64, f64) = (110.0, 72.0);
 
-/// A box for each state, all of one size.
-pub fn lay_out(graph: &Graph, width: f64, height: f64) -> Vec<Spot> {
-    let columns = columns(graph);
+/// A box for each state, all of one size; so that the moves that are drawn cross little.
+pub fn lay_out(graph: &Graph, drawn: &[Vec<usize>], width: f64, height: f64) -> Vec<Spot> {
+    let columns = columns(graph, drawn);
     let mut spots = vec![Spot { x: 0.0, y: 0.0, width, height }; graph.states.len()];
     let mut top = 0.0;
     for (turn, band) in columns.chunks(MOST_WIDE).enumerate() {
@@ -48,18 +48,18 @@ pub fn lay_out(graph: &Graph, width: f64, height: f64) -> Vec<Spot> {
 }
 
 /// The states by their depth, each column put in an order in which arrows cross little, long ones parted.
-fn columns(graph: &Graph) -> Vec<Vec<usize>> {
+fn columns(graph: &Graph, drawn: &[Vec<usize>]) -> Vec<Vec<usize>> {
     let deepest = graph.depth.iter().copied().max().unwrap_or(0);
     let mut layers: Vec<Vec<usize>> =
         (0..=deepest).map(|depth| (0..graph.states.len()).filter(|&place| graph.depth[place] == depth).collect()).collect();
     for _ in 0..4 {
         for at in 1..layers.len() {
             let (before, here) = layers.split_at_mut(at);
-            sort_by_neighbours(&mut here[0], &before[at - 1], |one, other| graph.moves[other].contains(&one));
+            sort_by_neighbours(&mut here[0], &before[at - 1], |one, other| drawn[other].contains(&one));
         }
         for at in (1..layers.len()).rev() {
             let (before, after) = layers.split_at_mut(at);
-            sort_by_neighbours(&mut before[at - 1], &after[0], |one, other| graph.moves[one].contains(&other));
+            sort_by_neighbours(&mut before[at - 1], &after[0], |one, other| drawn[one].contains(&other));
         }
     }
     layers.iter().flat_map(|layer| parted(layer)).collect()

@@ -1,6 +1,9 @@
 //! What the colours and signs mean, below the picture: only those that occur in it.
 
+use crate::paper::REASONS;
 use crate::picture::svg::{colours, escape, Picture};
+use crate::picture::thin::is_thinned;
+use crate::story::parted;
 use crate::text::print;
 
 /// The height of a line.
@@ -17,10 +20,11 @@ enum Sign {
     Arrow(&'static str),
     Pill,
     Star,
+    None,
 }
 
-/// The notes to a picture.
-pub fn lines(picture: &Picture<'_>) -> Vec<Note> {
+/// The notes to a picture in which so many moves are drawn.
+pub fn lines(picture: &Picture<'_>, drawn: usize) -> Vec<Note> {
     let note = |sign: Sign, words: &str| Note { sign, words: words.to_string() };
     let mut notes = Vec::new();
     let words = &picture.graph.words;
@@ -30,8 +34,16 @@ pub fn lines(picture: &Picture<'_>) -> Vec<Note> {
     if let Some(&word) = words.iter().flatten().min() {
         notes.push(note(Sign::Box(Some(word)), "struck: no obeying run comes here; the round and the reason stand below the letters"));
     }
+    if words.iter().flatten().any(|&word| word % REASONS == 0 && word / REASONS > 1) {
+        notes.push(note(Sign::None, "all ways on struck: each next state was struck in an earlier round"));
+    }
     if !words.is_empty() {
         notes.push(note(Sign::Arrow("move"), "a move; an arrow from nowhere points to a first state"));
+    }
+    if is_thinned(picture.graph) {
+        let all = parted(picture.graph.moves.iter().map(Vec::len).sum());
+        let chosen = "one into each state on a shortest way from a first state, one out of it, and the sample run";
+        notes.push(note(Sign::None, &format!("{} of {all} moves are drawn: {chosen}", parted(drawn))));
     }
     if picture.run.is_some() {
         notes.push(note(Sign::Arrow("run"), "the sample run"));
@@ -74,6 +86,7 @@ fn one(note: &Note, y: f64) -> String {
             format!("<path d=\"M0 {0:.1}L40 {0:.1}\" stroke=\"{colour}\" stroke-width=\"{thick}\" marker-end=\"url(#{name})\"/>", y - 5.0)
         }
         Sign::Pill => format!("<rect x=\"10\" y=\"{:.1}\" width=\"22\" height=\"18\" rx=\"9\" fill=\"#1557b0\"/>", y - 14.0),
+        Sign::None => String::new(),
         Sign::Star => format!("<text x=\"13\" y=\"{y:.1}\" font-size=\"17\" fill=\"#2e5d2e\">\u{2605}</text>"),
     };
     format!("{sign}\n<text x=\"54\" y=\"{y:.1}\" font-size=\"17\" fill=\"#404040\">{}</text>\n", escape(&note.words))

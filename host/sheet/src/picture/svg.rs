@@ -5,7 +5,8 @@ use crate::paper::{print::heading, REASONS};
 use crate::picture::curve::{arrow, Point};
 use crate::picture::graph::Graph;
 use crate::picture::layout::{lay_out, Spot};
-use crate::picture::legend;
+use crate::picture::{legend, thin};
+use crate::story::count;
 use crate::text::print;
 
 /// The height of a line of letters, and of a smaller line below them.
@@ -45,17 +46,22 @@ pub fn draw(picture: &Picture<'_>) -> String {
     let most_lines = labels.iter().map(Vec::len).max().unwrap_or(1);
     let struck = picture.graph.words.iter().any(Option::is_some);
     let kept = !picture.sheet.promises.is_empty();
-    let captions = f64::from(u8::from(struck)) + f64::from(u8::from(kept));
-    let width = (longest as f64 * CHARACTER + 32.0).max(if struck { 186.0 } else { 120.0 });
+    let drawn = thin::drawn(picture.graph, &run_moves(picture));
+    let thinned = thin::is_thinned(picture.graph);
+    let captions = f64::from(u8::from(struck)) + f64::from(u8::from(kept)) + f64::from(u8::from(thinned));
+    let captions_width =
+        picture.graph.words.iter().flatten().map(|&word| self::struck(word).chars().count()).max().unwrap_or(0) as f64 * 7.6;
+    let least = if struck { 186.0_f64.max(captions_width + 24.0) } else { 120.0 };
+    let width = (longest as f64 * CHARACTER + 32.0).max(least);
     let height = most_lines as f64 * LINE + captions * SMALL_LINE + 22.0;
-    let spots = lay_out(picture.graph, width, height);
-    let (low, high) = extent(picture.graph, &spots);
-    let notes = legend::lines(picture);
+    let spots = lay_out(picture.graph, &drawn, width, height);
+    let (low, high) = extent(&drawn, &spots);
+    let notes = legend::lines(picture, drawn.iter().map(Vec::len).sum());
     let wide = (high.0 - low.0).max(legend::width(&notes)).max(picture.title.chars().count() as f64 * TITLE_CHARACTER);
     let mut svg = head(wide + 2.0 * BORDER, high.1 - low.1 + 2.4 * BORDER + TITLE + legend::height(&notes), &picture.title);
     svg += &format!("<g transform=\"translate({:.1} {:.1})\">\n", BORDER - low.0, BORDER + TITLE - low.1);
-    svg += &moves(picture, &spots);
-    svg += &run_arrows(picture, &spots);
+    svg += &moves(picture, &drawn, &spots);
+    svg += &run_arrows(picture, &drawn, &spots);
     for (place, spot) in spots.iter().enumerate() {
         svg += &state_box(picture, place, spot, &labels[place]);
     }
@@ -65,13 +71,13 @@ pub fn draw(picture: &Picture<'_>) -> String {
 }
 
 /// The corners of the room that boxes and arrows take.
-fn extent(graph: &Graph, spots: &[Spot]) -> (Point, Point) {
+fn extent(drawn: &[Vec<usize>], spots: &[Spot]) -> (Point, Point) {
     let boxes = spots.iter().map(|spot| {
         let half = (spot.width / 2.0, spot.height / 2.0);
         ((spot.x - half.0, spot.y - half.1), (spot.x + half.0, spot.y + half.1))
     });
-    let arrows = graph.moves.iter().enumerate().flat_map(|(from, tos)| tos.iter().map(move |&to| (from, to)));
-    let arrows = arrows.map(|(from, to)| arrow(spots, &graph.moves, from, to)).map(|arrow| (arrow.low, arrow.high));
+    let arrows = drawn.iter().enumerate().flat_map(|(from, tos)| tos.iter().map(move |&to| (from, to)));
+    let arrows = arrows.map(|(from, to)| arrow(spots, drawn, from, to)).map(|arrow| (arrow.low, arrow.high));
     boxes.chain(arrows).fold(((0.0, 0.0), (0.0, 0.0)), |(low, high): (Point, Point), (lower, higher)| {
         ((low.0.min(lower.0), low.1.min(lower.1)), (high.0.max(higher.0), high.1.max(higher.1)))
     })
@@ -100,18 +106,17 @@ fn marker(name: &str, colour: &str) -> String {
 }
 
 /// The moves as grey arrows, and a short arrow to each first state.
-fn moves(picture: &Picture<'_>, spots: &[Spot]) -> String {
-    let graph = picture.graph;
-    let many = graph.moves.iter().map(Vec::len).sum::<usize>() > MANY_MOVES;
+fn moves(picture: &Picture<'_>, drawn: &[Vec<usize>], spots: &[Spot]) -> String {
+    let many = thin::is_thinned(picture.graph) || drawn.iter().map(Vec::len).sum::<usize>() > MANY_MOVES;
     let (thick, pale) = if many { (1.0, 0.45) } else { (1.8, 1.0) };
     let mut svg = format!("<g fill=\"none\" stroke=\"#777777\" stroke-width=\"{thick}\" opacity=\"{pale}\">\n");
-    for (from, tos) in graph.moves.iter().enumerate() {
+    for (from, tos) in drawn.iter().enumerate() {
         for &to in tos {
-            svg += &format!("<path d=\"{}\" marker-end=\"url(#move)\"/>\n", arrow(spots, &graph.moves, from, to).path);
+            svg += &format!("<path d=\"{}\" marker-end=\"url(#move)\"/>\n", arrow(spots, drawn, from, to).path);
         }
     }
     svg += "</g>\n<g fill=\"none\" stroke=\"#777777\" stroke-width=\"2.6\">\n";
-    for spot in &spots[..graph.first] {
+    for spot in &spots[..picture.graph.first] {
         let left = spot.x - spot.width / 2.0;
         svg += &format!("<path d=\"M{:.1} {1:.1}L{left:.1} {1:.1}\" marker-end=\"url(#move)\"/>\n", left - 38.0, spot.y);
     }
@@ -131,7 +136,10 @@ fn state_box(picture: &Picture<'_>, place: usize, spot: &Spot, label: &[String])
     let kept: Vec<String> = picture.sheet.kept(picture.graph.states[place]).iter().map(|promise| (promise + 1).to_string()).collect();
     let mut small: Vec<(String, &str)> = Vec::new();
     if let Some(word) = word {
-        small.push((heading(word), "#8c1d18"));
+        small.push((struck(word), "#8c1d18"));
+    }
+    if thin::is_thinned(picture.graph) {
+        small.push((count(picture.graph.moves[place].len(), "move") + " on", "#555555"));
     }
     if !kept.is_empty() {
         small.push((format!("\u{2605} {}", kept.join(", ")), "#2e5d2e"));
@@ -146,6 +154,14 @@ fn state_box(picture: &Picture<'_>, place: usize, spot: &Spot, label: &[String])
         svg += &text(spot.x, y - 4.0, 15, colour, line);
     }
     svg
+}
+
+/// When a state is struck and why. From a state without a way on no arrow leads; from one that is struck later arrows do, to struck states.
+pub fn struck(word: u32) -> String {
+    match (word / REASONS, word % REASONS) {
+        (round, 0) if round > 1 => format!("round {round}, all ways on struck"),
+        _ => heading(word),
+    }
 }
 
 /// Fill and line of a state: green if it is livable, red if it is struck, paler the later.
@@ -165,17 +181,24 @@ fn run_places(picture: &Picture<'_>) -> Vec<usize> {
     states.iter().filter_map(|&state| picture.graph.place_of(state)).collect()
 }
 
-/// The sample run's moves, on top of the others: blue arrows.
-fn run_arrows(picture: &Picture<'_>, spots: &[Spot]) -> String {
+/// The sample run's moves, each once; none without a run.
+pub fn run_moves(picture: &Picture<'_>) -> Vec<(usize, usize)> {
     let (places, back) = (run_places(picture), picture.run.map_or(0, |(_, a)| a as usize));
-    let mut drawn: Vec<(usize, usize)> = Vec::new();
-    let mut svg = "<g fill=\"none\" stroke=\"#1557b0\" stroke-width=\"3.4\">\n".to_string();
+    let mut moves: Vec<(usize, usize)> = Vec::new();
     for (moment, &from) in places.iter().enumerate() {
         let to = *places.get(moment + 1).unwrap_or(&places[back]);
-        if !drawn.contains(&(from, to)) {
-            drawn.push((from, to));
-            svg += &format!("<path d=\"{}\" marker-end=\"url(#run)\"/>\n", arrow(spots, &picture.graph.moves, from, to).path);
+        if !moves.contains(&(from, to)) {
+            moves.push((from, to));
         }
+    }
+    moves
+}
+
+/// The sample run's moves, on top of the others: blue arrows.
+fn run_arrows(picture: &Picture<'_>, drawn: &[Vec<usize>], spots: &[Spot]) -> String {
+    let mut svg = "<g fill=\"none\" stroke=\"#1557b0\" stroke-width=\"3.4\">\n".to_string();
+    for (from, to) in run_moves(picture) {
+        svg += &format!("<path d=\"{}\" marker-end=\"url(#run)\"/>\n", arrow(spots, drawn, from, to).path);
     }
     svg + "</g>\n"
 }

@@ -1,6 +1,8 @@
 //! A fault in a text, told as a compiler tells it: file, line, the line itself with a mark under the word, what was expected.
 
 use crate::out::Colour;
+use crate::text::instead::Instead;
+use crate::text::width;
 
 /// A fault at a place in a text.
 #[derive(Clone, Debug)]
@@ -13,6 +15,8 @@ pub struct Fault {
     pub hint: Option<String>,
     /// What was expected.
     pub expected: Option<String>,
+    /// What to write instead.
+    pub instead: Option<Instead>,
 }
 
 /// A word's place in a text.
@@ -30,11 +34,18 @@ pub struct Place {
 
 /// So many faults of one text are shown.
 const MOST_SHOWN: usize = 10;
+/// A word of more characters than this is cut where it is quoted.
+const LONGEST_QUOTED: usize = 40;
+/// A line of more characters than this is cut where it is shown, and so many characters stand before the mark then.
+const LONGEST_LINE: usize = 160;
+const BEFORE_MARK: usize = 60;
+/// What stands where a line or a word was cut.
+const CUT: &str = "..";
 
 impl Fault {
     /// A fault of the whole text.
     pub fn whole(said: impl Into<String>) -> Fault {
-        Fault { said: said.into(), place: None, hint: None, expected: None }
+        Fault { said: said.into(), place: None, hint: None, expected: None, instead: None }
     }
 
     /// With what was expected.
@@ -46,6 +57,12 @@ impl Fault {
     /// With a hint beside the mark, if there is one.
     pub fn hint(mut self, hint: Option<String>) -> Fault {
         self.hint = hint;
+        self
+    }
+
+    /// With what to write instead, if that is known.
+    pub fn instead(mut self, instead: Option<Instead>) -> Fault {
+        self.instead = instead;
         self
     }
 
@@ -62,19 +79,38 @@ impl Fault {
         if let Some(expected) = &self.expected {
             shown += &format!("     expected {expected}\n");
         }
+        if let Some(instead) = &self.instead {
+            shown += &format!("     {}\n", instead.why);
+            instead.lines.iter().for_each(|line| shown += &format!("       {line}\n"));
+        }
         shown
     }
 }
 
 impl Place {
-    /// The line, and under it the mark.
+    /// The line, and under it the mark; of a long line the part round the word.
     fn show(&self, hint: Option<&str>, colour: Colour) -> String {
+        let signs: Vec<char> = self.text.chars().collect();
+        let from = if signs.len() > LONGEST_LINE { self.before.saturating_sub(BEFORE_MARK) } else { 0 };
+        let to = signs.len().min(from + LONGEST_LINE);
+        let (front, end) = (if from > 0 { CUT } else { "" }, if to < signs.len() { CUT } else { "" });
+        let word = self.before.min(to);
         // A tab stays a tab, so that the mark stands under the word.
-        let before: String = self.text.chars().take(self.before).map(|c| if c == '\t' { c } else { ' ' }).collect();
-        let mark = "^".repeat(self.width.max(1));
+        let blank = |&sign: &char| if sign == '\t' { "\t".to_string() } else { " ".repeat(width::of_char(sign)) };
+        let before: String = signs[from..word].iter().map(blank).collect();
+        let marked: usize = signs[word..to.min(word + self.width)].iter().map(|&sign| width::of_char(sign)).sum();
         let beside = hint.map(|hint| format!(" {hint}")).unwrap_or_default();
-        let mark = colour.red(&format!("{mark}{beside}"));
-        format!("{:>4} | {}\n     | {before}{mark}\n", self.line, harmless(&self.text))
+        let mark = colour.red(&format!("{}{beside}", "^".repeat(marked.max(1))));
+        let line = harmless(&signs[from..to].iter().collect::<String>());
+        format!("{:>4} | {front}{line}{end}\n     | {}{before}{mark}\n", self.line, " ".repeat(front.len()))
+    }
+}
+
+/// A word between signs of quotation; a long one is cut.
+pub fn quoted(word: &str) -> String {
+    match word.char_indices().nth(LONGEST_QUOTED) {
+        Some((at, _)) => format!("`{}{CUT}`", &word[..at]),
+        None => format!("`{word}`"),
     }
 }
 

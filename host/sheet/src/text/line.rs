@@ -1,6 +1,6 @@
 //! A line of text as words. A comma is a word of its own; `#` begins a comment.
 
-use crate::text::fault::{Fault, Place};
+use crate::text::fault::{quoted, Fault, Place};
 use crate::text::names;
 
 /// A word and its place.
@@ -28,7 +28,8 @@ pub fn lines(text: &str) -> impl Iterator<Item = Line<'_>> {
 }
 
 impl<'t> Line<'t> {
-    fn new(number: usize, text: &'t str) -> Line<'t> {
+    /// A line of a text, with its number.
+    pub fn new(number: usize, text: &'t str) -> Line<'t> {
         let mut words = Vec::new();
         let mut open: Option<(usize, usize)> = None;
         let said = &text[..text.find('#').unwrap_or(text.len())];
@@ -47,9 +48,24 @@ impl<'t> Line<'t> {
         Line { number, text: text.trim_end(), words, next: 0 }
     }
 
+    /// The words of a line's part, all else blank there, in a line that is shown whole.
+    pub fn shown_as(number: usize, part: &'t str, text: &'t str) -> Line<'t> {
+        Line { text: text.trim_end(), ..Line::new(number, part) }
+    }
+
     /// The next word, which stays the next.
     pub fn peek(&self) -> Option<&'t str> {
         self.words.get(self.next).map(|word| word.text)
+    }
+
+    /// The word behind the next one.
+    pub fn peek_behind(&self) -> Option<&'t str> {
+        self.words.get(self.next + 1).map(|word| word.text)
+    }
+
+    /// All words of the line.
+    pub fn words(&self) -> Vec<&'t str> {
+        self.words.iter().map(|word| word.text).collect()
     }
 
     /// The next word, which is passed.
@@ -86,7 +102,7 @@ impl<'t> Line<'t> {
     pub fn unexpected(&self, expected: &str) -> Fault {
         let said = match self.peek() {
             None => "the line ends too soon".to_string(),
-            Some(word) => format!("`{word}` cannot stand here"),
+            Some(word) => format!("{} cannot stand here", quoted(word)),
         };
         self.fault(said).expected(expected)
     }
@@ -129,7 +145,7 @@ impl<'t> Line<'t> {
                 self.next += 1;
                 Ok(number)
             }
-            _ => Err(self.fault(format!("`{word}` is too large")).expected(expected)),
+            _ => Err(self.fault(format!("{} is too large", quoted(word))).expected(expected)),
         }
     }
 }

@@ -1,9 +1,11 @@
 //! The letters' names: which are allowed, which the letters of a sheet of bytes get, and which one a misspelt word was meant to be.
 
-/// Words of the text form, which cannot be names.
-pub const KEYWORDS: [&str; 22] = [
+use crate::text::fault::quoted;
+
+/// Words of the text form, which cannot be names. Words that mean something in papers alone can: a paper's lines tell them apart.
+pub const KEYWORDS: [&str; 17] = [
     "letters", "limit", "exactly", "at", "most", "of", "first", "step", "leads", "to", "promise", "not", "and", "or", "nothing", "always",
-    "none", "run", "strikes", "round", "word", "back",
+    "none",
 ];
 
 /// The most characters that a name has.
@@ -12,15 +14,15 @@ pub const MOST_CHARACTERS: usize = 30;
 /// Why a word cannot be a name, if it cannot.
 pub fn refusal(word: &str) -> Option<String> {
     if KEYWORDS.contains(&word.to_lowercase().as_str()) {
-        return Some(format!("`{word}` is a word of the text form and cannot be a name"));
+        return Some(format!("{} is a word of the text form and cannot be a name", quoted(word)));
     }
     if !word.starts_with(char::is_alphabetic) {
-        return Some(format!("`{word}` cannot be a name: a name begins with a letter of the alphabet"));
+        return Some(format!("{} cannot be a name: a name begins with a letter of the alphabet", quoted(word)));
     }
     if let Some(odd) = word.chars().find(|&c| !c.is_alphanumeric() && c != '-' && c != '_') {
-        return Some(format!("`{word}` cannot be a name: `{odd}` cannot stand in one"));
+        return Some(format!("{} cannot be a name: `{odd}` cannot stand in one", quoted(word)));
     }
-    (word.chars().count() > MOST_CHARACTERS).then(|| format!("`{word}` is too long for a name"))
+    (word.chars().count() > MOST_CHARACTERS).then(|| format!("{} is too long for a name", quoted(word)))
 }
 
 /// What a name is made of.
@@ -46,14 +48,20 @@ fn counted(mut place: usize) -> String {
 /// The one of these words that is nearest to a misspelt one, if one is near enough.
 pub fn nearest<'a>(word: &str, candidates: impl IntoIterator<Item = &'a str>) -> Option<&'a str> {
     let small = word.to_lowercase();
+    let length = small.chars().count();
     let near = |candidate: &&'a str| {
-        let away = distance(&small, &candidate.to_lowercase());
+        let other = candidate.chars().count();
         // One slip in a short word, two in a longer one.
-        let allowed = match small.chars().count().max(candidate.chars().count()) {
+        let allowed = match length.max(other) {
             0..=1 => 0,
             2..=4 => 1,
             _ => 2,
         };
+        // Words of such lengths are too far apart; a very long one is not even looked at.
+        if length.abs_diff(other) > allowed {
+            return None;
+        }
+        let away = distance(&small, &candidate.to_lowercase());
         (away <= allowed).then_some(away)
     };
     candidates.into_iter().filter_map(|c| near(&c).map(|away| (away, c))).min_by_key(|&(away, _)| away).map(|(_, c)| c)

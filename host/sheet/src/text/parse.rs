@@ -1,7 +1,8 @@
 //! From text to a sheet, or to its faults: one for each bad line.
 
 use crate::model::{Limit, Literal, Sheet, Step};
-use crate::text::fault::Fault;
+use crate::text::fault::{quoted, Fault};
+use crate::text::instead::{self, Instead};
 use crate::text::line::{lines, Line};
 use crate::text::names;
 use plain::sheet::{HEADER, MOST_BYTES, MOST_LETTERS, MOST_LIMITS, MOST_PROMISES};
@@ -12,8 +13,17 @@ const MOST_RULES: usize = 255;
 /// The words that a line can begin with.
 const BEGINNINGS: [&str; 5] = ["letters", "limit", "first", "step", "promise"];
 
-/// A sheet out of a text.
+/// A sheet out of a text; its faults tell what to write instead, where that is known.
 pub fn parse(text: &str) -> Result<Sheet, Vec<Fault>> {
+    read(text, |record, sheet| instead::of(&record.words(), &sheet.names))
+}
+
+/// Can this text be read?
+pub fn is_good(text: &str) -> bool {
+    read(text, |_, _| None).is_ok()
+}
+
+fn read(text: &str, instead: impl Fn(&Line<'_>, &Sheet) -> Option<Instead>) -> Result<Sheet, Vec<Fault>> {
     let mut lines = lines(text);
     let Some(line) = lines.next() else {
         return Err(vec![Fault::whole("this text names no letters").expected("`letters NAME, NAME, ..` as its first line")]);
@@ -23,7 +33,7 @@ pub fn parse(text: &str) -> Result<Sheet, Vec<Fault>> {
     for mut record in lines {
         match read_record(&mut record, &mut sheet, line.number) {
             Ok(bytes) => size += bytes,
-            Err(fault) => faults.push(fault),
+            Err(fault) => faults.push(fault.instead(instead(&record, &sheet))),
         }
         if size > MOST_BYTES && faults.is_empty() {
             return Err(vec![too_long(&record, size)]);
@@ -57,10 +67,12 @@ fn letters(mut line: Line<'_>) -> Result<Vec<String>, Fault> {
             return Err(line.fault(refusal).expected(names::RULE));
         }
         if named.iter().any(|other| other == name) {
-            return Err(line.fault(format!("`{name}` is named twice")).expected("another name"));
+            return Err(line.fault(format!("{} is named twice", quoted(name))).expected("another name"));
         }
         if named.len() == usize::from(MOST_LETTERS) {
-            return Err(line.fault(format!("`{name}` is letter {}", named.len() + 1)).expected(format!("at most {MOST_LETTERS} letters")));
+            return Err(line
+                .fault(format!("{} is letter {}", quoted(name), named.len() + 1))
+                .expected(format!("at most {MOST_LETTERS} letters")));
         }
         named.push(name.to_string());
         line.take();
@@ -224,7 +236,7 @@ pub fn letter(line: &mut Line<'_>, names: &[String]) -> Result<usize, Fault> {
         None if names::KEYWORDS.contains(&word) || word == "," => Err(line.unexpected(&all())),
         None => {
             let near = line.meant(names.iter().map(String::as_str));
-            Err(line.fault(format!("no letter is called `{word}`")).hint(near).expected(all()))
+            Err(line.fault(format!("no letter is called {}", quoted(word))).hint(near).expected(all()))
         }
     }
 }

@@ -2,11 +2,11 @@
 
 use crate::answers::{BAD, REFUSED};
 use crate::call::{Call, Choice};
-use crate::input::{self, Source, Trouble};
+use crate::input::{self, Trouble};
+use crate::log::breach::Audit;
 use crate::log::read::{Form, Log};
-use crate::log::told::{self, Breach};
+use crate::log::{json, told};
 use crate::out::{Page, Progress};
-use crate::proved::{self, Account};
 use crate::story::count;
 use crate::verbs::Verb;
 
@@ -16,21 +16,29 @@ pub const VERB: Verb = Verb {
     usage: "SHEET LOG",
     about: "hold a recorded log against a sheet",
     help: "Audits a log: the states that a monitor recorded, in the order in which they came. Tells how many moments were
-read, the first breach with the letters that held before it and at it, and for each step rule how many moves
-kept it and how many broke it. Promises are not judged on a log.
+read, every breach with the letters that held before it and at it (of more than 20 the first 20), how often each
+rule was broken and when first and last, and for each step rule how many moves kept it and how many broke it.
+After a breach the log is held against the sheet as if nothing had happened. Promises are not judged on a log.
 
-The log holds each state as four bytes, the highest first, or as a decimal number, one a line. A log that
-begins with a byte below 9 or holds a zero byte is taken as states of four bytes; --states and --numbers
-overrule that. At most 1,000,000 moments.
+A log is text, one state a line as `check` takes it: a number, the letters that hold, or `none`; # begins a
+comment. Or a table (CSV) that begins with the line `time,state` and has a time before each state; times are
+shown, and moments are counted as they came. Or four bytes for each state, the highest first: a log that begins
+with a byte below 9 is taken so. --states, --numbers and --table overrule that. At most 1,000,000 moments.
 
   bin/sheet audit examples/clock-year.txt year.log
+
+Moments, kinds of breaches, step rules and tallies are the proved audit's; which limit or first rule is broken,
+this command looks up. docs/GUIDE.md has the names in --json.
 
 Exit status: 0 no breach, 1 a breach, 2 a bad sheet, log or call.
 ",
     files: (2, 2),
     choices: &[
         Choice { name: "--states", value: None, about: "take the log as states of four bytes each" },
-        Choice { name: "--numbers", value: None, about: "take the log as decimal numbers, one a line" },
+        Choice { name: "--numbers", value: None, about: "take the log as text, a state a line" },
+        Choice { name: "--table", value: None, about: "take the log as a table (CSV): time,state" },
+        Choice { name: "--all", value: None, about: "tell every breach" },
+        Choice { name: "--json", value: None, about: "for programs: all of it as JSON" },
     ],
     act,
 };
@@ -39,50 +47,46 @@ fn act(call: &Call, page: &mut Page) -> Result<(), String> {
     if call.files[0] == "-" && call.files[1] == "-" {
         return Err("standard input can be the sheet or the log, not both".to_string());
     }
-    let form = match (call.has("--states"), call.has("--numbers")) {
-        (true, true) => return Err("--states and --numbers cannot both be given".to_string()),
-        (true, false) => Some(Form::Bytes),
-        (false, true) => Some(Form::Text),
-        (false, false) => None,
-    };
-    let source = match input::sheet(&call.files[0], call, page.message_colour) {
-        Ok(source) => source,
-        Err(trouble) => {
-            page.trouble(&trouble);
-            return Ok(());
-        }
-    };
-    match Log::new(&call.files[1], form).and_then(|log| audit(&source, log, &input::shown(&call.files[1]), page)) {
-        Ok((account, breach)) => {
-            page.raise(if breach.is_some() { REFUSED } else { 0 });
-            page.print(&told::verdict(&source.sheet, &account, breach, page.colour));
-            page.print(&told::tallies(&source.sheet, &account));
-        }
-        Err(trouble) => page.trouble(&trouble),
+    let form = form(call)?;
+    if let Err(trouble) = audited(call, form, page) {
+        page.trouble(&trouble);
     }
     Ok(())
 }
 
-/// The whole log's account, and the states of its first breach.
-fn audit(source: &Source, mut log: Log, name: &str, page: &mut Page) -> Result<(Account, Option<Breach>), Trouble> {
-    let (mut account, mut breach, mut progress) = (Account::new(), None, Progress::new());
-    while let Some(states) = log.piece()? {
-        let (read, last) = (account.count() as usize, account.last());
-        let answer = proved::audit(&source.bytes, &mut account, &states);
-        if answer != 0 {
-            return Err(refused(name, answer));
-        }
-        if breach.is_none() && account.what() != 0 {
-            let at = account.moment() as usize - read;
-            let before = if at > 0 { Some(states[at - 1]) } else { (read > 0).then_some(last) };
-            breach = Some(Breach { before, state: states[at] });
-        }
-        progress.tell(page, || format!("audit: {} so far", count(account.count() as usize, "moment")));
+/// The log's form, if it is given.
+fn form(call: &Call) -> Result<Option<Form>, String> {
+    let forms = [("--states", Form::Bytes), ("--numbers", Form::Text), ("--table", Form::Table)];
+    let mut given = forms.iter().filter(|(name, _)| call.has(name));
+    match (given.next(), given.next()) {
+        (Some((one, _)), Some((other, _))) => Err(format!("{one} and {other} cannot both be given")),
+        (form, _) => Ok(form.map(|&(_, form)| form)),
     }
-    if account.count() == 0 {
+}
+
+/// Audits the log and tells it.
+fn audited(call: &Call, form: Option<Form>, page: &mut Page) -> Result<(), Trouble> {
+    let source = input::sheet(&call.files[0], call, page.message_colour)?;
+    let (sheet, name) = (&source.sheet, input::shown(&call.files[1]));
+    let mut log = Log::new(&call.files[1], form, sheet, page.message_colour)?;
+    let (mut audit, mut progress) = (Audit::new(sheet, &source.bytes, call.has("--all")), Progress::new());
+    while let Some(piece) = log.piece()? {
+        audit.take(&piece).map_err(|answer| refused(&name, answer))?;
+        progress.tell(page, || format!("audit: {} so far", count(audit.account.count() as usize, "moment")));
+    }
+    if audit.account.count() == 0 {
         return Err(Trouble::new(format!("{name}: the log is empty; there is no moment to audit")));
     }
-    Ok((account, breach))
+    page.raise(if audit.count() > 0 { REFUSED } else { 0 });
+    if call.has("--json") {
+        page.print(&json::whole(sheet, &audit, &source.name, &name));
+        return Ok(());
+    }
+    page.print(&told::verdict(sheet, &audit, page.colour));
+    page.print(&told::broken(sheet, &audit));
+    page.print(&told::tallies(sheet, &audit.account));
+    page.print(&told::promises(sheet));
+    Ok(())
 }
 
 /// Why the proved audit took no more.

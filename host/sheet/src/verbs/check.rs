@@ -1,14 +1,15 @@
 //! `check SHEET PAPER`: is a run or a strike list accepted? The verdict is the proved checker's; where it is not, this command says why.
 
-use crate::answers::REFUSED;
-use crate::call::Call;
+use crate::answers::{GOOD, REFUSED};
+use crate::call::{Call, Choice};
 use crate::explain;
 use crate::input::{self, Source};
+use crate::json;
 use crate::out::Page;
 use crate::paper::{parse, Paper};
 use crate::proved;
 use crate::story::count;
-use crate::verbs::Verb;
+use crate::verbs::{walk, Verb};
 
 /// The verb.
 pub const VERB: Verb = Verb {
@@ -25,7 +26,9 @@ is a text, by hand or by `judge --paper`; docs/TEXT.md has its form. A run names
   motor
   back to 3
 
-The verdict is the proved checker's. If it does not accept, this command looks for the reason and says so.
+The verdict is the proved checker's. If it does not accept, this command looks for the reason and says so. A run
+without `back to` is no run, and so many moves prove nothing: then the command says what the proved judge says
+of the sheet. docs/GUIDE.md has the names in --json.
 
   bin/sheet judge examples/clock.txt --paper clock.paper
   bin/sheet check examples/clock.txt clock.paper
@@ -33,7 +36,7 @@ The verdict is the proved checker's. If it does not accept, this command looks f
 Exit status: 0 accepted, 1 not accepted, 2 a bad sheet, paper, file or call.
 ",
     files: (2, 2),
-    choices: &[],
+    choices: &[Choice { name: "--json", value: None, about: "for programs: the verdict and the reason as JSON" }],
     act,
 };
 
@@ -42,6 +45,7 @@ fn act(call: &Call, page: &mut Page) -> Result<(), String> {
         return Err("standard input can be the sheet or the paper, not both".to_string());
     }
     match take(call, page) {
+        Ok((source, paper)) if call.has("--json") => as_json(&source, &paper, &input::shown(&call.files[1]), page),
         Ok((source, paper)) => verdict(&source, &paper, page),
         Err(trouble) => page.trouble(&trouble),
     }
@@ -52,26 +56,56 @@ fn act(call: &Call, page: &mut Page) -> Result<(), String> {
 fn take(call: &Call, page: &Page) -> Result<(Source, Paper), input::Trouble> {
     let source = input::sheet(&call.files[0], call, page.message_colour)?;
     let text = input::paper_text(&call.files[1], page.message_colour)?;
-    let paper = parse::parse(&text, &source.sheet).map_err(|fault| input::Trouble {
-        message: fault.show(&input::shown(&call.files[1]), page.message_colour),
-        ..input::Trouble::new(String::new())
-    })?;
-    Ok((source, paper))
+    match parse::parse(&text, &source.sheet) {
+        Ok(paper) => Ok((source, paper)),
+        Err(fault) => {
+            let shown = fault.show(&input::shown(&call.files[1]), page.message_colour);
+            let walk = parse::walk(&text, &source.sheet).map(|states| walk::told(&source, &states)).unwrap_or_default();
+            Err(input::Trouble { message: shown + &walk, ..input::Trouble::new(String::new()) })
+        }
+    }
+}
+
+/// The proved checker's answer.
+fn answer(source: &Source, paper: &Paper) -> u32 {
+    match paper {
+        Paper::Run(states, a) => proved::check_run(&source.bytes, states, *a),
+        Paper::Strikes(states, words) => proved::check_strikes(&source.bytes, states, words),
+    }
+}
+
+/// The answer and the reason as JSON, in one line.
+fn as_json(source: &Source, paper: &Paper, paper_file: &str, page: &mut Page) {
+    let answer = answer(source, paper);
+    let (kind, size, back) = match paper {
+        Paper::Run(states, a) => ("run", states.len(), Some(a.to_string())),
+        Paper::Strikes(states, _) => ("strikes", states.len(), None),
+    };
+    let why = if answer == 0 { Vec::new() } else { explain::reason(source, paper).unwrap_or_default() };
+    let members = [
+        ("sheet", json::string(&source.name)),
+        ("paper", json::string(paper_file)),
+        ("kind", json::string(kind)),
+        ("states", size.to_string()),
+        ("back_to", json::optional(back)),
+        ("answer", answer.to_string()),
+        ("accepted", (answer == 0).to_string()),
+        ("why", json::list(why.iter().map(|line| json::string(line.trim())))),
+    ];
+    page.raise(if answer == 0 { GOOD } else { REFUSED });
+    page.print(&(json::object(members) + "\n"));
 }
 
 /// The proved checker's answer, and then, if it does not accept, this command's reason.
 fn verdict(source: &Source, paper: &Paper, page: &mut Page) {
-    let (answer, what, shows) = match paper {
-        Paper::Run(states, a) => (
-            proved::check_run(&source.bytes, states, *a),
-            format!("this run of {}", count(states.len(), "moment")),
-            format!("Read on from moment {a} for ever, it obeys the sheet."),
-        ),
-        Paper::Strikes(states, words) => (
-            proved::check_strikes(&source.bytes, states, words),
-            format!("this strike list of {}", count(states.len(), "state")),
-            "No run obeys the sheet.".to_string(),
-        ),
+    let answer = answer(source, paper);
+    let (what, shows) = match paper {
+        Paper::Run(states, a) => {
+            (format!("this run of {}", count(states.len(), "moment")), format!("Read on from moment {a} for ever, it obeys the sheet."))
+        }
+        Paper::Strikes(states, _) => {
+            (format!("this strike list of {}", count(states.len(), "state")), "No run obeys the sheet.".to_string())
+        }
     };
     if answer == 0 {
         let accepted = page.colour.green("accepted");

@@ -1,10 +1,9 @@
 //! `class FILE..`: many sheets at once, a line for each, and how many can be kept.
 
-use crate::answers::{BAD, GOOD, NO_ROOM, REFUSED};
-use crate::call::Call;
-use crate::input;
-use crate::out::Page;
-use crate::proved;
+use crate::call::{Call, Choice};
+use crate::class::files::Files;
+use crate::class::{look, told};
+use crate::out::{Page, Progress};
 use crate::story::count;
 use crate::verbs::Verb;
 
@@ -13,109 +12,82 @@ pub const VERB: Verb = Verb {
     name: "class",
     usage: "FILE..",
     about: "judge many sheets, a line for each",
-    help: "Judges any number of sheets and prints a line for each: the file, the verdict, K or R, and b. K is the number
-of livable states of a sheet that can be kept, R that of the reachable states of one that cannot; b is how
-many moments the sample run has. For a bad sheet the line tells its number and the byte at fault. The last
-line counts them; a file without a sheet counts as bad. Of a folder, all files are taken whose names end in
-.sheet or .txt. Verdicts and numbers are the proved library's.
+    help: "Judges any number of sheets and prints a line for each: the file, the verdict, K or R, b, and why. K is the
+number of livable states of a sheet that can be kept, R that of the reachable states of one that cannot; b is
+how many moments the sample run has. For a bad sheet of bytes the line tells its number and the byte at fault,
+for a text that is no sheet the line at fault. Unreadable is a file that is not there or cannot be read. The
+last line counts the verdicts. Of a folder every file is taken, whatever its name ends in, but not those whose
+names begin with a dot; --deep takes the files of the folders in it, too. All processors are used.
 
   bin/sheet class examples/w01.sheet examples/clock.txt
-  bin/sheet class examples
+  bin/sheet class --csv examples > class.csv
+
+Verdicts and numbers are the proved library's; why a sheet cannot be kept is this command's own phrase, and
+`judge` tells more. docs/GUIDE.md has the names in --csv and --json.
 
 Exit status: 0 can be kept, 1 cannot be kept, 2 a bad sheet, file or call, 3 no room (over 16,384 states can be
 reached); of several sheets the greatest.
 ",
     files: (1, usize::MAX),
-    choices: &[],
+    choices: &[
+        Choice { name: "--deep", value: None, about: "take the files of the folders in a folder, too" },
+        Choice { name: "--csv", value: None, about: "for spreadsheets: a line for each file, parted by commas" },
+        Choice { name: "--json", value: None, about: "for programs: all of it as JSON" },
+    ],
     act,
 };
 
-/// A line of the table: the file, and its sheet's bytes if it has a sheet.
-struct Row {
-    file: String,
-    sheet: Option<Vec<u8>>,
-}
-
-/// What is said of one file.
-struct Verdict {
-    words: String,
-    /// K or R, and b.
-    states: String,
-    moments: String,
-    status: u8,
-}
-
 fn act(call: &Call, page: &mut Page) -> Result<(), String> {
     if call.has("--names") {
-        return Err("--names has no use here, for no letter is shown".to_string());
+        return Err("--names has no use here, for the sheets of a class need not have the same letters".to_string());
+    }
+    if call.has("--csv") && call.has("--json") {
+        return Err("--csv and --json cannot both be given".to_string());
     }
     if call.files.iter().filter(|file| *file == "-").count() > 1 {
         return Err("standard input can be read once".to_string());
     }
-    let rows = rows(call, page);
-    if rows.is_empty() {
-        return Ok(());
+    let mut files = Files::default();
+    for named in &call.files {
+        files.add(named, call.has("--deep")).unwrap_or_else(|trouble| page.trouble(&trouble));
     }
-    let sheets: Vec<&[u8]> = rows.iter().filter_map(|row| row.sheet.as_deref()).collect();
-    let mut judged = proved::judge_class(&sheets).into_iter();
-    let verdicts: Vec<Verdict> = rows.iter().map(|row| verdict(row, &mut judged)).collect();
-    table(&rows, &verdicts, page);
-    page.print(&sums(&verdicts));
-    verdicts.iter().for_each(|verdict| page.raise(verdict.status));
+    if !files.files.is_empty() {
+        judged(&files, call, page);
+    }
     Ok(())
 }
 
-/// The files, those of folders too; what is no sheet is told.
-fn rows(call: &Call, page: &mut Page) -> Vec<Row> {
-    let mut rows = Vec::new();
-    for named in &call.files {
-        let files = if named != "-" && std::path::Path::new(named).is_dir() { input::sheets_in(named) } else { Ok(vec![named.clone()]) };
-        match files {
-            Err(trouble) => page.trouble(&trouble),
-            Ok(files) => {
-                for file in files {
-                    let sheet = input::sheet_bytes(&file, call, page.message_colour).map_err(|trouble| page.trouble(&trouble)).ok();
-                    rows.push(Row { file: input::shown(&file), sheet });
-                }
-            }
+/// Judges the files and tells them.
+fn judged(files: &Files, call: &Call, page: &mut Page) {
+    let mut progress = Progress::new();
+    let all = files.files.len();
+    let class = look::all(&files.files, call, |done| {
+        if done < all {
+            progress.tell(page, || format!("class: {done} of {} so far", count(all, "file")));
         }
+    });
+    class.iter().for_each(|seen| page.raise(seen.verdict.status()));
+    if call.has("--csv") {
+        page.print(&told::csv(&class));
+    } else if call.has("--json") {
+        page.print(&told::as_json(&class));
+    } else {
+        page.print(&told::table(&class));
+        page.print(&told::sums(&class));
     }
-    rows
+    left_out(files, page);
 }
 
-/// What is said of a file, from its sheet's numbers, which are the next ones if it has a sheet.
-fn verdict(row: &Row, judged: &mut impl Iterator<Item = [u32; 4]>) -> Verdict {
-    let said = |words: &str, status: u8| Verdict { words: words.to_string(), states: String::new(), moments: String::new(), status };
-    let Some(sheet) = &row.sheet else {
-        return said("no sheet", BAD);
-    };
-    let [answer, states, _, moments] = judged.next().expect("four numbers for each sheet");
-    match answer {
-        0 => Verdict { states: states.to_string(), moments: moments.to_string(), ..said("can be kept", GOOD) },
-        13 => Verdict { states: states.to_string(), ..said("cannot be kept", REFUSED) },
-        1..=10 => said(&format!("bad: answer {answer}, byte {}", proved::read_place(sheet).1), BAD),
-        _ => said("no room to judge it", NO_ROOM),
+/// What of a folder was not judged is told, so that nobody's sheet is lost.
+fn left_out(files: &Files, page: &mut Page) {
+    let left = [
+        (files.folders, "folder in a folder was", "folders in a folder were", "not looked into; --deep takes the files there, too"),
+        (files.links, "link to a folder was", "links to folders were", "not followed"),
+        (files.hidden, "name that begins with a dot was", "names that begin with a dot were", "left out"),
+        (files.odd, "thing that is no plain file was", "things that are no plain files were", "left out"),
+    ];
+    for (many, one, several, what) in left.into_iter().filter(|&(many, ..)| many > 0) {
+        let told = if many == 1 { one } else { several };
+        page.say(&format!("class: {many} {told} {what}\n"));
     }
-}
-
-/// A line for each file.
-fn table(rows: &[Row], verdicts: &[Verdict], page: &mut Page) {
-    // The headings have 4 and 7 letters.
-    let file_width = rows.iter().map(|row| row.file.chars().count()).fold(4, usize::max);
-    let width = verdicts.iter().map(|verdict| verdict.words.len()).fold(7, usize::max);
-    let line = |file: &str, words: &str, states: &str, moments: &str| {
-        format!("{file:<file_width$}  {words:<width$}  {states:>6}  {moments:>6}").trim_end().to_string() + "\n"
-    };
-    page.print(&line("file", "verdict", "K or R", "b"));
-    for (row, verdict) in rows.iter().zip(verdicts) {
-        page.print(&line(&row.file, &verdict.words, &verdict.states, &verdict.moments));
-    }
-}
-
-/// The last line: how many can be kept, cannot, are bad; those without room only if there are any.
-fn sums(verdicts: &[Verdict]) -> String {
-    let with = |status: u8| verdicts.iter().filter(|verdict| verdict.status == status).count();
-    let (kept, cannot, bad, no_room) = (with(GOOD), with(REFUSED), with(BAD), with(NO_ROOM));
-    let crowded = if no_room > 0 { format!(", {no_room} without room") } else { String::new() };
-    format!("{}: {kept} can be kept, {cannot} cannot, {bad} bad{crowded}\n", count(verdicts.len(), "file"))
 }

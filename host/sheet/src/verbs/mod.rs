@@ -7,6 +7,7 @@ pub mod class;
 pub mod draw;
 pub mod judge;
 pub mod read;
+pub mod walk;
 pub mod write;
 
 use crate::call::{Call, Choice, COMMON};

@@ -1,0 +1,1 @@
+echo x | sheet audit --json examples/clock-year.txt -

@@ -1,0 +1,1 @@
+printf '\xef\xbb\xbf3\n7\n' | sheet audit examples/clock-year.txt -

@@ -1,0 +1,1 @@
+printf 'motor, file\nmotor, fill\n' | sheet audit examples/clock-year.txt -

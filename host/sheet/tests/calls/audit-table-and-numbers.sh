@@ -1,0 +1,1 @@
+sheet audit --table --numbers examples/clock-year.txt no-such-log

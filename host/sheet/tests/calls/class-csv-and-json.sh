@@ -1,0 +1,1 @@
+sheet class --csv --json examples

@@ -1,0 +1,1 @@
+sheet class <(cat examples/w04.txt) | sed "s,^[^ ]* *,," 

@@ -1,0 +1,1 @@
+sheet draw --dot examples/mistake-1.txt | head -n 12

@@ -1,0 +1,1 @@
+sheet draw --dot examples/clock-mended.txt

@@ -1,0 +1,1 @@
+sheet draw examples/clock.txt --out no-such-folder/clock.svg

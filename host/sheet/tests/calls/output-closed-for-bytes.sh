@@ -1,0 +1,1 @@
+sheet write examples/clock.txt >&-

@@ -1,0 +1,1 @@
+printf '\xff\xfel\0e\0t\0' | sheet judge -

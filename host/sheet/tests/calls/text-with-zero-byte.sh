@@ -1,0 +1,1 @@
+printf 'letters a\nfirst\0 a\n' | sheet judge -
