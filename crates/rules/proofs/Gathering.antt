@@ -8,8 +8,8 @@ use native.Mathlib.Decide.{ℕ-discrete}
 use native.Mathlib.Numerals.{add-one}
 use native.Mathlib.Omega.{arith}
 use lib.ListN.{getD}
-use Rattle.rules.specs.Book.{Masks, Shaped, allBelow, someOf, someAt, allAt, firstAt, stepAt, rightAt, gatheredAt, stepOk, stepsOk, firstsOk}
-use Rattle.rules.specs.Book.{lettersOf, firstsOf, stepsOf, clausesOk, Binds, FirstClauses, NextClauses}
+use Rattle.rules.specs.Book.{Masks, Shaped, allBelow, someOf, someAt, allAt, firstAt, stepAt, rightAt, gatheredAt}
+use Rattle.rules.specs.Book.{lettersOf, firstsOf, stepsOf, stepOk, stepsOk, firstsOk, clausesOk, Binds, FirstClauses, NextClauses}
 use Rattle.rules.specs.Rows.{Copied}
 use Rattle.rules.proofs.Asking.{all-same}
 
@@ -27,7 +27,8 @@ module _ (test : ℕ → ℕ → ℕ → Bool) (asks : ℕ → ℕ → Bool) (le
   none-yet l = record { few = omega arith; masks = λ j h. absurd (omega arith); says = λ t. refl }
 
   -- A rule that is true of every state is passed over.
-  pub passed-over : (l : List ℕ) (n i : ℕ) → Sofar test asks letters l n i → ((t : ℕ) → asks t i ≡ true) → Sofar test asks letters l n (i + 1)
+  pub passed-over : (l : List ℕ) (n i : ℕ) → Sofar test asks letters l n i → ((t : ℕ) → asks t i ≡ true)
+      → Sofar test asks letters l n (i + 1)
   passed-over l n i so free = subst (Sofar test asks letters l n) (sym (add-one i)) (record {
     few = omega arith;
     masks = so .masks;
@@ -90,7 +91,8 @@ module _ (book : List ℕ) (shaped : Shaped book) where
       record { gathered = record { few = shaped .few-firsts; masks = so′ .masks }; says = λ t. so′ .says t }
 
   -- A rule that asks something is said by its right side.
-  right-says : (s i t : ℕ) → allAt book (stepAt i) s ≡ true → stepOk book s t i ≡ someOf t (getD book (rightAt i) 0) (getD book (rightAt i + 1) 0)
+  right-says : (s i t : ℕ) → allAt book (stepAt i) s ≡ true
+      → stepOk book s t i ≡ someOf t (getD book (rightAt i) 0) (getD book (rightAt i + 1) 0)
   unfolding stepOk
   right-says s i t e = ap (λ (x : Bool). not x || someAt book (rightAt i) t) e
 

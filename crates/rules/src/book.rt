@@ -6,8 +6,9 @@ use ground::MOST_RULES;
 ghost use mathlib.Core.Path.{_≡_};
 ghost use Prim.Native.Nat.{_+_, _≤_, _<_};
 ghost use lib.ListN.{length};
-ghost use Rattle.rules.specs.Book.{bookSize, gatherSize, mostRules, limitWidth, leastAt, limitAt, firstAt, stepAt, rightAt, promiseAt, gatheredAt};
-ghost use Rattle.rules.specs.Book.{lettersOf, limitsOf, firstsOf, stepsOf, promisesOf, CountsAre, Shaped, MasksRead, limitRow};
+ghost use Rattle.rules.specs.Book.{bookSize, gatherSize, mostRules, limitWidth};
+ghost use Rattle.rules.specs.Book.{leastAt, limitAt, firstAt, stepAt, rightAt, promiseAt, gatheredAt, limitRow};
+ghost use Rattle.rules.specs.Book.{lettersOf, limitsOf, firstsOf, stepsOf, promisesOf, CountsAre, Shaped, MasksRead};
 ghost use Rattle.rules.specs.Rows.{Put};
 
 // A book's numbers are as wide as a state.

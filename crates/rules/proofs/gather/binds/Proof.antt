@@ -9,7 +9,8 @@ returns-2 : tie.Need-returns-2
 returns-2 c =
     let placed = c .before .before in
     let asked = placed .before .before in
-    binds-if _ _ _ (asked .step-asks .ensures) (not-false _ (placed .before .if1 .left)) (placed .right-at .ensures) (c .before .masks-at .ensures)
+    binds-if _ _ _ (asked .step-asks .ensures) (not-false _ (placed .before .if1 .left)) (placed .right-at .ensures)
+    (c .before .masks-at .ensures)
 
 pub binds-spec : {M : Type 1} → statement M
 binds-spec =

@@ -15,23 +15,24 @@ Inv-loop book s clauses₀ count i₀ n₀ clauses i n = (i ≤ count) × (lengt
 abbrev μ-loop : tie.MeasureT-loop
 μ-loop book s clauses₀ count i₀ n₀ clauses i n = count - i
 
+-- where the call began
+abbrev start : tie.At-loop Inv-loop μ-loop → tie.Start Inv-loop μ-loop
+start c = c .before .before .before .before
+
 -- a turn's rule is one of the book's
-turn-rule : (c : tie.In-loop Inv-loop μ-loop) → c .before .loop .i < stepsOf (c .before .before .before .before .before .args .book .now)
+turn-rule : (c : tie.In-loop Inv-loop μ-loop) → c .before .loop .i < stepsOf (start (c .before) .args .book .now)
 turn-rule c = omega (arith, c .loop-test .taken, c .before .before .steps .ensures)
 
 -- a turn whose rule asks something, seen from behind the copy's place
 abbrev asking : tie.After-right-at Inv-loop μ-loop → tie.In-loop Inv-loop μ-loop
 asking c = c .before .before .before
 
-abbrev start : tie.In-loop Inv-loop μ-loop → tie.Start Inv-loop μ-loop
-start c = c .before .before .before .before .before
-
 copy-requires : tie.Need-copy-requires Inv-loop μ-loop
 copy-requires c κs =
     let from = c .before .before in
     let turn = asking from in
     let h = turn-rule turn in
-    let book = start turn .pre .0 in
+    let book = start (turn .before) .pre .0 in
     let few = book .few-steps in
     (omega (arith, from .right-at .ensures, book .long), omega (arith, c .before .gathered-at .ensures))
 
@@ -42,19 +43,19 @@ loop-again c =
     let from = to .before in
     let branch = from .before in
     let turn = asking from in
-    let a = start turn .args in
+    let a = start (turn .before) .args in
     let l = turn .before .loop in
     let w = subst₂ (λ (from to : ℕ). Copied (a .book .now) from (l .clauses) to (copied .copy .last .1 .1 .0)) (from .right-at .ensures)
     (to .gathered-at .ensures) (copied .copy .ensures) in
     let asked = branch .before .binds .ensures .asks (branch .if1 .taken) in (
       omega arith,
       omega (arith, w .keeps .long, l .inv .1),
-      step-copied _ (start turn .pre .0) (a .s) _ _ (l .n) (l .i) (turn-rule turn) (l .inv .2) asked w,
+      step-copied _ (start (turn .before) .pre .0) (a .s) _ _ (l .n) (l .i) (turn-rule turn) (l .inv .2) asked w,
     )
 
 loop-again-2 : tie.Need-loop-again-2 Inv-loop μ-loop
 loop-again-2 c =
-    let entry = start (c .before .before) in
+    let entry = start (c .before .before .before) in
     let a = entry .args in
     let l = c .before .before .before .loop in
     (omega arith, l .inv .1, step-free _ (entry .pre .0) (a .s) _ (l .n) (l .i) (l .inv .2) (c .before .binds .ensures) (c .if1 .left))
@@ -65,7 +66,7 @@ returns c =
     let e = c .before .before .steps .ensures in
     let within = l .inv .0 in
     let left = c .loop-test .left in
-    let entry = c .before .before .before .before .before in
+    let entry = start (c .before) in
     let a = entry .args in
     (steps-gathered _ (entry .pre .0) (a .s) _ (l .n) (l .i) (omega arith) (omega arith) (l .inv .2), l .inv .1)
 
@@ -77,7 +78,7 @@ gather-next-spec =
     μ-loop
     (λ c κs. c .before .before .pre .0)
     (λ c. (omega arith, c .before .before .before .pre .1, none-yet _ _ _ _))
-    (λ c κs. (c .before .before .before .before .before .pre .0, turn-rule c))
+    (λ c κs. (start (c .before) .pre .0, turn-rule c))
     (λ c κs. omega arith)
     (λ c κs. omega arith)
     copy-requires
