@@ -1,6 +1,7 @@
 pub mod Marks
 pub mod Running
 pub mod Rows
+pub mod Lending
 pub mod Saved
 pub mod Moving
 pub mod Woven

@@ -19,7 +19,7 @@ use Rattle.watch.specs.Witness.{nobody, itself, Log, BegunRow}
 use Rattle.watch.specs.Turns.{FallsAt, was, keeps, falls, FellTo, Before, first, again, Watched}
 use Rattle.ends_tests.specs.Phases.{Phased}
 use Rattle.rounds.specs.Phases.{Strikable}
-use Rattle.rounds.specs.Rows.{neverYet, rowOf, RoomForRows, Beginnable, BegunRows}
+use Rattle.rounds.specs.Rows.{neverYet, rowOf, RoomForRows, Beginnable, BegunRows, RowLent, RowTurned}
 use Rattle.rounds.proofs.Running.{free-all, strikable-lawful}
 use Rattle.rounds.proofs.Rows.{row-long, row-inside}
 use Rattle.rounds.proofs.Saved.{Moves, Keeps, watched-phased}
@@ -192,28 +192,39 @@ module _ {book table : List ℕ} {r : ℕ} {words₀ words old wit : List ℕ} {
       by (inl x) = omega (arith, x, Mo .log-is .count, A .few)
       by (inr x) = omega (arith, x)
 
+  -- The next phase may be lent its row, the log and the line.
+  pub moving-lent : {line′ : List ℕ} → length log ≡ length log₀ → length line′ ≡ length line → reason ≤ 16
+      → RowLent words wit M log line′ r reason m (getD news reason 0)
+  moving-lent logs same few = record {
+    few-reasons = few;
+    room = moving-inside reason within;
+    in-line = omega (arith, same, R .in-line);
+    line-few = omega (arith, same, R .line-few);
+    log-few = omega (arith, logs, R .log-few);
+    before = moving-before;
+  }
+
   -- It is a phase if reason 0's is: a promise's has struck who has no witness.
-  pub moving-stepped : {words′ wit′ log′ : List ℕ} {word end : ℕ} → Moves book table r M → length wit′ ≡ length wit
-      → ((q : ℕ) → (q ≡ reason → ⊥) → suc q * r ≤ length wit → rowOf r q wit′ ≡ rowOf r q wit)
-      → (reason ≡ 0 → Phased (bookSystem book) table r 0 word words words′ (end - m) × Fallen words words′ r log log′ m end)
-      → ((reason ≡ 0 → ⊥) → Watched words words′ (rowOf r reason wit) (rowOf r reason wit′) M log log′ m end word)
+  pub moving-stepped : {Zeroth : List ℕ → List ℕ → Type 0} {words′ wit′ log′ : List ℕ} {word end : ℕ} → Moves book table r M
+      → (Zeroth (rowOf r 0 wit) (rowOf r 0 wit′)
+      → Phased (bookSystem book) table r 0 word words words′ (end - m) × Fallen words words′ r log log′ m end)
+      → RowTurned Zeroth words words′ wit wit′ M log log′ r reason word m end
       → Stepped book table r words words′ wit wit′ M log log′ reason word m end
-  moving-stepped {words′ = words′} {wit′ = wit′} {log′ = log′} {word = word} {end = end} moves same others zeroth watched =
-      record { long = same; others = others; phased = by reason refl .0; fallen = by reason refl .1; watched = watched }
+  moving-stepped {words′ = words′} {wit′ = wit′} {log′ = log′} {word = word} {end = end} moves zeroth D =
+      record { long = D .long; others = D .others; phased = by reason refl .0; fallen = by reason refl .1; watched = D .watched }
     where
       told : (q : ℕ) → reason ≡ q → Phased (bookSystem book) table r q word words words′ (end - m)
           → Phased (bookSystem book) table r reason word words words′ (end - m)
       told q e = subst (λ (x : ℕ). Phased (bookSystem book) table r x word words words′ (end - m)) (sym e)
 
       by : (q : ℕ) → reason ≡ q → Phased (bookSystem book) table r reason word words words′ (end - m) × Fallen words words′ r log log′ m end
-      by zero e = (told 0 e (zeroth e .0), zeroth e .1)
+      by zero e = let first = zeroth (D .zeroth e) in (told 0 e (first .0), first .1)
       by (suc k) e =
           let W = subst (λ (x : ℕ). Watched words words′ (rowOf r x wit) (rowOf r x wit′) M log log′ m end word) e
-          (watched (λ z. absurd (omega (arith, z, e)))) in
+          (D .watched (λ z. absurd (omega (arith, z, e)))) in
           let h : k < promisesOf book = omega (arith, e, within) in (
             told (suc k) e (watched-phased moves (moving-row (suc k) h) (Mo .log-is) (Mo .own k h) W),
-            fell-fallen
-                (W .long ∙ moving-row (suc k) h) (W .fell),
+            fell-fallen (W .long ∙ moving-row (suc k) h) (W .fell),
           )
 
   module _ {words′ wit′ log′ : List ℕ} {word end : ℕ} (D : Stepped book table r words words′ wit wit′ M log log′ reason word m end) where

@@ -13,16 +13,15 @@ use Rattle.rules.specs.Book.{bookSystem, promisesOf}
 use Rattle.rules.specs.Table.{To}
 use Rattle.rules_signs.specs.Signs.{Signed}
 use Rattle.watch.specs.Witness.{Log}
-use Rattle.watch.specs.Turns.{Watched}
 use Rattle.watch_tests.specs.Tests.{WatchingByTests}
 use Rattle.ends_tests.specs.Phases.{fresh, Pointers, Phased, Unphased, Striking, DeadDone}
 use Rattle.ends_tests.proofs.Fewer.{phased-free, pointers-fewer}
 use Rattle.rounds.specs.Rows.{rowOf, BegunRows}
 use Rattle.rounds.specs.Tests.{RunnableByTests, TestsDone, StrikableByTests}
-use Rattle.rounds.proofs.Rows.{lentBack, lent-row, front-row, row-long, front-inside, PutBack, row-back, front-back}
+use Rattle.rounds.proofs.Rows.{lent-row, front-row, row-long, front-inside}
 use Rattle.rounds.proofs.Running.{strikable-rises}
 use Rattle.rounds.proofs.Saved.{Moves}
-use Rattle.rounds.proofs.Moving.{Fallen, Moving, Stepped, moving-stepped, moving-inside, moving-row, moving-before}
+use Rattle.rounds.proofs.Moving.{Fallen, Moving, Stepped, moving-lent, moving-stepped, moving-inside, moving-row}
 
 -- What is tested is the table's moves.
 tested-moves : (book table : List ℕ) (r : ℕ) → Moves book table r (To book table)
@@ -32,10 +31,12 @@ tested-moves book table r = record { sound = λ i j h k m. m; whole = λ i j h k
 
 -- Before the first phase they are all 0.
 pub pointers-none : (book table words wit : List ℕ) (r : ℕ) → Zeros wit r → Pointers book table words (rowOf r 0 wit) r
-pointers-none book table words wit r zeros i h u = fresh (ap (λ (l : List ℕ). getD l i 0) (sym (front-row r wit)) ∙ getD-take r wit i 0 h ∙ zeros i h)
+pointers-none book table words wit r zeros i h u =
+    fresh (ap (λ (l : List ℕ). getD l i 0) (sym (front-row r wit)) ∙ getD-take r wit i 0 h ∙ zeros i h)
 
 -- So they are once the rows have begun.
-pub pointers-begun : {book table words : List ℕ} {r : ℕ} {signs old log line wit : List ℕ} → StrikableByTests book table words r signs old log line
+pub pointers-begun : {book table words : List ℕ} {r : ℕ} {signs old log line wit : List ℕ}
+    → StrikableByTests book table words r signs old log line
     → BegunRows book table r old wit → Pointers book table words (rowOf r 0 wit) r
 pointers-begun {book = book} {table = table} {words = words} {r = r} {old = old} A B =
     subst (λ (l : List ℕ). Pointers book table words l r) (sym (B .zeroth)) (pointers-none book table words old r (A .pointers))
@@ -56,42 +57,41 @@ module _ {book table : List ℕ} {r : ℕ} {words₀ words old wit signs log₀ 
     (A : StrikableByTests book table words₀ r signs old log₀ line) (Mo : Moving book table r words wit (To book table) log m news)
     (long : length wit ≡ length old) (within : reason ≤ promisesOf book) where
   -- The next phase may be run.
-  pub tests-testable : {line′ : List ℕ} {word : ℕ} → Pointers book table words (rowOf r 0 wit) r → length log ≡ length log₀ → length line′ ≡ length line
+  pub tests-testable : {line′ : List ℕ} {word : ℕ} → Pointers book table words (rowOf r 0 wit) r → length log ≡ length log₀
+      → length line′ ≡ length line
       → Unphased words r word → reason ≤ 16 → RunnableByTests book table words wit signs log line′ r reason word m (getD news reason 0)
   tests-testable pointers logs same unphased few = record {
-    few-reasons = few;
-    room = moving-inside (A .asked) (A .roomed) Mo long within reason within;
+    lent = moving-lent (A .asked) (A .roomed) Mo long within logs same few;
     signed = A .signed;
     rises = strikable-rises _ _ _ _ (A .asked);
     unphased = unphased;
-    in-line = omega (arith, same, A .roomed .in-line);
-    line-few = omega (arith, same, A .roomed .line-few);
     log-is = Mo .log-is;
-    log-few = omega (arith, logs, A .roomed .log-few);
     pointers = pointers;
-    before = moving-before (A .asked) (A .roomed) Mo long within;
   }
 
-  module _ {words′ wit′ log′ : List ℕ} {word end : ℕ} (some : 0 < word) (D : TestsDone book table words words′ wit wit′ log log′ r reason word m end) where
+  module _ {words′ wit′ log′ : List ℕ} {word end : ℕ} (some : 0 < word)
+      (D : TestsDone book table words words′ wit wit′ log log′ r reason word m end) where
     row : (q : ℕ) → q ≤ promisesOf book → length (rowOf r q wit) ≡ r
     row = moving-row (A .asked) (A .roomed) Mo long within
 
     -- It is a phase.
     pub tests-stepped : Stepped book table r words words′ wit wit′ (To book table) log log′ reason word m end
-    tests-stepped = moving-stepped (A .asked) (A .roomed) Mo long within (tested-moves book table r) (D .long) (D .others)
-        (λ e. let dead = D .dead e in (
+    tests-stepped =
+        moving-stepped (A .asked) (A .roomed) Mo long within (tested-moves book table r)
+        (λ dead. (
           subst (λ (n : ℕ). Phased (bookSystem book) table n 0 word words words′ (end - m)) (row 0 (omega arith)) (dead .phased),
           dead-fallen (row 0 (omega arith)) some dead,
-        )) (D .watched)
+        )) D
 
     -- The pointers, after it.
     pub pointers-more : Pointers book table words (rowOf r 0 wit) r → Pointers book table words′ (rowOf r 0 wit′) r
     pointers-more pointers = by (ℕ-discrete 0 reason)
       where
         by : Dec (0 ≡ reason) → Pointers book table words′ (rowOf r 0 wit′) r
-        by (yes e) = subst (λ (n : ℕ). Pointers book table words′ (rowOf r 0 wit′) n) (row 0 (omega arith)) (D .dead (sym e) .pointers)
+        by (yes e) = subst (λ (n : ℕ). Pointers book table words′ (rowOf r 0 wit′) n) (row 0 (omega arith)) (D .zeroth (sym e) .pointers)
         by (no n) =
-            subst (λ (l : List ℕ). Pointers book table words′ l r) (sym (D .others 0 n (moving-inside (A .asked) (A .roomed) Mo long within 0 (omega arith))))
+            subst (λ (l : List ℕ). Pointers book table words′ l r)
+            (sym (D .others 0 n (moving-inside (A .asked) (A .roomed) Mo long within 0 (omega arith))))
             (pointers-fewer book table words words′ (rowOf r 0 wit) r (tests-stepped .fallen .free-before) pointers)
 
 -- ---- a phase on its row
@@ -99,7 +99,7 @@ module _ {book table : List ℕ} {r : ℕ} {words₀ words old wit signs log₀ 
 module _ {book table words wit signs log line : List ℕ} {r reason word m from : ℕ}
     (ready : RunnableByTests book table words wit signs log line r reason word m from) where
   front : r ≤ length wit
-  front = front-inside reason r (length wit) (ready .room)
+  front = front-inside reason r (length wit) (ready .lent .room)
 
   -- A phase of reason 0 may be run on the first row.
   pub turn-striking : Striking book table words (take r wit) signs log m word
@@ -115,22 +115,8 @@ module _ {book table words wit signs log line : List ℕ} {r reason word m from 
         unphased = subst (λ (n : ℕ). Unphased words n word) e (ready .unphased);
         pointers = subst (λ (n : ℕ). Pointers book table words (rowOf r 0 wit) n) e (ready .pointers);
         log-is = subst (λ (n : ℕ). Log words n log m) e (ready .log-is);
-        log-few = ready .log-few;
+        log-few = ready .lent .log-few;
       }
-
-  -- It was run, and the row is back.
-  pub turn-dead : {words′ part log′ : List ℕ} {end : ℕ} → reason ≡ 0 → DeadDone book table word words words′ (take r wit) part log log′ m end
-      → TestsDone book table words words′ wit (part ++ drop r wit) log log′ r reason word m end
-  turn-dead {words′ = words′} {part = part} {log′ = log′} {end = end} zeroth done = record {
-    long = back .long;
-    others = λ q other in′. back .others q (λ e. other (e ∙ sym zeroth)) in′;
-    dead = λ z. subst (λ (l : List ℕ). DeadDone book table word words words′ (rowOf r 0 wit) l log log′ m end) (sym (back .row))
-        (subst (λ (l : List ℕ). DeadDone book table word words words′ l part log log′ m end) (front-row r wit) done);
-    watched = λ n. absurd (n zeroth);
-  }
-    where
-      back : PutBack r 0 wit (part ++ drop r wit) part
-      back = front-back r wit part front (done .row-long)
 
   -- A phase of a promise may be run on its row.
   pub turn-watching : (reason ≡ 0 → ⊥)
@@ -139,25 +125,10 @@ module _ {book table words wit signs log line : List ℕ} {r reason word m from 
       subst (λ (l : List ℕ). WatchingByTests book table words l signs log line m from word) (sym (lent-row r reason wit)) (record {
         some = ready .unphased .some;
         signed = subst (λ (n : ℕ). Signed book table n signs) (sym long) (ready .signed);
-        line-is = record { in-line = omega (arith, long, ready .in-line); line-few = ready .line-few };
-        log-few = ready .log-few;
-        before = ready .before other;
+        line-is = record { in-line = omega (arith, long, ready .lent .in-line); line-few = ready .lent .line-few };
+        log-few = ready .lent .log-few;
+        before = ready .lent .before other;
       })
     where
       long : length (rowOf r reason wit) ≡ r
-      long = row-long r reason wit (ready .room)
-
-  -- It was run, and the row is back.
-  pub turn-watched : {words′ part log′ : List ℕ} {end : ℕ} → (reason ≡ 0 → ⊥)
-      → Watched words words′ (take (reason * r + r - reason * r) (drop (reason * r) wit)) part (To book table) log log′ m end word
-      → TestsDone book table words words′ wit (lentBack (reason * r) r wit part) log log′ r reason word m end
-  turn-watched {words′ = words′} {part = part} {log′ = log′} {end = end} other done = record {
-    long = back .long;
-    others = back .others;
-    dead = λ z. absurd (other z);
-    watched = λ n. subst (λ (l : List ℕ). Watched words words′ (rowOf r reason wit) l (To book table) log log′ m end word) (sym (back .row))
-        (subst (λ (l : List ℕ). Watched words words′ l part (To book table) log log′ m end word) (lent-row r reason wit) done);
-  }
-    where
-      back : PutBack r reason wit (lentBack (reason * r) r wit part) part
-      back = row-back r reason wit part (ready .room) (done .long)
+      long = row-long r reason wit (ready .lent .room)

@@ -13,13 +13,12 @@ use Rattle.rules.specs.Book.{promisesOf}
 use Rattle.moves.specs.Layout.{Backed}
 use Rattle.watch.specs.Witness.{Log}
 use Rattle.watch_along.specs.Along.{Woven}
-use Rattle.watch.specs.Turns.{Watched}
 use Rattle.watch_along.specs.Along.{Watching}
 use Rattle.watch_along.specs.Ends.{Blank, Ahead, opening, going, Endable, Ended}
 use Rattle.rounds.specs.Rows.{rowOf, Beginnable, BegunRows}
 use Rattle.rounds.specs.Along.{RunnableAlong, TurnDone, StrikableAlong}
 use Rattle.rounds.proofs.Running.{strikable-lawful}
-use Rattle.rounds.proofs.Rows.{lentBack, lent-row, front-row, row-long, front-inside, PutBack, row-back, front-back}
+use Rattle.rounds.proofs.Rows.{lent-row, front-row, row-long, front-inside, front-back}
 use Rattle.rounds.proofs.Moving.{
   Fallen,
   fell-fallen,
@@ -30,9 +29,9 @@ use Rattle.rounds.proofs.Moving.{
   Moving,
   Stepped,
   moving-stepped,
+  moving-lent,
   moving-inside,
   moving-row,
-  moving-before,
   moving-later,
   news-here,
   news-there,
@@ -42,13 +41,16 @@ use Rattle.rounds.proofs.Woven.{stored-woven, ended-phased, backed-move
 -- ---- the ways on
 
 -- Before the first phase the row is blank.
-pub ahead-none : (row : List ℕ) {words back log : List ℕ} {r from : ℕ} → 0 < from → Log words r log 0 → r ≤ mostStates → length row ≡ r → Blank row
+pub ahead-none : (row : List ℕ) {words back log : List ℕ} {r from : ℕ} → 0 < from → Log words r log 0 → r ≤ mostStates → length row ≡ r
+    → Blank row
     → Ahead words row back log from 0
-ahead-none row {words = words} {log = log} h G few long B = opening h (subst (λ (n : ℕ). Log words n log 0) (sym long) G) (omega (arith, long, few)) B
+ahead-none row {words = words} {log = log} h G few long B = opening h (subst (λ (n : ℕ). Log words n log 0) (sym long) G)
+    (omega (arith, long, few)) B
 
 -- The rows may begin once the first is blank,
 pub blank-beginnable : {book table words : List ℕ} {r : ℕ} {forth back old log line : List ℕ} (part : List ℕ)
-    → StrikableAlong book table words r forth back old log line → length part ≡ length (take r old) → Beginnable book table r (part ++ drop r old)
+    → StrikableAlong book table words r forth back old log line → length part ≡ length (take r old)
+    → Beginnable book table r (part ++ drop r old)
 blank-beginnable {r = r} {old = old} part A same =
     record { states = strikable-lawful _ _ _ _ (A .stored .asked); room = omega (arith, A .roomed .room, length-front old part r same) }
 
@@ -87,18 +89,14 @@ module _ {book table : List ℕ} {r : ℕ} {words₀ words old wit forth back lo
     (long : length wit ≡ length old) (within : reason ≤ promisesOf book) where
   -- The next phase may be run.
   pub along-turnable : {line′ : List ℕ} {word : ℕ} → Ahead words (rowOf r 0 wit) back log (getD news 0 0) m → length log ≡ length log₀
-      → length line′ ≡ length line → 0 < word → reason ≤ 16 → RunnableAlong words wit forth back log line′ r reason word m (getD news reason 0)
+      → length line′ ≡ length line → 0 < word → reason ≤ 16 → RunnableAlong words wit forth back log line′ r reason word m
+      (getD news reason 0)
   along-turnable ahead logs same some few = record {
+    lent = moving-lent (A .stored .asked) (A .roomed) Mo long within logs same few;
     some = some;
     few = A .stored .asked .few;
-    few-reasons = few;
-    room = moving-inside (A .stored .asked) (A .roomed) Mo long within reason within;
     woven = stored-woven (A .stored .asked .few) (A .stored .onward) (A .stored .backward);
-    in-line = omega (arith, same, A .roomed .in-line);
-    line-few = omega (arith, same, A .roomed .line-few);
-    log-few = omega (arith, logs, A .roomed .log-few);
     ahead = λ e. subst (λ (q : ℕ). Ahead words (rowOf r 0 wit) back log (getD news q 0) m) (sym e) ahead;
-    before = moving-before (A .stored .asked) (A .roomed) Mo long within;
   }
 
   module _ {words′ wit′ log′ : List ℕ} {word end : ℕ} (D : TurnDone words words′ wit wit′ forth back log log′ r reason word m end) where
@@ -107,11 +105,12 @@ module _ {book table : List ℕ} {r : ℕ} {words₀ words old wit forth back lo
 
     -- It is a phase.
     pub along-stepped : Stepped book table r words words′ wit wit′ (Backed back) log log′ reason word m end
-    along-stepped = moving-stepped (A .stored .asked) (A .roomed) Mo long within (backed-moves few (A .stored .onward) (A .stored .backward)) (D .long)
-        (D .others) (λ e. let E = D .ended e in (
+    along-stepped =
+        moving-stepped (A .stored .asked) (A .roomed) Mo long within (backed-moves few (A .stored .onward) (A .stored .backward))
+        (λ E. (
           ended-phased few (A .stored .onward) (A .stored .backward) (row 0 (omega arith)) (Mo .log-is) E,
           fell-fallen (E .long ∙ row 0 (omega arith)) (E .fell),
-        )) (D .watched)
+        )) D
       where
         few : r ≤ mostStates
         few = A .stored .asked .few
@@ -123,7 +122,8 @@ module _ {book table : List ℕ} {r : ℕ} {words₀ words old wit forth back lo
       where
         by : Dec (0 ≡ reason) → Ahead words′ (rowOf r 0 wit′) back log′ (getD (set news reason since) 0 0) end
         by (yes e) = subst (λ (x : ℕ). Ahead words′ (rowOf r 0 wit′) back log′ x end)
-            (sym (news-here (A .stored .asked) (A .roomed) Mo long within along-stepped since 0 e ∙ own (sym e))) (going (D .ended (sym e) .going))
+            (sym (news-here (A .stored .asked) (A .roomed) Mo long within along-stepped since 0 e ∙ own (sym e)))
+            (going (D .zeroth (sym e) .going))
         by (no n) =
             subst (λ (x : ℕ). Ahead words′ (rowOf r 0 wit′) back log′ x end)
             (sym (news-there (A .stored .asked) (A .roomed) Mo long within along-stepped since 0 n))
@@ -137,7 +137,8 @@ pub since-early : {reason m end since : ℕ} → ((reason ≡ 0) × (since ≡ m
 since-early (inl x) h = omega (arith, x .1)
 since-early (inr x) h = omega (arith, x .1)
 
-pub since-last : {reason m end since : ℕ} → ((reason ≡ 0) × (since ≡ m)) ⊎ ((reason ≡ 0 → ⊥) × (since ≡ end)) → (reason ≡ 0 → ⊥) → since ≡ end
+pub since-last : {reason m end since : ℕ} → ((reason ≡ 0) × (since ≡ m)) ⊎ ((reason ≡ 0 → ⊥) × (since ≡ end)) → (reason ≡ 0 → ⊥)
+    → since ≡ end
 since-last (inl x) n = absurd (n (x .0))
 since-last (inr x) n = x .1
 
@@ -147,58 +148,31 @@ since-own (inr x) e = absurd (x .0 e)
 
 -- ---- a phase on its row
 
-module _ {words wit forth back log line : List ℕ} {r reason word m from : ℕ} (ready : RunnableAlong words wit forth back log line r reason word m from) where
+module _ {words wit forth back log line : List ℕ} {r reason word m from : ℕ}
+    (ready : RunnableAlong words wit forth back log line r reason word m from) where
   front : r ≤ length wit
-  front = front-inside reason r (length wit) (ready .room)
+  front = front-inside reason r (length wit) (ready .lent .room)
 
   -- A phase of reason 0 may be run on the first row.
   pub turn-endable : reason ≡ 0 → Endable words (take r wit) forth back log m from word
   turn-endable zeroth = record {
     some = ready .some;
     woven = subst (λ (n : ℕ). Woven n forth back) (sym (length-take-le r wit front)) (ready .woven);
-    log-few = ready .log-few;
+    log-few = ready .lent .log-few;
     ahead = subst (λ (l : List ℕ). Ahead words l back log from m) (sym (front-row r wit)) (ready .ahead zeroth);
   }
 
-  -- It was run, and the row is back.
-  pub turn-ended : {words′ part log′ : List ℕ} {end : ℕ} → reason ≡ 0 → Ended words words′ (take r wit) part forth back log log′ m end word
-      → TurnDone words words′ wit (part ++ drop r wit) forth back log log′ r reason word m end
-  turn-ended {words′ = words′} {part = part} {log′ = log′} {end = end} zeroth done = record {
-    long = back-now .long;
-    others = λ q other in′. back-now .others q (λ e. other (e ∙ sym zeroth)) in′;
-    ended = λ z. subst (λ (l : List ℕ). Ended words words′ (rowOf r 0 wit) l forth back log log′ m end word) (sym (back-now .row))
-        (subst (λ (l : List ℕ). Ended words words′ l part forth back log log′ m end word) (front-row r wit) done);
-    watched = λ n. absurd (n zeroth);
-  }
-    where
-      back-now : PutBack r 0 wit (part ++ drop r wit) part
-      back-now = front-back r wit part front (done .long)
-
   -- A phase of a promise may be run on its row.
-  pub turn-watching : (reason ≡ 0 → ⊥) → Watching words (take (reason * r + r - reason * r) (drop (reason * r) wit)) forth back log line m from word
+  pub turn-watching : (reason ≡ 0 → ⊥) → Watching words (take (reason * r + r - reason * r) (drop (reason * r) wit)) forth back log line m
+      from word
   turn-watching other =
       subst (λ (l : List ℕ). Watching words l forth back log line m from word) (sym (lent-row r reason wit)) (record {
         some = ready .some;
         woven = subst (λ (n : ℕ). Woven n forth back) (sym long) (ready .woven);
-        line-is = record { in-line = omega (arith, long, ready .in-line); line-few = ready .line-few };
-        log-few = ready .log-few;
-        before = ready .before other;
+        line-is = record { in-line = omega (arith, long, ready .lent .in-line); line-few = ready .lent .line-few };
+        log-few = ready .lent .log-few;
+        before = ready .lent .before other;
       })
     where
       long : length (rowOf r reason wit) ≡ r
-      long = row-long r reason wit (ready .room)
-
-  -- It was run, and the row is back.
-  pub turn-watched : {words′ part log′ : List ℕ} {end : ℕ} → (reason ≡ 0 → ⊥)
-      → Watched words words′ (take (reason * r + r - reason * r) (drop (reason * r) wit)) part (Backed back) log log′ m end word
-      → TurnDone words words′ wit (lentBack (reason * r) r wit part) forth back log log′ r reason word m end
-  turn-watched {words′ = words′} {part = part} {log′ = log′} {end = end} other done = record {
-    long = back-now .long;
-    others = back-now .others;
-    ended = λ z. absurd (other z);
-    watched = λ n. subst (λ (l : List ℕ). Watched words words′ (rowOf r reason wit) l (Backed back) log log′ m end word) (sym (back-now .row))
-        (subst (λ (l : List ℕ). Watched words words′ l part (Backed back) log log′ m end word) (lent-row r reason wit) done);
-  }
-    where
-      back-now : PutBack r reason wit (lentBack (reason * r) r wit part) part
-      back-now = row-back r reason wit part (ready .room) (done .long)
+      long = row-long r reason wit (ready .lent .room)

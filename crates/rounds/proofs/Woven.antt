@@ -1,4 +1,5 @@
--- Stored moves, forth and back, are woven, and are the table's moves; what a phase of reason 0 has struck is what it does not save. Assumes nothing.
+-- Stored moves, forth and back, are woven, and are the table's moves; what a phase of reason 0 has struck is what it does not save. Assumes
+-- nothing.
 use mathlib.Core.Path.{_≡_, refl, sym, subst, _∙_}
 use mathlib.Core.List.{List}
 use Prim.Native.Nat.{ℕ, _+_, _-_, _≤_, _<_}
@@ -19,7 +20,8 @@ use Rattle.watch_along.specs.Ends.{Ended}
 use Rattle.ends_tests.specs.Phases.{Falls, was, stays, falls, Phased}
 use Rattle.rounds.proofs.Saved.{Moves}
 
-module _ {book table : List ℕ} {r : ℕ} {forth back : List ℕ} (few : r ≤ mostStates) (F : Forth book table r forth) (B : Back book table r back) where
+module _ {book table : List ℕ} {r : ℕ} {forth back : List ℕ} (few : r ≤ mostStates) (F : Forth book table r forth)
+    (B : Back book table r back) where
   -- Who stands in a row forth is moved to, and who is moved to stands there.
   pub leads-to : (i j : ℕ) → i < r → Leads forth i j → To book table i j
   leads-to i j h s = subst (λ (x : ℕ). To book table i x) (s .3) (F .rows .sound i (s .0) h (s .1) (s .2) .1)
@@ -65,7 +67,8 @@ module _ {book table : List ℕ} {r : ℕ} {forth back : List ℕ} (few : r ≤ 
         where
           no-way : (t : ℕ) → bookSystem book .Move (getD table i 0) t → UnstruckIn table words r t → ⊥
           no-way t move (j, k, same, u) =
-              E .stuck i (omega (arith, h, long)) o x j (to-leads i j h k (subst (λ (y : ℕ). bookSystem book .Move (getD table i 0) y) (sym same) move)) u
+              E .stuck i (omega (arith, h, long)) o x j
+              (to-leads i j h k (subst (λ (y : ℕ). bookSystem book .Move (getD table i 0) y) (sym same) move)) u
 
   -- Rows back are the table's moves.
   pub backed-moves : Moves book table r (Backed back)

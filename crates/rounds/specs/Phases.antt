@@ -8,8 +8,8 @@ use Rattle.meaning.specs.System.{Reachable, Lists}
 use Rattle.rules.specs.Book.{Shaped, bookSystem}
 use Rattle.rounds.specs.Marked.{Marked}
 
--- What `strike` asks: the table is the reachable states. That these are lawful is not asked besides: they are, and `strikable-lawful` (proofs/Running)
--- makes the `LawfulTable` that the functions below ask.
+-- What `strike` asks: the table is the reachable states. That these are lawful is not asked besides: they are, and `strikable-lawful`
+-- (proofs/Running) makes the `LawfulTable` that the functions below ask.
 pub record Strikable (book table words : List ℕ) (r : ℕ) : Type 0 where
   pub shaped : Shaped book
   pub lists : Lists (Reachable (bookSystem book)) (take r table)

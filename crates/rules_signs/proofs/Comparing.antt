@@ -1,6 +1,6 @@
--- Words of two tests compared: where no number passes both, they have no bit in common (words-apart), and the other way round if each number has
--- a bit (apart-none). What is apart from a word is apart from its parts (apart-within). A loop's next word (apart-more, within-more). Assumes
--- nothing.
+-- Words of two tests compared: where no number passes both, they have no bit in common (words-apart), and the other way round if each
+-- number has a bit (apart-none). What is apart from a word is apart from its parts (apart-within). Comparing one word after the other
+-- (paired-none, paired-more, paired-done). Assumes nothing.
 use mathlib.Core.Path.{_≡_, refl, sym, _∙_, ap, subst}
 use mathlib.Core.Logic.{_⊎_, inl, inr}
 use mathlib.Core.Bool.{Bool, true}
@@ -13,7 +13,7 @@ use lib.Bits.{bitAnd}
 use lib.ListN.{length, getD}
 use Rattle.ground.specs.Bits.{bit}
 use Rattle.ground.proofs.Bits.{bit-none, bit-small, bit-cases, bit-and}
-use Rattle.rules_signs.specs.Words.{WordsOf, Window, Apart, Within, wordSize}
+use Rattle.rules_signs.specs.Words.{WordsOf, Window, Paired, Apart, Within, wordSize, mostWords, farthest}
 
 -- What is so below k and at k is so below k + 1.
 pub below-more : (P : ℕ → Type 0) (k : ℕ) → ((j : ℕ) → j < k → P j) → P k → (j : ℕ) → j < k + 1 → P j
@@ -40,9 +40,10 @@ both-set p q m e o hp hq = (omega arith, omega arith)
 pub words-apart :
     {f g : ℕ → Bool} {n w : ℕ} {l : List ℕ} {a u : ℕ} → WordsOf f n w l a → WordsOf g n w l u
     → ((c : ℕ) → c < n → f c ≡ true → g c ≡ true → ⊥) → Apart l a u w
-words-apart {f} {g} {n} {w} {l} {a} {u} F G never = record { none = λ k h. bits-none _ (λ b. by k h b (bit-cases b _)) }
+words-apart {f} {g} {n} {w} {l} {a} {u} F G never = record { each = λ k h. bits-none _ (λ b. by k h b (bit-cases b _)) }
   where
-    by : (k : ℕ) → k < w → (b : ℕ) → (bit b (bitAnd (getD l (a + k) 0) (getD l (u + k) 0)) ≡ 0) ⊎ (bit b (bitAnd (getD l (a + k) 0) (getD l (u + k) 0)) ≡ 1)
+    by : (k : ℕ) → k < w → (b : ℕ) → (bit b (bitAnd (getD l (a + k) 0) (getD l (u + k) 0)) ≡ 0)
+        ⊎ (bit b (bitAnd (getD l (a + k) 0) (getD l (u + k) 0)) ≡ 1)
         → bit b (bitAnd (getD l (a + k) 0) (getD l (u + k) 0)) ≡ 0
     by k h b (inl e) = e
     by k h b (inr e) =
@@ -70,7 +71,7 @@ apart-none {f} {g} {n} {w} {l} {a} {u} F G room A c h p q =
     let one = F .words k inside .full b (omega arith) (omega arith) (subst (λ (i : ℕ). f i ≡ true) (sym at) p) in
     let other = G .words k inside .full b (omega arith) (omega arith) (subst (λ (i : ℕ). g i ≡ true) (sym at) q) in
     let common = set-both (bit b x) (bit b y) _ (bit-and b x y) one other in
-    let nothing = ap (bit b) (A .none k inside) ∙ bit-none b in
+    let nothing = ap (bit b) (A .each k inside) ∙ bit-none b in
     omega (arith, common, nothing)
 
 -- ---- a part
@@ -87,38 +88,24 @@ part-apart x a u part none = bits-none _ (λ b. bit-and b x a ∙ plain _ _ _
 -- What is apart from the words at u is apart from those at a, whose bits are among them.
 pub apart-within : {l : List ℕ} {a u w : ℕ} (x : ℕ) → Within l a u w → Apart l x u w → Apart l x a w
 apart-within {l} {a} {u} x W A = record {
-  none = λ k h. part-apart (getD l (x + k) 0) (getD l (a + k) 0) (getD l (u + k) 0) (W .part k h) (A .none k h);
+  each = λ k h. part-apart (getD l (x + k) 0) (getD l (a + k) 0) (getD l (u + k) 0) (W .each k h) (A .each k h);
 }
 
 -- ---- one word after the other
 
 -- A word of a window stands in the list, and near.
-pub word-inside : {l : List ℕ} {at w k : ℕ} → Window l at w → k < w → (at + k < length l) × (at + k < 262148)
+pub word-inside : {l : List ℕ} {at w k : ℕ} → Window l at w → k < w → (at + k < length l) × (at + k < farthest + mostWords)
 word-inside stands h = (omega (arith, stands .inside), omega (arith, stands .near, stands .narrow))
 
--- No word is compared yet.
-pub apart-start : (l : List ℕ) (a u : ℕ) → Apart l a u 0
-apart-start l a u = record { none = λ k h. absurd (omega arith) }
+module _ {R : ℕ → ℕ → Type 0} where
+  -- No word is compared yet.
+  pub paired-none : (l : List ℕ) (a u : ℕ) → Paired R l a u 0
+  paired-none l a u = record { each = λ k h. absurd (omega arith) }
 
--- And no word is seen to be a part.
-pub within-start : (l : List ℕ) (a u : ℕ) → Within l a u 0
-within-start l a u = record { part = λ k h. absurd (omega arith) }
+  -- One word more.
+  pub paired-more : {l : List ℕ} {a u k : ℕ} → Paired R l a u k → R (getD l (a + k) 0) (getD l (u + k) 0) → Paired R l a u (k + 1)
+  paired-more {l} {a} {u} {k} A e = record { each = below-more (λ j. R (getD l (a + j) 0) (getD l (u + j) 0)) k (A .each) e }
 
--- One word more.
-pub apart-more : {l : List ℕ} {a u k : ℕ} → Apart l a u k → bitAnd (getD l (a + k) 0) (getD l (u + k) 0) ≡ 0 → Apart l a u (k + 1)
-apart-more {l} {a} {u} {k} A e = record { none = below-more (λ j. bitAnd (getD l (a + j) 0) (getD l (u + j) 0) ≡ 0) k (A .none) e }
-
--- One part more.
-pub within-more :
-    {l : List ℕ} {a u k : ℕ} → Within l a u k → bitAnd (getD l (a + k) 0) (getD l (u + k) 0) ≡ getD l (a + k) 0 → Within l a u (k + 1)
-within-more {l} {a} {u} {k} A e = record {
-  part = below-more (λ j. bitAnd (getD l (a + j) 0) (getD l (u + j) 0) ≡ getD l (a + j) 0) k (A .part) e;
-}
-
--- Past the last word all are compared.
-pub apart-done : {l : List ℕ} {a u k w : ℕ} → Apart l a u k → w ≤ k → Apart l a u w
-apart-done A h = record { none = λ j m. A .none j (omega arith) }
-
--- Past the last word all are parts.
-pub within-done : {l : List ℕ} {a u k w : ℕ} → Within l a u k → w ≤ k → Within l a u w
-within-done A h = record { part = λ j m. A .part j (omega arith) }
+  -- Past the last word all are compared.
+  pub paired-done : {l : List ℕ} {a u k w : ℕ} → Paired R l a u k → w ≤ k → Paired R l a u w
+  paired-done A h = record { each = λ j m. A .each j (omega arith) }

@@ -33,10 +33,14 @@ pub record Window (l : List ℕ) (at w : ℕ) : Type 0 where
   pub narrow : w ≤ mostWords
   pub near : at ≤ farthest
 
+-- each of the w words at a stands in R to the one at u
+pub record Paired (R : ℕ → ℕ → Type 0) (l : List ℕ) (a u w : ℕ) : Type 0 where
+  pub each : (k : ℕ) → k < w → R (getD l (a + k) 0) (getD l (u + k) 0)
+
 -- the words at a and those at u have no bit in common
-pub record Apart (l : List ℕ) (a u w : ℕ) : Type 0 where
-  pub none : (k : ℕ) → k < w → bitAnd (getD l (a + k) 0) (getD l (u + k) 0) ≡ 0
+abbrev pub Apart : (l : List ℕ) (a u w : ℕ) → Type 0
+Apart l a u w = Paired (λ (x y : ℕ). bitAnd x y ≡ 0) l a u w
 
 -- every bit of the words at a is one of those at u
-pub record Within (l : List ℕ) (a u w : ℕ) : Type 0 where
-  pub part : (k : ℕ) → k < w → bitAnd (getD l (a + k) 0) (getD l (u + k) 0) ≡ getD l (a + k) 0
+abbrev pub Within : (l : List ℕ) (a u w : ℕ) → Type 0
+Within l a u w = Paired (λ (x y : ℕ). bitAnd x y ≡ x) l a u w

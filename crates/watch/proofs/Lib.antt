@@ -2,6 +2,7 @@ pub mod Sums
 pub mod Weights
 pub mod Beginning
 pub mod Turning
+pub mod Cuts
 pub mod Loosening
 pub mod Helped
 pub mod Hooked

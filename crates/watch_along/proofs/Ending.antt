@@ -2,8 +2,8 @@
 use mathlib.Core.Path.{_≡_, refl, sym, ap, subst, _∙_}
 use mathlib.Core.Logic.{_⊎_, inl, inr}
 use mathlib.Core.List.{List}
-use Prim.Native.Nat.{ℕ, _+_, _-_, _*_, _≤_, _<_}
-use native.Mathlib.Decide.{ℕ-discrete, decLt}
+use Prim.Native.Nat.{ℕ, _+_, _≤_, _<_}
+use native.Mathlib.Decide.{ℕ-discrete}
 use native.Mathlib.Omega.{arith}
 use lib.ListN.{length, getD, set, length-set}
 use lib.Seq.{getD-set-same, getD-set-other}
@@ -11,11 +11,8 @@ use Rattle.ground.specs.Listed.{Between}
 use Rattle.meaning.specs.Promises.{mostStates}
 use Rattle.moves.specs.Layout.{startAt, endAt, cellAt, Backed}
 use Rattle.distances.specs.Far.{Unstruck}
-use Rattle.watch.specs.Witness.{nobody, itself, freeIn, Log, Fresh}
+use Rattle.watch.specs.Witness.{nobody, Log, Fresh}
 use Rattle.watch.specs.Turns.{
-  weight,
-  unstruckAt,
-  countAt,
   Redirects,
   turns,
   stays,
@@ -31,7 +28,19 @@ use Rattle.watch.specs.Turns.{
 use Rattle.watch_along.specs.Along.{Leads, Readable, Woven, Walkable, Redirectable}
 use Rattle.watch_along.specs.Ends.{Blank, Going, Ahead, opening, going, CutOff, WayOn, goes, ends, Lookable, Looked, Ended}
 use Rattle.watch_along.proofs.Redirecting.{redirectable-along}
-use Rattle.watch.proofs.Sums.{weighs-one, weighs-none, two-counts, none-counts}
+use Rattle.watch.proofs.Cuts.{
+  Loses,
+  Cut,
+  cut-none,
+  cut-then,
+  cut-redirected,
+  cut-behind,
+  cut-alone,
+  cut-within,
+  cut-place,
+  cut-turn,
+  cut-leads,
+}
 
 -- ---- blanking a row
 
@@ -86,110 +95,43 @@ listed-cut back B few L = record {
 
 -- ---- cutting off
 
--- a place is cut off or as it was
-abbrev Loses : (old row : List ℕ) (i : ℕ) → Type 0
-Loses old row i = (getD row i 0 ≡ getD old i 0) ⊎ (getD row i 0 ≡ nobody)
-
 -- what is known at turn h: a way on that was struck stands in the log from h on
 pub record Cutting (words old row before log : List ℕ) (m tail h : ℕ) : Type 0 where
-  pub long : length row ≡ length old
-  pub loses : (i : ℕ) → i < length old → (getD row i 0 ≡ getD old i 0) ⊎ (getD row i 0 ≡ nobody)
-  pub log-long : length log ≡ length before
-  pub kept : (t : ℕ) → t < m → getD log t 0 ≡ getD before t 0
-  pub grows : m ≤ tail
-  pub places : (t : ℕ) → m ≤ t → t < tail → getD log t 0 < length old
-  pub alone : (i : ℕ) → i < length old → Unstruck words i → getD row i 0 ≡ nobody → Between log m tail i
+  pub cut : Cut words old row before log m tail
   pub pending : (i : ℕ) → i < length old → Unstruck words i → getD row i 0 < length old
       → Unstruck words (getD row i 0) ⊎ Between log h m (getD row i 0)
-  pub counted : tail ≡ m + countAt nobody words row
 
 -- Before the first turn nobody is cut off.
 pub cutting-none : {words row back log : List ℕ} {from m : ℕ} → Going words row back log from m → Cutting words row row log log m m from
-cutting-none {words = words} {row = row} R = record {
-  long = refl;
-  loses = λ i h. inl refl;
-  log-long = refl;
-  kept = λ t h. refl;
-  grows = omega arith;
-  places = λ t h k. absurd (omega arith);
-  alone = λ i h u e. absurd (R .helped i h u e);
-  pending = R .noted;
-  counted = let z = none-counts nobody words row (R .helped) in omega (arith, z);
-}
+cutting-none {words = words} {row = row} {log = log} {m = m} R = record { cut = cut-none words row log m; pending = R .noted }
 
 module _ {words old row back before log : List ℕ} {from m tail h : ℕ} (R : Going words old back before from m)
     (L : Cutting words old row before log m tail h) where
   -- There are no more places in the log than there are.
   pub cutting-within : tail ≤ length old
-  cutting-within =
-      let a = two-counts nobody itself words row (λ e. absurd (omega (arith, e))) in
-      let b : freeIn words (length row) ≡ freeIn words (length old) = ap (λ (n : ℕ). freeIn words n) (L .long) in
-      omega (arith, a, b, R .log-is .count, L .counted)
+  cutting-within = cut-within (R .log-is) (R .helped) (L .cut)
 
   -- The log's place at h was struck.
   pub cutting-place : h < m → getD log h 0 < length old
-  cutting-place q = let a = L .kept h q in let b = R .log-is .places h q in omega (arith, a, b)
+  cutting-place = cut-place (R .log-is) (R .helped) (L .cut)
 
   -- Those that move to it may be redirected.
   pub cutting-ask : h < m → length before ≤ mostStates → Redirectable words row back (getD log h 0) (getD log h 0) nobody log tail
   cutting-ask inside most =
       let place = cutting-place inside in
-      let few = R .few in
-      redirectable-along (R .backward) (L .long) place (record {
-        few = omega (arith, few, L .long);
-        in-words = omega (arith, L .long, R .log-is .in-words);
-        apart = λ e. absurd (omega (arith, e, place, few));
-        room = let a = two-counts nobody (getD log h 0) words row (λ e. absurd (omega (arith, e, place, few))) in
-            let b : freeIn words (length row) ≡ freeIn words (length old) = ap (λ (n : ℕ). freeIn words n) (L .long) in
-            omega (arith, a, b, R .log-is .count, L .counted, L .log-long, R .log-is .in-log);
-        line-few = omega (arith, L .log-long, most);
-      })
+      redirectable-along (R .backward) (L .cut .long) place (cut-turn (R .log-is) (R .helped) (L .cut) place (R .few) most)
 
   -- A turn: whose way on it was has none.
   pub cutting-more : {row′ log′ : List ℕ} {tail′ : ℕ} → h < m
       → Redirected (λ (i : ℕ). Backed back i (getD log h 0)) words (getD log h 0) nobody row row′ tail log log′ tail′
       → Cutting words old row′ before log′ m tail′ (h + 1)
-  cutting-more {row′ = row′} {log′ = log′} {tail′ = tail′} inside T = record {
-    long = T .long ∙ L .long;
-    loses = λ i k. loses-at i (T .each i (omega (arith, k, L .long))) (L .loses i k);
-    log-long = T .line-long ∙ L .log-long;
-    kept = λ t k. T .kept t (omega (arith, k, L .grows)) ∙ L .kept t k;
-    grows = omega (arith, L .grows, T .grows);
-    places = λ t k l. place-at t k l (decLt t tail);
-    alone = λ i k u e. alone-at i k u e (T .each i (omega (arith, k, L .long)));
-    pending = λ i k u l. pending-at i k u l (T .each i (omega (arith, k, L .long)));
-    counted = let w = T .weighs (unstruckAt nobody) in
-        let one = weighs-one nobody in
-        let none = weighs-none nobody 0 (getD log h 0) (λ e. absurd (omega (arith, e, place, R .few))) in
-        let f : (tail′ - tail) * unstruckAt nobody 0 (getD log h 0) ≡ (tail′ - tail) * 0 = ap (λ (x : ℕ). (tail′ - tail) * x) none in
-        let g : (tail′ - tail) * unstruckAt nobody 0 nobody ≡ (tail′ - tail) * 1 = ap (λ (x : ℕ). (tail′ - tail) * x) one in
-        let n : countAt nobody words row′ ≡ weight (unstruckAt nobody) words row′ (length row) =
-        ap (λ (x : ℕ). weight (unstruckAt nobody) words row′ x) (T .long) in
-        omega (arith, w, f, g, n, L .counted, T .grows);
+  cutting-more {row′ = row′} {log′ = log′} inside T = record {
+    cut = cut-then (L .cut) (cut-redirected (omega (arith, place, L .cut .long)) (omega (arith, R .few, L .cut .long)) T);
+    pending = λ i k u l. pending-at i k u l (T .each i (omega (arith, k, L .cut .long)));
   }
     where
       place : getD log h 0 < length old
       place = cutting-place inside
-
-      loses-at : (i : ℕ) → Redirects (Backed back i (getD log h 0)) (getD words i 0) (getD log h 0) nobody (getD row i 0) (getD row′ i 0)
-          → Loses old row i → Loses old row′ i
-      loses-at i (turns p u e f) s = inr f
-      loses-at i (stays e n) (inl s) = inl (e ∙ s)
-      loses-at i (stays e n) (inr s) = inr (e ∙ s)
-
-      place-at : (t : ℕ) → m ≤ t → t < tail′ → Dec (t < tail) → getD log′ t 0 < length old
-      place-at t k l (yes q) = let e = T .kept t q in let p = L .places t k q in omega (arith, p, e)
-      place-at t k l (no q) = let p = T .added t (omega arith) l in let a = p .0 in omega (arith, a, L .long)
-
-      alone-at : (i : ℕ) → i < length old → Unstruck words i → getD row′ i 0 ≡ nobody
-          → Redirects (Backed back i (getD log h 0)) (getD words i 0) (getD log h 0) nobody (getD row i 0) (getD row′ i 0)
-          → Between log′ m tail′ i
-      alone-at i k u e (turns p v been f) =
-          let s = T .whole i (omega (arith, k, L .long)) u been e in
-          (s .0, omega (arith, s .1, L .grows), s .2, s .3)
-      alone-at i k u e (stays same n) =
-          let s = L .alone i k u (sym same ∙ e) in
-          (s .0, s .1, omega (arith, s .2, T .grows), T .kept (s .0) (s .2) ∙ s .3)
 
       pending-at : (i : ℕ) → i < length old → Unstruck words i → getD row′ i 0 < length old
           → Redirects (Backed back i (getD log h 0)) (getD words i 0) (getD log h 0) nobody (getD row i 0) (getD row′ i 0)
@@ -202,14 +144,10 @@ module _ {words old row back before log : List ℕ} {from m tail h : ℕ} (R : G
           below = omega (arith, same, l)
 
           hangs : Backed back i (getD row i 0)
-          hangs = held (L .loses i k)
-            where
-              held : Loses old row i → Backed back i (getD row i 0)
-              held (inl s) = subst (λ (x : ℕ). Backed back i x) (sym s) (R .leads i k (omega (arith, s, below)))
-              held (inr s) = absurd (omega (arith, s, below, R .few))
+          hangs = cut-leads (R .log-is) (R .helped) (L .cut) (Backed back) (R .few) (R .leads) i k below
 
           noted : (s : Between log h m (getD row i 0)) → Dec (s .0 ≡ h) → Between log′ (h + 1) m (getD row i 0)
-          noted s (no q) = (s .0, omega (arith, q, s .1), s .2, T .kept (s .0) (omega (arith, s .2, L .grows)) ∙ s .3)
+          noted s (no q) = cut-behind log log′ h m m (getD row i 0) (λ t v. T .kept t (omega (arith, v, L .cut .grows))) (omega arith) s q
           noted s (yes q) =
               let e : getD log h 0 ≡ getD row i 0 = ap (λ (x : ℕ). getD log x 0) (sym q) ∙ s .3 in
               absurd (n (subst (λ (x : ℕ). Backed back i x) (sym e) hangs) u (sym e))
@@ -222,27 +160,23 @@ module _ {words old row back before log : List ℕ} {from m tail h : ℕ} (R : G
   -- When no turn is left, who still has a way on goes on to an unstruck place.
   pub cutting-done : m ≤ h → CutOff words old row back before log m tail
   cutting-done over = record {
-    long = L .long;
-    each = λ i k. each-at i k (L .loses i k) (R .each i k);
-    leads = λ i k l. leads-at i k l (L .loses i k);
+    long = L .cut .long;
+    each = λ i k. each-at i k (L .cut .loses i k) (R .each i k);
+    leads = cut-leads (R .log-is) (R .helped) (L .cut) (Backed back) (R .few) (R .leads);
     sure = λ i k u l. sure-at (L .pending i k u l);
-    log-long = L .log-long;
-    kept = L .kept;
-    grows = L .grows;
+    log-long = L .cut .log-long;
+    kept = L .cut .kept;
+    grows = L .cut .grows;
     within = cutting-within;
-    places = L .places;
-    alone = L .alone;
+    places = λ t k l. L .cut .places t k l .0;
+    alone = cut-alone (R .log-is) (R .helped) (L .cut);
   }
     where
-      each-at : (i : ℕ) → i < length old → Loses old row i → (getD old i 0 ≡ nobody) ⊎ (getD old i 0 < length old) → (getD row i 0 ≡ nobody)
-          ⊎ (getD row i 0 < length old)
-      each-at i k (inr s) o = inl s
+      each-at : (i : ℕ) → i < length old → Loses old row i → (getD old i 0 ≡ nobody) ⊎ (getD old i 0 < length old)
+          → (getD row i 0 ≡ nobody) ⊎ (getD row i 0 < length old)
+      each-at i k (inr s) o = inl (s .0)
       each-at i k (inl s) (inl o) = inl (s ∙ o)
       each-at i k (inl s) (inr o) = inr (omega (arith, s, o))
-
-      leads-at : (i : ℕ) → i < length old → getD row i 0 < length old → Loses old row i → Backed back i (getD row i 0)
-      leads-at i k l (inl s) = subst (λ (x : ℕ). Backed back i x) (sym s) (R .leads i k (omega (arith, s, l)))
-      leads-at i k l (inr s) = absurd (omega (arith, s, l, R .few))
 
       sure-at : {j : ℕ} → Unstruck words j ⊎ Between log h m j → Unstruck words j
       sure-at (inl u) = u

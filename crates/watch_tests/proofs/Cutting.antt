@@ -18,6 +18,7 @@ use Rattle.watch_tests.specs.Tests.{IsCut, Cuttable, CutBelow}
 use Rattle.watch.proofs.Beginning.{no-both}
 use Rattle.watch.proofs.Sums.{weighs-one, weighs-none, two-counts}
 use Rattle.watch.proofs.Weights.{weight-turn, count-turn}
+use Rattle.watch.proofs.Cuts.{cut-then, cut-count}
 use Rattle.watch.proofs.Loosening.{Loosening}
 
 -- ---- whether a place hangs on a lost one
@@ -221,52 +222,32 @@ module _ {words old row before log : List ℕ} {M : ℕ → ℕ → Type 0} {fro
   -- A pass may be made,
   pub loosening-cut : length before ≤ mostStates → Cuttable words row log tail
   loosening-cut most = record {
-    few = omega (arith, L .long, R .pointed .few);
-    in-words = omega (arith, L .long, R .log-is .in-words);
-    room = let b : freeIn words (length row) ≡ freeIn words (length old) = ap (λ (x : ℕ). freeIn words x) (L .long) in
-        omega (arith, b, R .log-is .count, L .counted, L .log-long, R .log-is .in-log);
-    log-few = omega (arith, L .log-long, most);
+    few = omega (arith, L .cut .long, R .pointed .few);
+    in-words = omega (arith, L .cut .long, R .log-is .in-words);
+    room = let b : freeIn words (length row) ≡ freeIn words (length old) = ap (λ (x : ℕ). freeIn words x) (L .cut .long) in
+        omega (arith, b, R .log-is .count, cut-count (R .log-is) (R .helped) (L .cut), L .cut .log-long, R .log-is .in-log);
+    log-few = omega (arith, L .cut .log-long, most);
   }
 
   -- and then all turns up to where it began are done.
   pub loosening-pass : {row′ log′ : List ℕ} {tail′ : ℕ} → CutBelow words row row′ log log′ tail tail′ (length row)
       → Loosening words old row′ before log′ m tail′ tail
   loosening-pass {row′ = row′} {log′ = log′} {tail′ = tail′} C = record {
-    long = C .long ∙ L .long;
-    loses = λ i k. loses-at i (C .each i (omega (arith, k, L .long))) (L .loses i k);
-    log-long = C .log-long ∙ L .log-long;
-    kept = λ t k. C .kept t (omega (arith, k, L .grows)) ∙ L .kept t k;
-    grows = omega (arith, L .grows, C .grows);
-    places = λ t k l. place-at t k l (decLt t tail);
-    alone = λ i k u e. alone-at i k u (C .alone i (omega (arith, k, L .long)) u e);
-    pending = λ i k u l. let p = C .past i (omega (arith, k, L .long)) (omega (arith, k, L .long)) u (omega (arith, l, L .long)) in
+    cut = cut-then (L .cut) (record {
+      long = C .long;
+      loses = C .each;
+      log-long = C .log-long;
+      kept = C .kept;
+      grows = C .grows;
+      places = C .places;
+      alone = C .alone;
+      counted = C .counted;
+    });
+    pending = λ i k u l.
+        let p = C .past i (omega (arith, k, L .cut .long)) (omega (arith, k, L .cut .long)) u (omega (arith, l, L .cut .long)) in
         held i p (p .1);
-    counted = omega (arith, L .counted, C .counted);
   }
     where
-      few : length old ≤ mostStates
-      few = R .pointed .few
-
-      loses-at : (i : ℕ) → (getD row′ i 0 ≡ getD row i 0) ⊎ ((getD row′ i 0 ≡ nobody) × (getD row i 0 < length row))
-          → (getD row i 0 ≡ getD old i 0) ⊎ ((getD row i 0 ≡ nobody) × (getD old i 0 < length old))
-          → (getD row′ i 0 ≡ getD old i 0) ⊎ ((getD row′ i 0 ≡ nobody) × (getD old i 0 < length old))
-      loses-at i (inl e) (inl s) = inl (e ∙ s)
-      loses-at i (inl e) (inr s) = inr (e ∙ s .0, s .1)
-      loses-at i (inr e) (inl s) = let l = e .1 in inr (e .0, omega (arith, l, s, L .long))
-      loses-at i (inr e) (inr s) = inr (e .0, s .1)
-
-      place-at : (t : ℕ) → m ≤ t → t < tail′ → Dec (t < tail) → (getD log′ t 0 < length old) × Unstruck words (getD log′ t 0)
-      place-at t k l (yes q) =
-          let e = C .kept t q in
-          let p = L .places t k q in
-          let a = p .0 in
-          (omega (arith, a, e), ap (λ (x : ℕ). getD words x 0) e ∙ p .1)
-      place-at t k l (no q) = let p = C .places t (omega arith) l in let a = p .0 in (omega (arith, a, L .long), p .1)
-
-      alone-at : (i : ℕ) → i < length old → Unstruck words i → (getD row i 0 ≡ nobody) ⊎ Between log′ tail tail′ i → Between log′ m tail′ i
-      alone-at i k u (inl e) = let s = L .alone i k u e in (s .0, s .1, omega (arith, s .2, C .grows), C .kept (s .0) (s .2) ∙ s .3)
-      alone-at i k u (inr s) = (s .0, omega (arith, s .1, L .grows), s .2, s .3)
-
       held : (i : ℕ) → Unstruck words (getD row′ i 0)
           × ((getD row′ (getD row′ i 0) 0 ≡ nobody → ⊥) ⊎ Between log′ tail tail′ (getD row′ i 0))
           → (getD row′ (getD row′ i 0) 0 ≡ nobody → ⊥) ⊎ Between log′ tail tail′ (getD row′ i 0)

@@ -26,7 +26,7 @@ loop-holds c = let R = c .before .before .before .pre .0 in (omega arith, R .sin
 slice-read-t : tie.Need-slice-read-t Inv-loop μ-loop
 slice-read-t c =
     let l = c .before .before in
-    omega (arith, within l, l .loop-test .taken, start (l .before) .pre .0 .log-is .in-log, l .before .loop .inv .2 .log-long)
+    omega (arith, within l, l .loop-test .taken, start (l .before) .pre .0 .log-is .in-log, l .before .loop .inv .2 .cut .log-long)
 
 turn-requires : tie.Need-turn-requires Inv-loop μ-loop
 turn-requires c κs =
@@ -41,7 +41,7 @@ after-turn c =
     let T = c .before .before .before .before .turn .ensures in (
       omega (arith, l .before .loop .inv .0),
       omega (arith, l .loop-test .taken, T .grows),
-      loosening-more (start (l .before) .pre .0) (l .before .loop .inv .2) (λ i k p. omega (arith, k, l .before .loop .inv .2 .long))
+      loosening-more (start (l .before) .pre .0) (l .before .loop .inv .2) (λ i k p. omega (arith, k, l .before .loop .inv .2 .cut .long))
           (l .before .loop .inv .0) (l .loop-test .taken) T,
     )
 
@@ -75,12 +75,15 @@ loosen-spec =
     (λ c. let l = c .before in omega (arith, within l, l .loop-test .taken, start (l .before) .pre .0 .pointed .few))
     slice-read-t
     turn-requires
-    (λ c. let l = c .before .before .before .before .before .before .before .before .before in omega (arith, within l, l .loop-test .taken, start (l .before) .pre .0 .pointed .few))
-    (λ c. let l = c .before .before .before .before .before .before .before .before .before in omega (arith, within l, l .loop-test .taken, start (l .before) .pre .0 .log-is .in-log))
+    (λ c. let l = c .before .before .before .before .before .before .before .before .before in
+    omega (arith, within l, l .loop-test .taken, start (l .before) .pre .0 .pointed .few))
+    (λ c. let l = c .before .before .before .before .before .before .before .before .before in
+    omega (arith, within l, l .loop-test .taken, start (l .before) .pre .0 .log-is .in-log))
     after-turn
     cut-requires
-    (λ c. let l = c .before .before .before .before .before .before .before .before in omega (arith, within l, l .loop-test .taken, start (l .before) .pre .0 .log-is .in-log))
+    (λ c. let l = c .before .before .before .before .before .before .before .before in
+    omega (arith, within l, l .loop-test .taken, start (l .before) .pre .0 .log-is .in-log))
     after-pass
-    (λ c. c .before .loop .inv .2 .long)
-    (λ c. c .before .loop .inv .2 .log-long)
+    (λ c. c .before .loop .inv .2 .cut .long)
+    (λ c. c .before .loop .inv .2 .cut .log-long)
     returns)

@@ -4,27 +4,28 @@ use borrow.Author.Needs.{needs}
 use native.Mathlib.Omega.{arith}
 use lib.Seq.{length-take-le}
 use Rattle.rounds.proofs.Rows.{front-inside}
-use Rattle.rounds.proofs.WaysOn.{turn-endable, turn-ended, turn-watching, turn-watched}
+use Rattle.rounds.proofs.Lending.{first-turned, promise-turned}
+use Rattle.rounds.proofs.WaysOn.{turn-endable, turn-watching}
 use Rattle.rounds.proofs.along.phase.Statement.{statement}
 use Rattle.rounds.proofs.along.phase.Tie as tie
 
 slice-aggregate-phase : tie.Need-slice-aggregate-phase
 slice-aggregate-phase c =
     let entry = c .before .before .before .before .before .before .before .before .before in
-    sym (length-take-le (entry .args .r) (entry .args .wit .now) (front-inside (entry .args .turn .reason) _ _ (entry .pre .room)))
+    sym (length-take-le (entry .args .r) (entry .args .wit .now) (front-inside (entry .args .turn .reason) _ _ (entry .pre .lent .room)))
 
 returns : tie.Need-returns
 returns c =
     let at-phase = c .before .before .before .before .before .before in
     let test = at-phase .before .before .before .before in
     let entry = test .before .before .before .before .before .before .before in
-    (turn-ended (entry .pre) (test .if1 .taken) (at-phase .phase .ensures), refl)
+    (first-turned (entry .pre .lent .room) _ (test .if1 .taken) (at-phase .phase .ensures .long) (at-phase .phase .ensures), refl)
 
 returns-2 : tie.Need-returns-2
 returns-2 c =
     let at-phase = c .before .before .before .before .before .before .before .before in
     let entry = at-phase .before .before .before .before .before .before .before .before .before .before .before .before in
-    (turn-watched (entry .pre) (omega arith) (at-phase .phase2 .ensures .0), at-phase .phase2 .ensures .1)
+    (promise-turned (entry .pre .lent .room) _ (omega arith) (at-phase .phase2 .ensures .0), at-phase .phase2 .ensures .1)
 
 pub phase-spec : {M : Type 1} → statement M
 phase-spec =
@@ -32,7 +33,8 @@ phase-spec =
     (tie.spec
     (λ c. search needs)
     slice-aggregate-phase
-    (λ c κs. turn-endable (c .before .before .before .before .before .before .before .before .before .before .pre) (c .before .before .before .if1 .taken))
+    (λ c κs. turn-endable (c .before .before .before .before .before .before .before .before .before .before .pre)
+    (c .before .before .before .if1 .taken))
     (λ c. search needs)
     (λ c. search needs)
     (λ c. search needs)

@@ -4,27 +4,31 @@ use borrow.Author.Needs.{needs}
 use native.Mathlib.Omega.{arith}
 use lib.Seq.{length-take-le}
 use Rattle.rounds.proofs.Rows.{front-inside}
-use Rattle.rounds.proofs.Pointing.{turn-striking, turn-dead, turn-watching, turn-watched}
+use Rattle.rounds.proofs.Lending.{first-turned, promise-turned}
+use Rattle.rounds.proofs.Pointing.{turn-striking, turn-watching}
 use Rattle.rounds.proofs.tests.phase.Statement.{statement}
 use Rattle.rounds.proofs.tests.phase.Tie as tie
 
 slice-aggregate-dead-ends : tie.Need-slice-aggregate-dead-ends
 slice-aggregate-dead-ends c =
     let entry = c .before .before .before .before .before .before .before .before .before .before in
-    sym (length-take-le (entry .args .r) (entry .args .wit .now) (front-inside (entry .args .turn .reason) _ _ (entry .pre .room)))
+    sym (length-take-le (entry .args .r) (entry .args .wit .now) (front-inside (entry .args .turn .reason) _ _ (entry .pre .lent .room)))
 
 returns : tie.Need-returns
 returns c =
     let at-dead-ends = c .before .before .before .before .before .before in
     let test = at-dead-ends .before .before .before .before in
-    let entry = test .before .before .before .before .before .before .before .before in
-    (turn-dead (entry .pre) (test .if1 .taken) (at-dead-ends .dead-ends .ensures), refl)
+    let entry = test .before .before .before .before .before .before .before .before in (
+      first-turned (entry .pre .lent .room) _ (test .if1 .taken) (at-dead-ends .dead-ends .ensures .row-long)
+          (at-dead-ends .dead-ends .ensures),
+      refl,
+    )
 
 returns-2 : tie.Need-returns-2
 returns-2 c =
     let at-phase = c .before .before .before .before .before .before .before .before in
     let entry = at-phase .before .before .before .before .before .before .before .before .before .before .before .before .before in
-    (turn-watched (entry .pre) (omega arith) (at-phase .phase .ensures .0), at-phase .phase .ensures .1)
+    (promise-turned (entry .pre .lent .room) _ (omega arith) (at-phase .phase .ensures .0), at-phase .phase .ensures .1)
 
 pub phase-spec : {M : Type 1} → statement M
 phase-spec =
@@ -43,7 +47,8 @@ phase-spec =
     (λ c. search needs)
     (λ c. search needs)
     (λ c. search needs)
-    (λ c κs. turn-watching (c .before .before .before .before .before .before .before .before .before .before .before .before .pre) (omega arith))
+    (λ c κs. turn-watching (c .before .before .before .before .before .before .before .before .before .before .before .before .pre)
+    (omega arith))
     (λ c. search needs)
     (λ c. search needs)
     (λ c. search needs)

@@ -12,51 +12,65 @@ Inv-loop words row₀ back log₀ from m tail₀ h₀ row log tail h = (from ≤
 abbrev μ-loop : tie.MeasureT-loop
 μ-loop words row₀ back log₀ from m tail₀ h₀ row log tail h = m - h
 
+-- where the function began, seen from the loop; and the loop's turn, seen from its end
+abbrev start : tie.At-loop Inv-loop μ-loop → tie.Start Inv-loop μ-loop
+start c = c .before .before .before .before .before
+
+abbrev turn : tie.After-slice-known5 Inv-loop μ-loop → tie.In-loop Inv-loop μ-loop
+turn c = c .before .before .before .before .before .before .before .before
+
 -- within the loop: the log is no longer than there are places
-within : (c : tie.In-loop Inv-loop μ-loop) → c .before .loop .tail ≤ length (c .before .before .before .before .before .before .args .row .now)
-within c = cutting-within (c .before .before .before .before .before .before .pre .0) (c .before .loop .inv .1)
+within : (c : tie.In-loop Inv-loop μ-loop) → c .before .loop .tail ≤ length (start (c .before) .args .row .now)
+within c = cutting-within (start (c .before) .pre .0) (c .before .loop .inv .1)
 
 loop-holds : tie.Need-loop-holds Inv-loop μ-loop
-loop-holds c = let start = c .before .before .before .before in (omega arith, cutting-none (start .pre .0))
+loop-holds c = let entry = c .before .before .before .before in (omega arith, cutting-none (entry .pre .0))
 
 mul-t : tie.Need-mul-t Inv-loop μ-loop
-mul-t c = omega (arith, within c, c .before .loop .inv .1 .grows, c .loop-test .taken, c .before .before .before .before .before .before .pre .0 .few)
+mul-t c = omega (arith, within c, c .before .loop .inv .1 .cut .grows, c .loop-test .taken, start (c .before) .pre .0 .few)
 
 slice-read-t : tie.Need-slice-read-t Inv-loop μ-loop
-slice-read-t c = let l = c .before in let R = l .before .before .before .before .before .before .pre .0 in
-    omega (arith, within l, l .before .loop .inv .1 .grows, l .loop-test .taken, R .log-is .in-log, l .before .loop .inv .1 .log-long)
+slice-read-t c = let l = c .before in let R = start (l .before) .pre .0 in
+    omega (
+      arith,
+      within l,
+      l .before .loop .inv .1 .cut .grows,
+      l .loop-test .taken,
+      R .log-is .in-log,
+      l .before .loop .inv .1 .cut .log-long,
+    )
 
 cast-place : tie.Need-cast-place Inv-loop μ-loop
 cast-place c = let l = c .before in
     omega (
       arith,
-      cutting-place (l .before .before .before .before .before .before .pre .0) (l .before .loop .inv .1) (l .loop-test .taken),
-      l .before .before .before .before .before .before .pre .0 .few,
+      cutting-place (start (l .before) .pre .0) (l .before .loop .inv .1) (l .loop-test .taken),
+      start (l .before) .pre .0 .few,
     )
 
 redirect-requires : tie.Need-redirect-requires Inv-loop μ-loop
 redirect-requires c κs = let l = c .before .before .before in
-    cutting-ask (l .before .before .before .before .before .before .pre .0) (l .before .loop .inv .1) (l .loop-test .taken)
-    (l .before .before .before .before .before .before .pre .1)
+    cutting-ask (start (l .before) .pre .0) (l .before .loop .inv .1) (l .loop-test .taken)
+    (start (l .before) .pre .1)
 
 add-h : tie.Need-add-h Inv-loop μ-loop
-add-h c = let l = c .before .before .before .before .before .before .before .before in
-    omega (arith, within l, l .before .loop .inv .1 .grows, l .loop-test .taken, l .before .before .before .before .before .before .pre .0 .few)
+add-h c = let l = turn c in
+    omega (arith, within l, l .before .loop .inv .1 .cut .grows, l .loop-test .taken, start (l .before) .pre .0 .few)
 
 loop-less : tie.Need-loop-less Inv-loop μ-loop
-loop-less c = let l = c .before .before .before .before .before .before .before .before in let R = l .before .before .before .before .before .before .pre .0 in
+loop-less c = let l = turn c in
     omega (arith, l .loop-test .taken)
 
 loop-again : tie.Need-loop-again Inv-loop μ-loop
 loop-again c =
-    let l = c .before .before .before .before .before .before .before .before in
+    let l = turn c in
     let T = c .before .before .before .before .redirect .ensures in (
       omega (arith, l .before .loop .inv .0),
-      cutting-more (l .before .before .before .before .before .before .pre .0) (l .before .loop .inv .1) (l .loop-test .taken) T,
+      cutting-more (start (l .before) .pre .0) (l .before .loop .inv .1) (l .loop-test .taken) T,
     )
 
 returns : tie.Need-returns Inv-loop μ-loop
-returns c = cutting-done (c .before .before .before .before .before .before .pre .0) (c .before .loop .inv .1) (omega (arith, c .loop-test .left))
+returns c = cutting-done (start (c .before) .pre .0) (c .before .loop .inv .1) (omega (arith, c .loop-test .left))
 
 pub cut-spec : {M : Type 1} → statement M
 cut-spec =
@@ -72,6 +86,6 @@ cut-spec =
     add-h
     loop-less
     loop-again
-    (λ c. c .before .loop .inv .1 .long)
-    (λ c. c .before .loop .inv .1 .log-long)
+    (λ c. c .before .loop .inv .1 .cut .long)
+    (λ c. c .before .loop .inv .1 .cut .log-long)
     returns)
