@@ -1,5 +1,5 @@
--- The loop over a piece: what is left to carry on equals the whole (Following), at the start (following-none), with the states more that come by
--- one and the same move (following-next) and at the end (following-all). Assumes nothing.
+-- The loop over a piece: what is left to carry on equals the whole (Following), at the start (following-none), with the states more that
+-- come by one and the same move (following-next) and at the end (following-all). Assumes nothing.
 use mathlib.Core.Path.{_≡_, refl, sym, _∙_, ap, ap₂}
 use mathlib.Core.Bool.{Bool}
 use mathlib.Core.List.{List}
@@ -23,7 +23,8 @@ pub record Following (book states : List ℕ) (account now : Account) (i : ℕ) 
   pub broken : Within (mostMoments + i) (now .broken)
   pub left : bookCarried book now (drop i states) ≡ bookCarried book account states
 
-pub following-none : (book states : List ℕ) (account : Account) → Carriable account (length states) → Following book states account account 0
+pub following-none : (book states : List ℕ) (account : Account) → Carriable account (length states)
+    → Following book states account account 0
 following-none book states account c = record {
   few = omega arith;
   count-is = (let e : account .count ≡ account .count + 0 = omega arith in e);
@@ -34,7 +35,8 @@ following-none book states account c = record {
 }
 
 -- The count and the tallies have room for the states that come by the next move.
-pub following-fits : {book states : List ℕ} {account now : Account} {i : ℕ} (times : ℕ) → Following book states account now i → i + times ≤ length states
+pub following-fits : {book states : List ℕ} {account now : Account} {i : ℕ} (times : ℕ) → Following book states account now i
+    → i + times ≤ length states
     → Within (mostMoments + mostMoments) (now .kept) × Within (mostMoments + mostMoments) (now .broken) × (now .count + times ≤ mostMoments)
 following-fits {book} {states} {account} {now} {i} times f h = (
   record { within = λ j k. omega (arith, f .kept .within j k, f .fits) },
@@ -43,21 +45,26 @@ following-fits {book} {states} {account} {now} {i} times f h = (
 )
 
 -- The five numbers and the tallies after such states are the account with these noted.
-noted-is : (book : List ℕ) (head : Head.Head) (kept broken : List ℕ) (t times : ℕ) (kept′ broken′ : List ℕ) (broke : Bool) (next : Head.Head)
+noted-is : (book : List ℕ) (head : Head.Head) (kept broken : List ℕ) (t times : ℕ) (kept′ broken′ : List ℕ) (broke : Bool)
+    (next : Head.Head)
     → Moved book (withTallies head kept broken) t times kept′ broken′ broke → next ≡ headNoted book head broke t times
     → withTallies next kept′ broken′ ≡ bookNoted book (withTallies head kept broken) t times
 unfolding bookNoted headNoted
 noted-is book head kept broken t times kept′ broken′ broke next m e =
     ap (λ (h : Head.Head). withTallies h kept′ broken′) (e ∙ ap (λ (b : Bool). headNoted book head b t times) (m .says))
-    ∙ ap₂ (λ (k x : List ℕ). withTallies (headNoted book head (bookBreaks book (withTallies head kept broken) t) t times) k x) (m .keeps) (m .breaks)
+    ∙ ap₂ (λ (k x : List ℕ). withTallies (headNoted book head (bookBreaks book (withTallies head kept broken) t) t times) k x) (m .keeps)
+    (m .breaks)
 
-pub following-next : (book states : List ℕ) (account : Account) (head : Head.Head) (kept broken : List ℕ) (i times : ℕ) (kept′ broken′ : List ℕ)
+pub following-next : (book states : List ℕ) (account : Account) (head : Head.Head) (kept broken : List ℕ) (i times : ℕ)
+    (kept′ broken′ : List ℕ)
     (broke : Bool) (next : Head.Head) → Following book states account (withTallies head kept broken) i
-    → SameMoves states i (head .count) (head .last) times → Moved book (withTallies head kept broken) (getD states i 0) times kept′ broken′ broke
+    → SameMoves states i (head .count) (head .last) times → Moved book (withTallies head kept broken) (getD states i 0) times kept′
+    broken′ broke
     → next ≡ headNoted book head broke (getD states i 0) times → Following book states account (withTallies next kept′ broken′) (i + times)
 unfolding headNoted
 following-next book states account head kept broken i times kept′ broken′ broke next f same m e =
-    let grown = moved-within book (withTallies head kept broken) (getD states i 0) times (mostMoments + i) kept′ broken′ broke m (f .kept) (f .broken) in
+    let grown = moved-within book (withTallies head kept broken) (getD states i 0) times (mostMoments + i) kept′ broken′ broke m (f .kept)
+    (f .broken) in
     let noted = noted-is book head kept broken (getD states i 0) times kept′ broken′ broke next m e in
     record {
       few = same .within;
@@ -73,7 +80,8 @@ following-next book states account head kept broken i times kept′ broken′ br
           ∙ f .left;
     }
 
-pub following-all : {book states : List ℕ} {account now : Account} {i : ℕ} → Following book states account now i → length states ≤ i → now ≡ bookCarried book account states
+pub following-all : {book states : List ℕ} {account now : Account} {i : ℕ} → Following book states account now i → length states ≤ i
+    → now ≡ bookCarried book account states
 unfolding bookCarried
 following-all {book} {states} {account} {now} {i} f over =
     sym (ap (bookCarried book now) (drop-of-length-le states over)) ∙ f .left

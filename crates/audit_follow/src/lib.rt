@@ -1,5 +1,5 @@
-// An account of a log carried on by more states, move by move: its five numbers, and the tallies of the step rules beside them. What a state is and
-// what is told of it stands in crates/audit_account/specs.
+// An account of a log carried on by more states, move by move: its five numbers, and the tallies of the step rules beside them. What a
+// state is and what is told of it stands in crates/audit_account/specs.
 use ground::State;
 ghost use mathlib.Core.Path.{_≡_};
 ghost use Prim.Native.Nat.{_+_, _<_, _≤_};
@@ -24,8 +24,8 @@ pub struct Head {
     pub rule: u32,
 }
 
-// What the state t is after `count` others, where the move into it broke a step rule or did not: 0 no breach, 1 unlawful, 2 it breaks a first
-// rule, 3 a step rule.
+// What the state t is after `count` others, where the move into it broke a step rule or did not: 0 no breach, 1 unlawful, 2 it breaks a
+// first rule, 3 a step rule.
 fn what_is(book: &[State], count: u32, broke: bool, t: State) -> u32
     requires { ⌜ Shaped (now book) ⌝ }
     ensures { λ r. ⌜ r ≡ bookIs (now (book .entry)) count broke t ⌝ }

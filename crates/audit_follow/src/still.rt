@@ -1,5 +1,5 @@
-// How long a log stands still. A monitor writes a state at every moment, and most of the time nothing has changed since the one before; such
-// moves are all alike and are counted at once.
+// How long a log stands still. A monitor writes a state at every moment, and most of the time nothing has changed since the one before;
+// such moves are all alike and are counted at once.
 use ground::State;
 ghost use mathlib.Core.Path.{_≡_};
 ghost use Prim.Native.Nat.{_≤_, _<_};
@@ -21,8 +21,8 @@ fn standing(states: &[State], from: usize, s: State) -> usize
     i - from
 }
 
-// How many of the states from place i on come by one and the same move, where `count` states came before, the last of them `last`: as many as
-// the log stands still, or one.
+// How many of the states from place i on come by one and the same move, where `count` states came before, the last of them `last`: as many
+// as the log stands still, or one.
 pub fn same_moves(states: &[State], i: usize, count: u32, last: State) -> usize
     requires { ⌜ i < length (now states) ⌝ }
     ensures { λ r. ⌜ SameMoves (now (states .entry)) i count last r ⌝ }

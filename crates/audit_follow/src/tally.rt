@@ -1,4 +1,5 @@
-// The tallies of a move, or of one and the same move made several times: for each step rule whose left side held, whether it kept or broke it.
+// The tallies of a move, or of one and the same move made several times: for each step rule whose left side held, whether it kept or broke
+// it.
 use super::TALLIES;
 use ground::State;
 ghost use mathlib.Core.Path.{_≡_};
@@ -19,8 +20,8 @@ fn counted(passed: bool, times: u32) -> u32
     0
 }
 
-// Counts `times` moves from s to t for step rule i; whether they broke the rule. Both tallies are written, whatever the move: which one grows is
-// hard to foresee, and a branch on it costs more than the store.
+// Counts `times` moves from s to t for step rule i; whether they broke the rule. Both tallies are written, whatever the move: which one
+// grows is hard to foresee, and a branch on it costs more than the store.
 fn tally_rule(
     book: &[State],
     i: usize,
@@ -48,8 +49,8 @@ fn tally_rule(
     breaks
 }
 
-// Counts `times` moves from s to t for every step rule; whether they broke one. Which one was the first is not asked here: without that, the
-// compiler counts several rules at once.
+// Counts `times` moves from s to t for every step rule; whether they broke one. Which one was the first is not asked here: without that,
+// the compiler counts several rules at once.
 pub fn tally(
     book: &[State],
     s: State,

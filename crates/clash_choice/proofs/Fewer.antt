@@ -76,7 +76,12 @@ among-allows sheet fewer more among = record {
   first = λ s t. t;
   move = λ s t m.
       let parts = move-parts (onlyChosen more sheet) s t .0 m in
-      move-parts (onlyChosen fewer sheet) s t .1 (parts .0, parts .1, every-among (stepHolds s t) fewer more (sheet .steps) among (parts .2));
+      move-parts (onlyChosen fewer sheet) s t .1 (
+        parts .0,
+        parts .1,
+        every-among (stepHolds s t) fewer more (sheet .steps) among
+            (parts .2),
+      );
   promises = refl;
   kept = λ k s t. t;
 }
@@ -102,5 +107,6 @@ left-out-among (suc i) (m ∷ marks) zero e = e
 left-out-among (suc i) (m ∷ marks) (suc j) e = left-out-among i marks j e
 
 -- Leaving one more rule out never loses a run.
-pub fewer-kept : (s marks : List ℕ) (i : ℕ) → CanBeKept (systemIn (withChosen s marks)) → CanBeKept (systemIn (withChosen s (set marks i 0)))
+pub fewer-kept : (s marks : List ℕ) (i : ℕ) → CanBeKept (systemIn (withChosen s marks))
+    → CanBeKept (systemIn (withChosen s (set marks i 0)))
 fewer-kept s marks i = among-kept s (set marks i 0) marks (left-out-among i marks)

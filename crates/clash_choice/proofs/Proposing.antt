@@ -53,7 +53,8 @@ proposed-falls {i = zero} P h low = says-never (λ p. omega (arith, P .here, p .
 proposed-falls {i = suc i} P h low = says-never (λ p. omega (arith, P .here, p .rising i h, low))
 
 -- A number past the sheet's rules is refused.
-pub proposed-past : {rules : ℕ} {numbers : List ℕ} {i : ℕ} → i < length numbers → rules < getD numbers i 0 → ProposalSays rules numbers false
+pub proposed-past : {rules : ℕ} {numbers : List ℕ} {i : ℕ} → i < length numbers → rules < getD numbers i 0
+    → ProposalSays rules numbers false
 proposed-past {i = i} h past = says-never (λ p. omega (arith, p .most i h, past))
 
 -- Where all numbers are passed, they are a proposal.

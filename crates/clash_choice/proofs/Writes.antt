@@ -60,7 +60,8 @@ bodies-more s zero at = refl
 bodies-more s (suc i) at = ap (λ (l : List (List ℕ)). bodyAt s at ∷ l) (bodies-more s i (nextAt s at))
 
 -- one rule more, at the end: chosen if its mark says so
-marked-more : (s marks : List ℕ) (i at : ℕ) → markedOf s marks (suc i) at ≡ markedOf s marks i at ++ marked s (getD marks i 0) (afterAt s i at)
+marked-more : (s marks : List ℕ) (i at : ℕ) → markedOf s marks (suc i) at ≡ markedOf s marks i at ++ marked s (getD marks i 0)
+    (afterAt s i at)
 marked-more s marks i at =
     let all = bodies s i at in
     let one = bodyAt s (afterAt s i at) in

@@ -1,7 +1,7 @@
--- A sheet with a choice of its step rules. Document 02, order 5: "a choice of its step rules .. while limits, first rules and promises stand".
--- A choice is a row of marks, one for each step rule in sheet order; a rule is chosen where its mark is not 0, and rules past the last mark are
--- not. proofs/Chosen.antt: of a good sheet it is a good sheet again, and it decodes to the sheet with exactly the chosen rules in their order.
--- Assumes nothing.
+-- A sheet with a choice of its step rules. Document 02, order 5: "a choice of its step rules .. while limits, first rules and promises
+-- stand". A choice is a row of marks, one for each step rule in sheet order; a rule is chosen where its mark is not 0, and rules past the
+-- last mark are not. proofs/Chosen.antt: of a good sheet it is a good sheet again, and it decodes to the sheet with exactly the chosen
+-- rules in their order. Assumes nothing.
 use mathlib.Core.Path.{_≡_}
 use mathlib.Core.List.{List, [], _∷_}
 use Prim.Native.Nat.{ℕ, zero, suc, _≤_}

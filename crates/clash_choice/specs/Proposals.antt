@@ -1,5 +1,5 @@
--- Step rules chosen by their numbers. Document 02, order 5: a proposal is a list of rule numbers; step rules are numbered from 1 in sheet order.
--- Inside, a choice is a row of 255 marks, and rule i + 1 has mark i. Assumes nothing.
+-- Step rules chosen by their numbers. Document 02, order 5: a proposal is a list of rule numbers; step rules are numbered from 1 in sheet
+-- order. Inside, a choice is a row of 255 marks, and rule i + 1 has mark i. Assumes nothing.
 use mathlib.Core.Path.{_≡_}
 use mathlib.Core.Bool.{Bool, true, false}
 use mathlib.Core.List.{List, [], _∷_, _++_}

@@ -1,5 +1,5 @@
-// Step rules chosen by their numbers (document 02, order 5): whether numbers are a proposal, and the marks of proposed rules and of the first
-// rules. Rules are numbered from 1 in sheet order; rule i + 1 has mark i.
+// Step rules chosen by their numbers (document 02, order 5): whether numbers are a proposal, and the marks of proposed rules and of the
+// first rules. Rules are numbered from 1 in sheet order; rule i + 1 has mark i.
 use super::RULES;
 ghost use mathlib.Core.Path.{_≡_};
 ghost use Prim.Native.Nat.{_≤_};

@@ -86,10 +86,12 @@ module _ (l : List ℕ) (at n : ℕ) (ls : List ℕ) (m : MasksAt l at ls) (o : 
   count-says : (s : ℕ) → countOf s (getD l at 0) (getD l (at + 1) 0) ≡ countTrue s ls
   count-says s = ap₂ (countOf s) (m .held) (m .unheld) ∙ sym (tells n 0 ls o .count s)
 
-limit-says : (l : List ℕ) (i n : ℕ) (x : Limit) → LimitRow l (limitAt i) x → Ordered n 0 (x .among) → (s : ℕ) → limitOk l s i ≡ limitHolds s x
+limit-says : (l : List ℕ) (i n : ℕ) (x : Limit) → LimitRow l (limitAt i) x → Ordered n 0 (x .among) → (s : ℕ)
+    → limitOk l s i ≡ limitHolds s x
 unfolding limitOk limitHolds
 limit-says l i n x r o s =
-    let c : countOf s (getD l (limitAt i) 0) (getD l (limitAt i + 1) 0) ≡ countTrue s (x .among) = count-says l (limitAt i) n (x .among) (r .masks) o s in
+    let c : countOf s (getD l (limitAt i) 0) (getD l (limitAt i + 1) 0) ≡ countTrue s (x .among) = count-says l (limitAt i) n (x .among)
+    (r .masks) o s in
     (λ k. leb (r .least k) (c k) && leb (c k) (r .most k)) ∙ bounds-say (x .exact) (x .bound) (countTrue s (x .among))
 
 step-says :
@@ -119,22 +121,26 @@ module _ (s book : List ℕ) (good : firstFault s ≡ none) (f5 : firstsIn s ≤
       row : (i : ℕ) → i < limitsOf book → limitOk book t i ≡ limitHolds t (getD (decode s .limits) i (limitOf []))
       row i h =
           let k : i < limitsIn s = (let c = w .counts .limits in omega arith) in
-          limit-says book i (lettersIn s) _ (w .limits i k) (limit-sound s good i k .among) t ∙ ap (limitHolds t) (sym (limit-at s i (limitOf []) k))
+          limit-says book i (lettersIn s) _ (w .limits i k) (limit-sound s good i k .among) t
+          ∙ ap (limitHolds t) (sym (limit-at s i (limitOf []) k))
 
   firsts-say : (t : ℕ) → firstsOk book t ≡ every (someTrue t) (decode s .firsts)
   unfolding firstsOk
   firsts-say t =
-      section-agrees (someTrue t) (decode s .firsts) [] (firstsOf book) (λ i. someAt book (firstAt i) t) (firsts-count s ∙ sym (w .counts .firsts)) row
+      section-agrees (someTrue t) (decode s .firsts) [] (firstsOf book) (λ i. someAt book (firstAt i) t) (firsts-count s
+      ∙ sym (w .counts .firsts)) row
     where
       row : (i : ℕ) → i < firstsOf book → someAt book (firstAt i) t ≡ someTrue t (getD (decode s .firsts) i [])
       row i h =
           let k : i < firstsIn s = (let c = w .counts .firsts in omega arith) in
-          some-says book (firstAt i) (lettersIn s) _ (w .firsts i k) (first-sound s good i k .literals) t ∙ ap (someTrue t) (sym (first-at s i k))
+          some-says book (firstAt i) (lettersIn s) _ (w .firsts i k) (first-sound s good i k .literals) t
+          ∙ ap (someTrue t) (sym (first-at s i k))
 
   steps-say : (a t : ℕ) → stepsOk book a t ≡ every (stepHolds a t) (decode s .steps)
   unfolding stepsOk
   steps-say a t =
-      section-agrees (stepHolds a t) (decode s .steps) (stepOf []) (stepsOf book) (stepOk book a t) (steps-count s ∙ sym (w .counts .steps)) row
+      section-agrees (stepHolds a t) (decode s .steps) (stepOf []) (stepsOf book) (stepOk book a t) (steps-count s
+      ∙ sym (w .counts .steps)) row
     where
       row : (i : ℕ) → i < stepsOf book → stepOk book a t i ≡ stepHolds a t (getD (decode s .steps) i (stepOf []))
       row i h =
@@ -174,7 +180,8 @@ module _ (s book : List ℕ) (good : firstFault s ≡ none) (f5 : firstsIn s ≤
           ∙ lone-says t body (g .one) ∙ ap (trueIn t) (sym (promise-at s k 0 h)))
       by (no h) =
           ap (λ (b : Bool). b && someAt book (promiseAt k) t) (le-ltb k (promisesOf book) (omega (arith, c)))
-          ∙ sym (ap (λ (b : Bool). b && trueIn t (getD (decode s .promises) k 0)) (le-ltb k (length (decode s .promises)) (omega (arith, d))))
+          ∙ sym (ap (λ (b : Bool). b && trueIn t (getD (decode s .promises) k 0))
+          (le-ltb k (length (decode s .promises)) (omega (arith, d))))
 
   letters-are : lettersOf book ≡ lettersIn s
   unfolding lettersIn

@@ -64,7 +64,8 @@ module _ (s h u j : ℕ) where
       record {
         count = let b = ones-and-set j h s z in omega arith;
         some = rw a refl;
-        all = let b : eqb (bitAnd s (h + 2 ^ j)) (h + 2 ^ j) ≡ false = ne-eqb (bitAnd s (h + 2 ^ j)) (h + 2 ^ j) (λ q. omega arith) in rw b refl;
+        all = let b : eqb (bitAnd s (h + 2 ^ j)) (h + 2 ^ j) ≡ false = ne-eqb (bitAnd s (h + 2 ^ j)) (h + 2 ^ j) (λ q. omega arith) in
+            rw b refl;
       }
 
   unheld-false : bit j u ≡ 0 → bit j s ≡ 1 → Gains s h u h (u + 2 ^ j) false
@@ -220,7 +221,8 @@ mask-below p n l ls one few z below = by (agrees p (positive l)) refl
     by : (t : Bool) → agrees p (positive l) ≡ t → maskOf p (l ∷ ls) < 2 ^ n
     by false e = subst (λ (x : ℕ). x < 2 ^ n) (sym (mask-other p l ls e)) below
     by true e =
-        let clear : bit (size l - 1) (maskOf p ls) ≡ 0 = subst (λ (b : Bool). bit (size l - 1) (maskOf b ls) ≡ 0) (sym (agrees-is p (positive l) e)) z in
+        let clear : bit (size l - 1) (maskOf p ls) ≡ 0 = subst (λ (b : Bool). bit (size l - 1) (maskOf b ls) ≡ 0)
+        (sym (agrees-is p (positive l) e)) z in
         subst (λ (x : ℕ). x < 2 ^ n) (sym (mask-same p l ls e)) (set-below n (size l - 1) (maskOf p ls) (omega arith) clear below)
 
 -- A list in order is told by its masks.

@@ -41,7 +41,8 @@ module _ (s : List ℕ) (at : ℕ) (p : LimitParts) (r : LimitRead s at p) where
 
   pub limit-written :
       (before mid after : List ℕ) (row least : ℕ) → ListWritten (part (p .start) (p .end) s) before row mid
-      → least ≡ cond (p .exact) (p .bound) 0 → Put mid (leastAt row) least (p .bound) after → RowWritten aLimit s at before row after (p .end)
+      → least ≡ cond (p .exact) (p .bound) 0 → Put mid (leastAt row) least (p .bound) after → RowWritten aLimit s at before row after
+      (p .end)
   limit-written before mid after row least w m put = record {
     keeps = kept-then (omega arith) (w .keeps) (put .keeps);
     says = record {
@@ -57,13 +58,15 @@ module _ (s : List ℕ) (at : ℕ) (p : LimitParts) (r : LimitRead s at p) where
 module _ (s : List ℕ) (at end : ℕ) (e : end ≡ at + 1 + byte s at) where
   record-body : part (at + 1) end s ≡ bodyAt s at
   unfolding nextAt
-  record-body = body-from s at 0 (at + 1) end (let a : at + 1 ≡ suc at + 0 = omega arith in a) (let b : end ≡ suc at + byte s at = omega arith in b)
+  record-body = body-from s at 0 (at + 1) end (let a : at + 1 ≡ suc at + 0 = omega arith in a)
+      (let b : end ≡ suc at + byte s at = omega arith in b)
 
   pub record-list : ListRecordSound s at → ListSound s (at + 1) end
   unfolding nextAt
   record-list sound = sound-part record-body (omega arith) (let f = sound .fits in omega arith) (sound .few) (sound .literals)
 
-  pub record-written : (before after : List ℕ) (row : ℕ) → ListWritten (part (at + 1) end s) before row after → RowWritten aFirst s at before row after end
+  pub record-written : (before after : List ℕ) (row : ℕ) → ListWritten (part (at + 1) end s) before row after
+      → RowWritten aFirst s at before row after end
   unfolding nextAt
   record-written before after row w = record { keeps = w .keeps; says = masks-as record-body (w .masks); there = omega arith }
 
@@ -72,7 +75,8 @@ module _ (s : List ℕ) (at end : ℕ) (e : end ≡ at + 1 + byte s at) where
 module _ (s : List ℕ) (at : ℕ) (p : StepParts) (r : StepRead s at p) where
   pub step-left : StepSound s at → ListSound s (p .left) (p .right)
   step-left sound =
-      sound-part (r .left) (r .order) (let f = sound .fits in let e = r .end in let o = r .order-2 in omega arith) (sound .few) (sound .left)
+      sound-part (r .left) (r .order) (let f = sound .fits in let e = r .end in let o = r .order-2 in omega arith) (sound .few)
+      (sound .left)
 
   pub step-right : StepSound s at → ListSound s (p .right) (p .end)
   step-right sound = sound-part (r .right) (r .order-2) (let f = sound .fits in let e = r .end in omega arith) (sound .few) (sound .right)

@@ -13,7 +13,8 @@ use Rattle.meaning.specs.Sheet.{firstsAt, stepsAt, promisesAt, Kind, aLimit, aF
 use Rattle.reader.specs.Header.{recordsAt, limitsIn, firstsIn, stepsIn, promisesIn}
 use Rattle.reader.proofs.Good.{good-header, limit-record, first-record, step-record, promise-record, limit-good, first-good, step-good}
 use Rattle.reader.proofs.Good.{promise-good, LiteralsGood, body-byte, after-more}
-use Rattle.rules.specs.Book.{bookSize, mostRules, limitAt, firstAt, stepAt, rowAt, widthOf, listWidth, limitWidth, stepWidth, leastAt, mostAt}
+use Rattle.rules.specs.Book.{bookSize, mostRules, limitAt, firstAt, stepAt, rowAt, widthOf, listWidth, limitWidth, stepWidth, leastAt}
+use Rattle.rules.specs.Book.{mostAt}
 use Rattle.rules.specs.Book.{limitsFrom, firstsFrom, stepsFrom, promisesFrom}
 use Rattle.rules.specs.Rows.{KeptBelow}
 use Rattle.compile.specs.Compile.{LimitSound, ListRecordSound, StepSound, Sound, Row, RowWritten, startOf, recordsOf}

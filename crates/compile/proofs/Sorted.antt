@@ -45,7 +45,11 @@ ordered-from n before [] k good first = tt
 ordered-from n before (l ∷ ls) k good first =
     let here = good .named 0 (omega arith) in
     let sizes = names-letter n l here in
-    let rest : LiteralsGood n ls = record { named = λ j h. good .named (suc j) (omega arith); rising = λ j h. good .rising (suc j) (omega arith) } in (
+    let rest : LiteralsGood n ls = record {
+      named = λ j h. good .named (suc j) (omega arith);
+      rising = λ j h. good .rising (suc j)
+          (omega arith);
+    } in (
       first (omega arith),
       sizes .0,
       sizes .1,

@@ -46,7 +46,8 @@ module _ (s : List ℕ) (start end : ℕ) (sound : ListSound s start end) where
 
     -- One literal that is to hold, and one that is not.
     pub held-more :
-        {bit : ℕ} → at < end → positive (getD s at 0) ≡ true → bit ≡ 2 ^ (size (getD s at 0) - 1) → Summed s start end (at + 1) (held + bit) unheld
+        {bit : ℕ} → at < end → positive (getD s at 0) ≡ true → bit ≡ 2 ^ (size (getD s at 0) - 1)
+        → Summed s start end (at + 1) (held + bit) unheld
     held-more h e is =
         let a = so .helds in
         let b = so .unhelds in
@@ -55,7 +56,8 @@ module _ (s : List ℕ) (start end : ℕ) (sound : ListSound s start end) where
         record { within = omega arith; above = _; ordered = first-left h .3; helds = omega arith; unhelds = omega arith }
 
     pub unheld-more :
-        {bit : ℕ} → at < end → positive (getD s at 0) ≡ false → bit ≡ 2 ^ (size (getD s at 0) - 1) → Summed s start end (at + 1) held (unheld + bit)
+        {bit : ℕ} → at < end → positive (getD s at 0) ≡ false → bit ≡ 2 ^ (size (getD s at 0) - 1) → Summed s start end (at + 1) held
+        (unheld + bit)
     unheld-more h e is =
         let a = so .helds in
         let b = so .unhelds in

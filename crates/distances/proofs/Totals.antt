@@ -60,7 +60,8 @@ pub total-set : (w : ℕ → ℕ) (l : List ℕ) (i v n : ℕ) → i < n → i <
 total-set w l i v zero h k = absurd (omega arith)
 total-set w l i v (suc n) h k = by (ℕ-discrete i n) (total-set w l i v n)
   where
-    by : Dec (i ≡ n) → (i < n → i < length l → total (λ j. w (getD (set l i v) j 0)) n + w (getD l i 0) ≡ total (λ j. w (getD l j 0)) n + w v)
+    by : Dec (i ≡ n) → (i < n → i < length l → total (λ j. w (getD (set l i v) j 0)) n + w (getD l i 0) ≡ total (λ j. w (getD l j 0)) n
+        + w v)
         → total (λ j. w (getD (set l i v) j 0)) n + w (getD (set l i v) n 0) + w (getD l i 0)
         ≡ total (λ j. w (getD l j 0)) n + w (getD l n 0) + w v
     by (yes q) rest =

@@ -13,7 +13,7 @@ use Rattle.rules.specs.Book.{promisesOf, bookKept, bookSystem}
 use Rattle.rules.specs.Table.{LawfulTable}
 use Rattle.distances.specs.Far.{Unstruck, UnstruckIn, far, gone, Place}
 
--- what `sample_step::measure` asks of the sheet and the table
+-- what measuring distances asks of the sheet and the table
 pub record Measurable (book : List ℕ) (k : ℕ) (table words : List ℕ) (r : ℕ) : Type 0 where
   pub states : LawfulTable book table r
   pub promise : k < promisesOf book

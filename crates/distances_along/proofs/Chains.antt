@@ -10,7 +10,8 @@ use Rattle.moves.specs.Layout.{noLink, linksOf, linkAt, LinkedIn, Linked, Ascen
 use Rattle.moves.proofs.Chains.{linked-more, linked-below}
 
 -- Of two places on a chain, the second is no later, or stands on the chain that begins behind the first.
-chain-order : (r : ℕ) (back : List ℕ) → Ascending r back → (n m c i j : ℕ) → c < r → LinkedIn (linksOf back) n c i → LinkedIn (linksOf back) m c j
+chain-order : (r : ℕ) (back : List ℕ) → Ascending r back → (n m c i j : ℕ) → c < r → LinkedIn (linksOf back) n c i
+    → LinkedIn (linksOf back) m c j
     → (j ≤ i) ⊎ ((linkAt back i < mostStates) × Linked back (linkAt back i) j)
 chain-order r back up zero zero c i j h p q = inl (omega arith)
 chain-order r back up zero (suc m) c i j h p (a, l) =

@@ -32,7 +32,8 @@ followed-none d r near tail queue small never = record {
 
 -- What holds for one reason holds for another that holds at the same places.
 pub followed-by : {P Q : ℕ → Type 0} (d r : ℕ) (old near : List ℕ) (tail : ℕ) (queue line : List ℕ) (got : ℕ)
-    → Followed P d r old near tail queue line got → ((i : ℕ) → P i → Q i) → ((i : ℕ) → Q i → P i) → Followed Q d r old near tail queue line got
+    → Followed P d r old near tail queue line got → ((i : ℕ) → P i → Q i) → ((i : ℕ) → Q i → P i)
+    → Followed Q d r old near tail queue line got
 followed-by d r old near tail queue line got f to from =
     record { joined = f .joined; spread = spread-same _ _ d r old near got (f .spread) to (λ i h o q. from i q) }
 
@@ -49,7 +50,8 @@ module _ (d r : ℕ) (near : List ℕ) (tail : ℕ) (queue : List ℕ) (small : 
   pub followed-one : getD near i 0 ≡ far → i < r → i < length near → tail < length queue
       → Followed (λ j. j ≡ i) d r near (set near i d) tail queue (set queue tail i) 1
   followed-one isfar place inside room = record {
-    spread = spread-one (λ j. ⊥) _ d r near near 0 (spread-none (λ j. ⊥) d r near (λ j p. p)) i place inside isfar small refl (λ j p. absurd p)
+    spread = spread-one (λ j. ⊥) _ d r near near 0 (spread-none (λ j. ⊥) d r near (λ j p. p)) i place inside isfar small refl
+        (λ j p. absurd p)
         (λ j n q. n q);
     joined = record {
       long = length-set queue tail i;
@@ -63,7 +65,8 @@ module _ (d r : ℕ) (near : List ℕ) (tail : ℕ) (queue : List ℕ) (small : 
       last = getD-set-same queue tail i 0 room
 
       add : (t : ℕ) → t ≡ tail
-          → (getD (set queue tail i) t 0 < r) × (getD near (getD (set queue tail i) t 0) 0 ≡ far) × (getD (set near i d) (getD (set queue tail i) t 0) 0 ≡ d)
+          → (getD (set queue tail i) t 0 < r) × (getD near (getD (set queue tail i) t 0) 0 ≡ far)
+          × (getD (set near i d) (getD (set queue tail i) t 0) 0 ≡ d)
       add t q =
           let f : getD (set queue tail i) t 0 ≡ i = ap (λ (x : ℕ). getD (set queue tail i) x 0) q ∙ last in (
             omega arith,
@@ -156,7 +159,8 @@ pub record ChainTo (moves : List ℕ) (c d r : ℕ) (old : List ℕ) (tail : ℕ
   pub here : i < r → Linked moves c i
   pub so-far : Followed (OnChain moves c i) d r old near tail queue line got
 
-module _ (moves : List ℕ) (c d r : ℕ) (old : List ℕ) (tail : ℕ) (queue : List ℕ) (ready : Ready moves d r old queue tail) (inside : c < r) where
+module _ (moves : List ℕ) (c d r : ℕ) (old : List ℕ) (tail : ℕ) (queue : List ℕ) (ready : Ready moves d r old queue tail)
+    (inside : c < r) where
   -- Before its first place nothing has changed.
   pub chain-none : ChainTo moves c d r old tail queue old queue 0 c
   chain-none = record {
@@ -243,7 +247,8 @@ module _ (moves : List ℕ) (j d r : ℕ) (old : List ℕ) (tail : ℕ) (queue :
     row-few = let a = ready .ready .room in let b = s .so-far .spread .counted in omega arith
 
     -- a cell's chain may be followed,
-    pub cell-ready : (c : ℕ) → e < endAt moves j → c ≡ cellAt moves e → Ready moves d (length near) near line (tail + got) × (c < length near)
+    pub cell-ready : (c : ℕ) → e < endAt moves j → c ≡ cellAt moves e → Ready moves d (length near) near line (tail + got)
+        × (c < length near)
     cell-ready c within q =
         let long : length near ≡ r = s .so-far .spread .long ∙ ready .ready .long in (
           subst (λ (n : ℕ). Ready moves d n near line (tail + got)) (sym long)

@@ -119,7 +119,8 @@ module _ (P : ℕ → Type 0) (d r left : ℕ) (old list : List ℕ) (ready : Li
       where
         at : (m : ℕ) → Dec (m ≡ here) → getD (set near here d) m 0 ≡ far → Between list 0 (i + 1) m → Between rest 0 kept m
         at m (yes e) o q =
-            absurd (let a : getD (set near here d) m 0 ≡ d = ap (λ (x : ℕ). getD (set near here d) x 0) e ∙ getD-set-same near here d 0 inside in
+            absurd (let a : getD (set near here d) m 0 ≡ d = ap (λ (x : ℕ). getD (set near here d) x 0) e
+            ∙ getD-set-same near here d 0 inside in
             omega arith)
         at m (no n) o q = s .whole m (sym (getD-set-other near here m d 0 n) ∙ o) (narrows m n q)
 

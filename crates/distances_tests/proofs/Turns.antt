@@ -105,7 +105,8 @@ module _ (book table : List ℕ) (r d left : ℕ) (old list signs : List ℕ) (r
             omega arith
 
     -- what a layer leaves, if the values say what they should
-    spreading-sifted : ((k : ℕ) (words : List ℕ) → LayeredBy book k table words r d 0 0 old → LayeredBy book k table words r d r (left - kept) near)
+    spreading-sifted : ((k : ℕ) (words : List ℕ) → LayeredBy book k table words r d 0 0 old → LayeredBy book k table words r d r
+        (left - kept) near)
         → LayerSifted book table r d left kept old near list rest
     spreading-sifted says = record {
       done = record {
@@ -141,7 +142,12 @@ module _ (book table : List ℕ) (r : ℕ) (first : List ℕ) where
 
   -- The first layer is to be spread.
   pub measuring-none : (left : ℕ) (list : List ℕ) → Listed r left list first → Measuring left 0 first list
-  measuring-none left list l = record { so-far = λ k words o. layered-none (bookSystem book) (bookSystem book .Kept k) table words r first o; listed = l; room = let b = l .waiting .few in omega arith }
+  measuring-none left list l = record {
+    so-far = λ k words o. layered-none (bookSystem book) (bookSystem book .Kept k) table words r first
+        o;
+    listed = l;
+    room = let b = l .waiting .few in omega arith;
+  }
 
   module _ (left d : ℕ) (old list : List ℕ) (m : Measuring left d old list) where
     -- the next layer may be spread
@@ -167,7 +173,8 @@ module _ (book table : List ℕ) (r : ℕ) (first : List ℕ) where
       measuring-quiet e = record {
         long = l .listed .long;
         answers = λ k words o. quiet-near (bookSystem book) (bookSystem book .Kept k) table words r d near
-            (subst (λ (n : ℕ). LayeredBy book k table words r d r n near) (omega arith) (l .done .spread-all k words (m .so-far k words o)));
+            (subst (λ (n : ℕ). LayeredBy book k table words r d r n near) (omega arith)
+            (l .done .spread-all k words (m .so-far k words o)));
       }
 
     -- and so does one after which no place is left.

@@ -1,6 +1,6 @@
 -- How many bits are set, over any width: in 0, after setting one (ones-set, ones-and-set) or clearing the lowest (ones-cleared), in a part
--- (ones-and-le, ones-parted). A number below another bit by bit has no more, and if it has as many, they are the same (ones-below, below-same).
--- Assumes nothing.
+-- (ones-and-le, ones-parted). A number below another bit by bit has no more, and if it has as many, they are the same (ones-below,
+-- below-same). Assumes nothing.
 use mathlib.Core.Path.{_≡_, refl, sym, _∙_, ap, ap₂}
 use mathlib.Core.Logic.{_⊎_, inl, inr}
 use Prim.Native.Nat.{ℕ, zero, suc, _+_, _-_, _*_, _/_, _%_, _^_, _≤_, _<_, min}
@@ -86,7 +86,13 @@ ones-below = bin-ind (λ (a : ℕ). (b : ℕ) → Below a b → ones a ≤ ones 
 pub below-same : (j a b : ℕ) → Below a b → ones b ≤ ones a → bit j b ≤ bit j a
 below-same zero a b h e = omega (arith, ones-step a, ones-step b, ones-below (a / 2) (b / 2) (below-half h))
 below-same (suc j) a b h e =
-    below-same j (a / 2) (b / 2) (below-half h) (omega (arith, ones-step a, ones-step b, h .at 0, ones-below (a / 2) (b / 2) (below-half h)))
+    below-same j (a / 2) (b / 2) (below-half h) (omega (
+      arith,
+      ones-step a,
+      ones-step b,
+      h .at 0,
+      ones-below (a / 2) (b / 2) (below-half h),
+    ))
 
 -- No more bits are set in a part than in the whole.
 pub ones-and-le : (s m : ℕ) → ones (bitAnd s m) ≤ ones m

@@ -1,5 +1,5 @@
--- What a test says: yes of what holds, no of what does not (says-yes, says-no), its own value (says-test, says-is), and the same of what is so
--- exactly if it is (says-as). Assumes nothing.
+-- What a test says: yes of what holds, no of what does not (says-yes, says-no), its own value (says-test, says-is), and the same of what is
+-- so exactly if it is (says-as). Assumes nothing.
 use mathlib.Core.Path.{_≡_, refl, sym, _∙_}
 use mathlib.Core.Bool.{Bool, true, false}
 use lib.Dec.{T}

@@ -1,6 +1,6 @@
 -- Laws of tests: that one passes (passed, passes, not-passing), that none answers both ways (no-both), and two tests at once (and-left,
--- and-right, and-both, both-and, second-false, one-false). That true is not false, and what `&&` does with true and false, mathlib.Core.Bool says.
--- Assumes nothing.
+-- and-right, and-both, both-and, second-false, one-false). That true is not false, and what `&&` does with true and false,
+-- mathlib.Core.Bool says. Assumes nothing.
 use mathlib.Core.Path.{_≡_, refl, sym, subst}
 use mathlib.Core.Logic.{_⊎_, inl, inr}
 use mathlib.Core.Bool.{Bool, true, false, _&&_}

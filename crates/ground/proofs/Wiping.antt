@@ -5,7 +5,8 @@ use mathlib.Core.List.{List, _++_}
 use Prim.Native.Nat.{ℕ, _+_, _-_, _≤_, _<_}
 use native.Mathlib.Decide.{decLt}
 use native.Mathlib.Omega.{arith}
-use lib.ListN.{length, getD, take, drop, set, replicate, length-set, length-append, length-drop, length-replicate, getD-replicate, List·getD-append}
+use lib.ListN.{length, getD, take, drop, set, replicate, length-set, length-append, length-drop, length-replicate, getD-replicate}
+use lib.ListN.{List·getD-append}
 use lib.Seq.{ext-getD, length-take-le, getD-take, getD-drop, getD-append-add}
 use Rattle.meaning.specs.Promises.{over, zeros}
 use Rattle.ground.specs.Wiping.{Wiped}
@@ -49,7 +50,8 @@ zeroed-front i n old new Z e =
     subst (λ (k : ℕ). Wiped k old new) e (record { long = Z .long; zeros = λ j h. Z .there j (omega arith) h; rest = Z .behind })
 
 -- Up to the end: the front is written over zeros.
-pub zeroed-rest : (from i : ℕ) (old new : List ℕ) → Zeroed from i old new → from ≤ length old → length new ≤ i → new ≡ over (take from old) (zeros old)
+pub zeroed-rest : (from i : ℕ) (old new : List ℕ) → Zeroed from i old new → from ≤ length old → length new ≤ i
+    → new ≡ over (take from old) (zeros old)
 unfolding over zeros
 zeroed-rest from i old new Z fits all = ext-getD 0 new (take from old ++ drop (length (take from old)) (replicate (length old) 0)) long at
   where
@@ -64,7 +66,8 @@ zeroed-rest from i old new Z fits all = ext-getD 0 new (take from old ++ drop (l
       where
         by : Dec (j < from) → getD new j 0 ≡ getD (take from old ++ drop (length (take from old)) (replicate (length old) 0)) j 0
         by (yes q) =
-            Z .before j q ∙ sym (List·getD-append (take from old) (drop (length (take from old)) (replicate (length old) 0)) 0 j (omega (arith, front))
+            Z .before j q ∙ sym (List·getD-append (take from old) (drop (length (take from old)) (replicate (length old) 0)) 0 j
+            (omega (arith, front))
             ∙ getD-take from old j 0 q)
         by (no q) =
             let m : length (take from old) + (j - from) ≡ j = omega (arith, front) in

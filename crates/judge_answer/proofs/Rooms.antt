@@ -6,7 +6,8 @@ use Prim.Native.Nat.{ℕ, _*_, _/_, _≤_, _<_, min}
 use native.Mathlib.Omega.{arith}
 use lib.ListN.{length}
 use Rattle.meaning.specs.System.{System}
-use Rattle.meaning.specs.Promises.{Lent, Outcome, Finding, bad, crowded, short, can, cannot, capacity, mostStates, over, zeros, cleared, outcome}
+use Rattle.meaning.specs.Promises.{Lent, Outcome, Finding, bad, crowded, short, can, cannot, capacity, mostStates, over, zeros, cleared}
+use Rattle.meaning.specs.Promises.{outcome}
 use Rattle.judge_answer.specs.Judging.{RoomFor, FoundBy, JudgedBy, lentOf}
 use Rattle.judge_answer.proofs.Wiping.{zeros-same}
 
@@ -47,7 +48,13 @@ room-same s r = record { reached = r .reached; number = r .number; room = subst 
 found-same : (S : System) {lent lent′ : Lent} → Alike lent lent′ → (x : Finding) → FoundBy S lent x → FoundBy S lent′ x
 found-same S s (bad f) never = never
 found-same S s crowded many = λ r number. subst (λ c. c < r) (capacity-same s) (many r number)
-found-same S s (short b) (room, kept, paper, long) = (room-same s room, kept, paper, subst (λ (l : List ℕ). length l < b) (s .run-same) long)
+found-same S s (short b) (room, kept, paper, long) = (
+  room-same s room,
+  kept,
+  paper,
+  subst (λ (l : List ℕ). length l < b)
+      (s .run-same) long,
+)
 found-same S s (can livable states a) (room, kept, lists, paper, fits) =
     (room-same s room, kept, lists, paper, subst (λ (l : List ℕ). length states ≤ length l) (s .run-same) fits)
 found-same S s (cannot states words) (room, never, list) = (room-same s room, never, list)

@@ -23,7 +23,11 @@ zeros-same a b e = λ i. replicate (e i) 0
 pub wiped-left : {t w : ℕ} {table words scratch table′ words′ scratch′ : List ℕ} → table′ ≡ over (take t table) (zeros table)
     → words′ ≡ over (take w words) (zeros words) → scratch′ ≡ over (take 0 scratch) (zeros scratch)
     → LeftOver t w table words scratch table′ words′ scratch′
-wiped-left {scratch = scratch} {scratch′ = scratch′} t w s = record { table-is = t; words-is = w; scratch-is = wiped-whole scratch′ scratch s }
+wiped-left {scratch = scratch} {scratch′ = scratch′} t w s = record {
+  table-is = t;
+  words-is = w;
+  scratch-is = wiped-whole scratch′ scratch s;
+}
 
 -- The strike list: ordered, then table and words from place r on.
 pub wiped-strikes : {table words scratch table₁ words₁ scratch₁ table′ words′ scratch′ : List ℕ} {r : ℕ}

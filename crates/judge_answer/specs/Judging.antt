@@ -28,8 +28,8 @@ pub record RoomFor (S : System) (lent : Lent) : Type 0 where
   pub number : IsR S reached
   pub room : reached ≤ capacity lent
 
--- When each finding is the true one, for a good sheet whose system is S (`Found` of the meaning without the sheet). Of 11 it is said that R,
--- whatever it is, is above C; that there is such a number is known of every sheet.
+-- When each finding is the true one, for a good sheet whose system is S (`Found` of the meaning without the sheet). Of 11 it is said that
+-- R, whatever it is, is above C; that there is such a number is known of every sheet.
 abbrev pub FoundBy : System → Lent → Finding → Type 0
 FoundBy S lent (bad f) = ⊥
 FoundBy S lent crowded = (r : ℕ) → IsR S r → capacity lent < r

@@ -1,5 +1,5 @@
-// What the judge's answers have in common: the five numbers, the room for states, and what is left in the slices that it was lent, zeros where
-// nothing is handed over. The promise of each answer over the system of a book is `JudgedBy` of specs/Judging.antt.
+// What the judge's answers have in common: the five numbers, the room for states, and what is left in the slices that it was lent, zeros
+// where nothing is handed over. The promise of each answer over the system of a book is `JudgedBy` of specs/Judging.antt.
 use ground::MOST_STATES;
 use ground::State;
 use ground::lesser;
@@ -36,7 +36,8 @@ pub fn refusal(answer: u32, b: u32, place: u32) -> Judgement
 pub fn leave(table: &mut [State], words: &mut [u32], scratch: &mut [State], t: usize, w: usize)
     requires { ⌜ (t ≤ length (now table)) × (w ≤ length (now words)) ⌝ }
     ensures { λ _.
-        ⌜ LeftOver t w (now (table .entry)) (now (words .entry)) (now (scratch .entry)) (now (table .exit)) (now (words .exit)) (now (scratch .exit)) ⌝ }
+        ⌜ LeftOver t w (now (table .entry)) (now (words .entry)) (now (scratch .entry)) (now (table .exit)) (now (words .exit))
+        (now (scratch .exit)) ⌝ }
 {
     ground::wipe_states_from(table, t);
     ground::wipe_words_from(words, w);

@@ -3,7 +3,8 @@
 use mathlib.Core.Path.{_≡_, refl, sym, _∙_, ap, subst}
 use mathlib.Core.List.{List, [], _∷_, _++_}
 use Prim.Native.Nat.{ℕ, zero, suc, _+_, _*_, _/_, _%_, _^_, _<_}
-use native.Mathlib.Nat.{mod-lt, div-add-mod', div-lt-iff-lt-mul, mul-div-cancel, mul-mod-left, pow-zero, pow-suc, suc-mul, zero-mul, zero-lt-suc}
+use native.Mathlib.Nat.{mod-lt, div-add-mod', div-lt-iff-lt-mul, mul-div-cancel, mul-mod-left, pow-zero, pow-suc, suc-mul, zero-mul}
+use native.Mathlib.Nat.{zero-lt-suc}
 use native.Mathlib.Omega.{arith}
 use lib.Dec.{lit≤}
 use lib.ListN.{length, take, drop, getD, length-append}
@@ -34,9 +35,13 @@ number-back (suc width) number h =
     ∙ ap (λ (x : ℕ). x * 256 + number % 256) (number-back width (number / 256) below) ∙ div-add-mod' number 256
 
 -- What stands in front is taken off.
-front-taken : (width : ℕ) (front rest : List ℕ) → length front ≡ width → (take width (front ++ rest) ≡ front) × (drop width (front ++ rest) ≡ rest)
+front-taken : (width : ℕ) (front rest : List ℕ) → length front ≡ width → (take width (front ++ rest) ≡ front)
+    × (drop width (front ++ rest) ≡ rest)
 front-taken width front rest e =
-    subst (λ (n : ℕ). (take n (front ++ rest) ≡ front) × (drop n (front ++ rest) ≡ rest)) e (take-append-seam front rest, drop-append-seam front rest)
+    subst (λ (n : ℕ). (take n (front ++ rest) ≡ front) × (drop n (front ++ rest) ≡ rest)) e (
+      take-append-seam front rest,
+      drop-append-seam front rest,
+    )
 
 -- Numbers below 256 to the power of the width are read back, as many as were written.
 numbers-back : (width : ℕ) (numbers : List ℕ) → ((i : ℕ) → i < length numbers → getD numbers i 0 < 256 ^ width)
@@ -45,7 +50,8 @@ unfolding numbersFrom bytesOf
 numbers-back width [] small = refl
 numbers-back width (x ∷ numbers) small =
     let (taken, dropped) = front-taken width (bytesOfNumber width x) (bytesOf width numbers) (number-length width x) in
-    ap (λ (l : List ℕ). bigEndian 0 l ∷ numbersFrom width (length numbers) (drop width (bytesOfNumber width x ++ bytesOf width numbers))) taken
+    ap (λ (l : List ℕ). bigEndian 0 l ∷ numbersFrom width (length numbers) (drop width (bytesOfNumber width x ++ bytesOf width numbers)))
+    taken
     ∙ ap (λ (l : List ℕ). bigEndian 0 (bytesOfNumber width x) ∷ numbersFrom width (length numbers) l) dropped
     ∙ ap (λ (y : ℕ). y ∷ numbersFrom width (length numbers) (bytesOf width numbers)) (number-back width x (small 0 (omega arith)))
     ∙ ap (λ (l : List ℕ). x ∷ l) (numbers-back width numbers (λ i h. small (suc i) (omega arith)))
@@ -97,4 +103,5 @@ number-bytes (suc width) number =
 pub written-bytes : (width : ℕ) (numbers : List ℕ) → Bytes (bytesOf width numbers)
 unfolding bytesOf
 written-bytes width [] = λ i. lit≤ tt
-written-bytes width (x ∷ numbers) = bytes-append (bytesOfNumber width x) (bytesOf width numbers) (number-bytes width x) (written-bytes width numbers)
+written-bytes width (x ∷ numbers) = bytes-append (bytesOfNumber width x) (bytesOf width numbers) (number-bytes width x)
+    (written-bytes width numbers)

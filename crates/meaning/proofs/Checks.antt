@@ -12,7 +12,8 @@ use Rattle.meaning.proofs.Search.{implies?, any-below, all-below}
 use Rattle.meaning.proofs.Lists.{in?}
 
 -- Whether P holds wherever C does, if C holds below n only.
-pub all-where? : {C P : ℕ → Type 0} → ((x : ℕ) → Dec (C x)) → ((x : ℕ) → Dec (P x)) → (n : ℕ) → ((x : ℕ) → C x → x < n) → Dec ((x : ℕ) → C x → P x)
+pub all-where? : {C P : ℕ → Type 0} → ((x : ℕ) → Dec (C x)) → ((x : ℕ) → Dec (P x)) → (n : ℕ) → ((x : ℕ) → C x → x < n)
+    → Dec ((x : ℕ) → C x → P x)
 all-where? C? P? n below = map-dec (λ h x c. h x (below x c) c) (λ h x l c. h x c) (all-below (λ x. implies? (C? x) (P? x)) n)
 
 -- Whether a proposed run is accepted.
@@ -23,10 +24,12 @@ run-accepted? {S} F states a = map-dec
     (Dec·and (decLt a (length states)) (Dec·and (F .first? (getD states 0 0)) (Dec·and moves? (Dec·and closes? keeps?))))
   where
     moves? : Dec ((i : ℕ) → suc i < length states → S .Move (getD states i 0) (getD states (suc i) 0))
-    moves? = all-where? (λ i. decLt (suc i) (length states)) (λ i. F .move? (getD states i 0) (getD states (suc i) 0)) (length states) (λ i h. omega arith)
+    moves? = all-where? (λ i. decLt (suc i) (length states)) (λ i. F .move? (getD states i 0) (getD states (suc i) 0)) (length states)
+        (λ i h. omega arith)
 
     closes? : Dec ((i : ℕ) → suc i ≡ length states → S .Move (getD states i 0) (getD states a 0))
-    closes? = all-where? (λ i. ℕ-discrete (suc i) (length states)) (λ i. F .move? (getD states i 0) (getD states a 0)) (length states) (λ i h. omega arith)
+    closes? = all-where? (λ i. ℕ-discrete (suc i) (length states)) (λ i. F .move? (getD states i 0) (getD states a 0)) (length states)
+        (λ i h. omega arith)
 
     kept? : (k : ℕ) → Dec ((i : ℕ) × (a ≤ i) × (i < length states) × S .Kept k (getD states i 0))
     kept? k = map-dec (λ (i, l, (h, p)). (i, h, l, p)) (λ (i, h, l, p). (i, l, (h, p)))
@@ -58,7 +61,8 @@ strikes-accepted? {S} F states words = map-dec
     (Dec·and (ℕ-discrete (length words) (length states)) (Dec·and rising? (Dec·and lawful? (Dec·and reasons? (Dec·and firsts? entries?)))))
   where
     rising? : Dec ((i : ℕ) → suc i < length states → getD words i 0 ≤ getD words (suc i) 0)
-    rising? = all-where? (λ i. decLt (suc i) (length states)) (λ i. decLe (getD words i 0) (getD words (suc i) 0)) (length states) (λ i h. omega arith)
+    rising? = all-where? (λ i. decLt (suc i) (length states)) (λ i. decLe (getD words i 0) (getD words (suc i) 0)) (length states)
+        (λ i h. omega arith)
 
     lawful? : Dec ((i : ℕ) → i < length states → S .Lawful (getD states i 0))
     lawful? = all-below (λ i. F .lawful? (getD states i 0)) (length states)

@@ -73,7 +73,8 @@ module _ {S : System} (F : Testable S) (states words : List ℕ) where
   -- every next state of s is
   unfoldable nexts-test : {W : ℕ → Type 0} → ((w : ℕ) → Test (W w)) → (s : ℕ) → Test ((t : ℕ) → S .Move s t → Listed states words W t)
   unfolding each? if? listed-test as?
-  nexts-test word? s = as? (λ f t m. f t (F .move-below s t m .1) m) (λ f t h m. f t m) (each? (F .bound) (λ t. if? (F .move? s t) (listed-test word? t)))
+  nexts-test word? s = as? (λ f t m. f t (F .move-below s t m .1) m) (λ f t h m. f t m)
+      (each? (F .bound) (λ t. if? (F .move? s t) (listed-test word? t)))
 
   -- an entry shows what it must
   unfoldable entry-test : (reason word s : ℕ) → Test (EntryRight S states words reason word s)
@@ -110,7 +111,8 @@ verdict none true = 0
 verdict none false = 14
 
 -- It is the checker's number.
-verdict-checked : {sheet : List ℕ} {Ok : System → Type 0} (t : Test (Ok (systemIn sheet))) → Checked sheet Ok (verdict (firstFault sheet) (t .says))
+verdict-checked : {sheet : List ℕ} {Ok : System → Type 0} (t : Test (Ok (systemIn sheet)))
+    → Checked sheet Ok (verdict (firstFault sheet) (t .says))
 verdict-checked {sheet} {Ok} t = by (firstFault sheet) (t .says) refl refl
   where
     by : (o : Option Fault) (b : Bool) → firstFault sheet ≡ o → t .says ≡ b → Checked sheet Ok (verdict o b)

@@ -60,7 +60,8 @@ module _ (S : System) (move? : (s t : ℕ) → Dec (S .Move s t)) {U G : ℕ →
 
   way-upto : (n : ℕ) → ((t : ℕ) → t < N → Upto (suc n) t → Upto n t) → (m s : ℕ) → Way S U G m s → Upto (suc n) s
   way-upto n rest zero s (u, g) = (u, inl g)
-  way-upto n rest (suc m) s (u, (t, v, w)) = let r = way-upto n rest m t w in (u, inr (t, v, rest t (within s t v (upto-through (suc n) t r)) r))
+  way-upto n rest (suc m) s (u, (t, v, w)) = let r = way-upto n rest m t w in
+      (u, inr (t, v, rest t (within s t v (upto-through (suc n) t r)) r))
 
   -- Whether some way leads from s through U to G.
   pub way-below? : (s : ℕ) → Dec ((n : ℕ) × Way S U G n s)
@@ -69,7 +70,8 @@ module _ (S : System) (move? : (s t : ℕ) → Dec (S .Move s t)) {U G : ℕ →
       map-dec (upto-way (suc (r .0)) s) (λ (m, w). way-upto (r .0) (r .2) m s w) (upto? (suc (r .0)) s)
 
 -- Whether some way leads from s through U to G.
-pub way? : {S : System} → Finite S → {U G : ℕ → Type 0} → ((s : ℕ) → Dec (U s)) → ((s : ℕ) → Dec (G s)) → (s : ℕ) → Dec ((n : ℕ) × Way S U G n s)
+pub way? : {S : System} → Finite S → {U G : ℕ → Type 0} → ((s : ℕ) → Dec (U s)) → ((s : ℕ) → Dec (G s)) → (s : ℕ)
+    → Dec ((n : ℕ) × Way S U G n s)
 way? {S} F U? G? s = way-below? S (F .move?) U? G? (F .bound) (λ s t m u. F .move-below s t m) s
 
 -- the moves read backwards

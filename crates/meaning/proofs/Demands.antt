@@ -325,7 +325,8 @@ answers-fault-exactly {sheet} {lent} {o} j n q low high =
         (f, found, sym (ap (λ (o : Outcome). o .answer) is) ∙ e, sym (ap (λ (o : Outcome). o .place) is) ∙ at)
 
 -- On any answer but 1 to 10 the judge's place is 0.
-pub judged-place-0 : {sheet : List ℕ} {lent : Lent} {o : Outcome} → Judged sheet lent o → (1 ≤ o .answer → o .answer ≤ 10 → ⊥) → o .place ≡ 0
+pub judged-place-0 : {sheet : List ℕ} {lent : Lent} {o : Outcome} → Judged sheet lent o → (1 ≤ o .answer → o .answer ≤ 10 → ⊥)
+    → o .place ≡ 0
 unfolding outcome
 judged-place-0 {lent = lent} {o} j elsewhere = ap (λ (o : Outcome). o .place) (j .returned) ∙ by (j .finding) (answer-of j)
   where

@@ -110,7 +110,8 @@ module _ {S : System} (fin : Finite S) (livable? : (s : ℕ) → Dec (Livable S 
 
       nearest : (t : ℕ) × S .Move s t × Livable S t → (t : ℕ) × Best S k s t
       nearest w = let v = livable-way (w .2) k h in
-          least (least-below {P = Layer} (λ n. any-below {P = StepWay S k s n} (step-way? k s n) (fin .bound)) {n = v .0} (inside (v .0) (w .0) (w .1, v .1)))
+          least (least-below {P = Layer} (λ n. any-below {P = StepWay S k s n} (step-way? k s n) (fin .bound)) {n = v .0}
+          (inside (v .0) (w .0) (w .1, v .1)))
 
   -- The aim passes or stays.
   passed : (k s : ℕ) → k < suc (S .promises - 1) → (k′ : ℕ) × Passes S k s k′ × (k′ < suc (S .promises - 1))
@@ -136,7 +137,8 @@ module _ {S : System} (fin : Finite S) (livable? : (s : ℕ) → Dec (Livable S 
   sample-exists c = from (least-below {P = λ s. S .First s × Livable S s} (λ s. Dec·and (fin .first? s) (livable? s)) {n = c .0 0}
       (c .1 .run .starts, obeying-livable (c .1) 0))
     where
-      from : (s : ℕ) × (S .First s × Livable S s) × ((u : ℕ) → S .First u × Livable S u → s ≤ u) → (f : ℕ → ℕ) × (aim : ℕ → ℕ) × Sample S f aim
+      from : (s : ℕ) × (S .First s × Livable S s) × ((u : ℕ) → S .First u × Livable S u → s ≤ u) → (f : ℕ → ℕ) × (aim : ℕ → ℕ)
+          × Sample S f aim
       from w = let x : Node S = record { state = w .0; aim = 0; livable = w .1 .1; below = omega arith } in (
         λ i. nodes x i .state,
         λ i. nodes x i .aim,
@@ -195,7 +197,8 @@ module _ {S : System} {f aim : ℕ → ℕ} (fin : Finite S) (x : Sample S f aim
 
   -- The sample run has a paper.
   pub paper-of-sample : (states : List ℕ) × (a : ℕ) × RunPaper S states a
-  paper-of-sample = cut (pairs-repeat (fin .bound) q (suc (fin .bound * q)) f aim (λ i h. sample-below i) (λ i h. aim-below x i) (omega arith))
+  paper-of-sample = cut (pairs-repeat (fin .bound) q (suc (fin .bound * q)) f aim (λ i h. sample-below i) (λ i h. aim-below x i)
+      (omega arith))
     where
       q : ℕ
       q = suc (S .promises - 1)
@@ -214,10 +217,16 @@ module _ {S : System} {f aim : ℕ → ℕ} (fin : Finite S) (x : Sample S f aim
             (λ i j p q e e′. omega (arith, w .2 j (i, p, (e, e′)))),
       )
 
-      cut : (i j : ℕ) × (i < j) × (j < suc (fin .bound * q)) × (f i ≡ f j) × (aim i ≡ aim j) → (states : List ℕ) × (a : ℕ) × RunPaper S states a
+      cut : (i j : ℕ) × (i < j) × (j < suc (fin .bound * q)) × (f i ≡ f j) × (aim i ≡ aim j) → (states : List ℕ) × (a : ℕ)
+          × RunPaper S states a
       cut w = write (least-below {P = Again}
-          (λ b. any-below {P = Same b} (λ a. Dec·and (ℕ-discrete (f a) (f b)) (ℕ-discrete (aim a) (aim b))) b) {n = w .1} (w .0, w .2, (w .4, w .5)))
+          (λ b. any-below {P = Same b} (λ a. Dec·and (ℕ-discrete (f a) (f b)) (ℕ-discrete (aim a) (aim b))) b) {n = w .1} (
+            w .0,
+            w .2,
+            (w .4, w .5),
+          ))
 
 -- A system that can be kept has a paper of its sample run.
-pub run-paper-exists : {S : System} → Finite S → ((s : ℕ) → Dec (Livable S s)) → CanBeKept S → (states : List ℕ) × (a : ℕ) × RunPaper S states a
+pub run-paper-exists : {S : System} → Finite S → ((s : ℕ) → Dec (Livable S s)) → CanBeKept S → (states : List ℕ) × (a : ℕ)
+    × RunPaper S states a
 run-paper-exists fin livable? c = paper-of-sample fin (sample-exists fin livable? c .2)

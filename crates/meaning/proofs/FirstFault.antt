@@ -1,5 +1,5 @@
--- What `firstFault` finds, said of the sheet's bytes as specs/Faults.antt says it: the sheet is good, or it has one of the ten faults at the
--- place found (`first-fault-found`). Check by check: the header, the records (counted over all four kinds), a record's literals.
+-- What `firstFault` finds, said of the sheet's bytes as specs/Faults.antt says it: the sheet is good, or it has one of the ten faults at
+-- the place found (`first-fault-found`). Check by check: the header, the records (counted over all four kinds), a record's literals.
 -- Assumes nothing.
 use mathlib.Core.Path.{_≡_, refl, sym, _∙_, ap, subst}
 use mathlib.Core.Bool.{Bool, true, false, cond, _&&_}
@@ -17,8 +17,10 @@ use Rattle.meaning.specs.Sheet.{Why, badSize, badVersion, badLength, bad
 use Rattle.meaning.specs.Sheet.{notAscending, surplus, Fault, unless, _then_, positive, size, signedBelow, names, literalsFault}
 use Rattle.meaning.specs.Sheet.{listFault, Kind, aLimit, aFirst, aStep, aPromise, limitOf, stepOf, recordFault, byte, bodyAt, nextAt}
 use Rattle.meaning.specs.Sheet.{afterAt, recordsFault, lettersIn, firstsAt, stepsAt, promisesAt, endAt, firstFault}
-use Rattle.meaning.specs.Faults.{SizeFits, VersionFits, LengthFits, LettersFit, LimitsFit, PromisesFit, GoodHeader, startOf, recordsIn}
-use Rattle.meaning.specs.Faults.{kindAt, Present, ShapeFits, literalsFrom, LiteralAt, Begins, NamesLetter, Ascends, GoodRecord, GoodUpTo}
+use Rattle.meaning.specs.Faults.{SizeFits, VersionFits, LengthFits, LettersFit, LimitsFit, PromisesFit, GoodHeader, startOf}
+use Rattle.meaning.specs.Faults.{recordsIn}
+use Rattle.meaning.specs.Faults.{kindAt, Present, ShapeFits, literalsFrom, LiteralAt, Begins, NamesLetter, Ascends, GoodRecord}
+use Rattle.meaning.specs.Faults.{GoodUpTo}
 use Rattle.meaning.specs.Faults.{Comes, LiteralComes, Fault1, Fault2, Fault3, Fault4, Fault5, Fault6, Fault7, Fault8, Fault9, Fault10}
 use Rattle.meaning.proofs.Parts.{and-parts}
 use Rattle.meaning.proofs.Promised.{same-fault, bad-not-good}
@@ -251,7 +253,8 @@ RecordFits kind s q = ShapeFits kind s q × AllFit s (Begins kind s q) (literals
 -- what is wrong with it: its shape, or a literal
 abbrev pub RecordUnfit : Kind → List ℕ → ℕ → Why → ℕ → Type 0
 RecordUnfit kind s q w p =
-    ((w ≡ badShape) × (ShapeFits kind s q → ⊥) × (p ≡ q)) ⊎ (ShapeFits kind s q × Unfit s (Begins kind s q) (literalsFrom kind q) (endOf s q) w p)
+    ((w ≡ badShape) × (ShapeFits kind s q → ⊥) × (p ≡ q)) ⊎ (ShapeFits kind s q × Unfit s (Begins kind s q) (literalsFrom kind q)
+    (endOf s q) w p)
 
 module _ (s : List ℕ) (q : ℕ) (few : byte s 3 < 128) (there : Present s q) where
   -- the byte behind the length byte is the first of the record's own
@@ -275,7 +278,10 @@ module _ (s : List ℕ) (q : ℕ) (few : byte s 3 < 128) (there : Present s q) w
       ))
       (λ t.
       let both = bounds 2 (length (bodyAt s q)) (getD (bodyAt s q) 0 0) 1 t in
-      let shape : ShapeFits aLimit s q = (omega (arith, long, both .0), omega (arith, long, both .0, both .1, own-first (omega (arith, long, both .0)))) in
+      let shape : ShapeFits aLimit s q = (
+        omega (arith, long, both .0),
+        omega (arith, long, both .0, both .1, own-first (omega (arith, long, both .0))),
+      ) in
       let e : q + 3 ≡ q + 1 + 2 = omega arith in
       map-means _
       (list-found s (Begins aLimit s q) (q + 3) (endOf s q) few (drop 2 (bodyAt s q)) (q + 3) (omega arith)
@@ -427,7 +433,8 @@ module _ (s : List ℕ) (j : ℕ) (good : GoodUpTo s j) (announced : j < records
 
     -- A literal that is not good is the sheet's fault 8 or 9.
     literal-fault : (w : Why) (p : ℕ) → ShapeFits (kindAt s j) s (startOf s j)
-        → Unfit s (Begins (kindAt s j) s (startOf s j)) (literalsFrom (kindAt s j) (startOf s j)) (endOf s (startOf s j)) w p → FaultAt s w p
+        → Unfit s (Begins (kindAt s j) s (startOf s j)) (literalsFrom (kindAt s j) (startOf s j)) (endOf s (startOf s j)) w p
+        → FaultAt s w p
     literal-fault badSize p shape bad = absurd bad
     literal-fault badVersion p shape bad = absurd bad
     literal-fault badLength p shape bad = absurd bad
@@ -469,7 +476,16 @@ rest-found s (suc count) j at all good begins =
     let few : byte s 3 < 128 = omega (arith, good .header .letters .1) in
     let announced : j < recordsIn s = omega arith in
     check (leb (nextAt s at) (length s)) recordMissing at _
-    (λ t. (j, subst (Comes s j) begins (comes s j good announced), λ there. omega (arith, leb-false (nextAt s at) (length s) t, there, next-is s at)))
+    (λ t. (
+      j,
+      subst (Comes s j) begins (comes s j good announced),
+      λ there. omega (
+        arith,
+        leb-false (nextAt s at) (length s) t,
+        there,
+        next-is s at,
+      ),
+    ))
     (λ t.
     let there : Present s at = omega (arith, leb-true (nextAt s at) (length s) t, next-is s at) in
     let there′ : Present s (startOf s j) = subst (Present s) (sym begins) there in
@@ -551,7 +567,8 @@ sections-joined s =
     let e : 0 + b4 ≡ b4 = omega arith in
     let all : b4 + (b5 + (b6 + (b7 + 0))) ≡ b4 + b5 + b6 + b7 = omega arith in
     ap (λ (x : Option Fault). limits then firsts then steps then x) promises
-    ∙ ap (λ (x : Option Fault). limits then firsts then x) (section-joined s aStep b6 (b7 + 0) (b4 + b5) (stepsAt s) (λ i p q. step-kind s i p q))
+    ∙ ap (λ (x : Option Fault). limits then firsts then x) (section-joined s aStep b6 (b7 + 0) (b4 + b5) (stepsAt s)
+    (λ i p q. step-kind s i p q))
     ∙ ap (λ (x : Option Fault). limits then x) (section-joined s aFirst b5 (b6 + (b7 + 0)) b4 (firstsAt s) (λ i p q. first-kind s i p q))
     ∙ ap (λ (k : ℕ). limits then restFault s (b5 + (b6 + (b7 + 0))) k (firstsAt s)) (sym e)
     ∙ section-joined s aLimit b4 (b5 + (b6 + (b7 + 0))) 0 8 (λ i p q. limit-kind s i (omega arith))

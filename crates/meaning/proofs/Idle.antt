@@ -14,7 +14,8 @@ use Rattle.meaning.specs.Strike.{Left, Struck}
 use Rattle.meaning.specs.Sample.{RunPaper}
 use Rattle.meaning.specs.Papers.{RunAccepted}
 use Rattle.meaning.specs.Sheet.{firstFault}
-use Rattle.meaning.specs.Promises.{systemIn, accepted, refused, RunChecked, StrikesChecked, Lent, Outcome, capacity, can, cannot, Roomy, outcome, Judged, crowded, short}
+use Rattle.meaning.specs.Promises.{systemIn, accepted, refused, RunChecked, StrikesChecked, Lent, Outcome, capacity, can, cannot}
+use Rattle.meaning.specs.Promises.{Roomy, outcome, Judged, crowded, short}
 use Rattle.meaning.specs.Wall.{w1, w2, w4, w5}
 use Rattle.meaning.proofs.Lists.{number-unique}
 use Rattle.meaning.proofs.Rounds.{strike-list-accepted}
@@ -22,7 +23,8 @@ use Rattle.meaning.proofs.SampleRun.{paper-accepted}
 use Rattle.meaning.proofs.SheetSystem.{reachable-lawful-in}
 use Rattle.meaning.proofs.Judging.{lists-number, livable-kept}
 use Rattle.meaning.proofs.Promised.{run-checked-unique, strikes-checked-unique, same-run-length, judged-unique}
-use Rattle.meaning.proofs.Demands.{RunFits, kept-hands-over, kept-run-accepted, cannot-hands-over, answers-11-exactly, short-run-leaves, demand-2}
+use Rattle.meaning.proofs.Demands.{RunFits, kept-hands-over, kept-run-accepted, cannot-hands-over, answers-11-exactly}
+use Rattle.meaning.proofs.Demands.{short-run-leaves, demand-2}
 use Rattle.meaning.proofs.Tests.{Test, as?, same?, le?, both?, if?, each?, any?, lists?}
 use Rattle.meaning.proofs.Tables.{Testable, left-below, struck?, left?}
 use Rattle.meaning.proofs.Walled.{tests-in, lawful-list?, reachable-list?, w1-kept, w2-kept, w4-struck, w5-struck}
@@ -142,7 +144,8 @@ says-13-on-w5 build meets = ap (λ (o : Outcome). o .answer) (w5-outcome (meets 
 -- ---- builds that always say one number
 
 -- No sheet that fits is refused.
-pub fitting-not-refused : {sheet : List ℕ} {lent : Lent} {o : Outcome} → Judged sheet lent o → Fitting sheet lent → 1 ≤ o .answer → o .answer ≤ 12 → ⊥
+pub fitting-not-refused : {sheet : List ℕ} {lent : Lent} {o : Outcome} → Judged sheet lent o → Fitting sheet lent → 1 ≤ o .answer
+    → o .answer ≤ 12 → ⊥
 fitting-not-refused {o = o} j fitting low high = by (demand-2 j (fitting .roomy) (fitting .fits) .2)
   where
     by : (o .answer ≡ 0) ⊎ (o .answer ≡ 13) → ⊥
@@ -220,7 +223,8 @@ leaves-w4-untouched j = (
 )
 
 -- It leaves all slices as lent.
-pub touches-nothing : (build : Build) → Meets build → ((sheet : List ℕ) (lent : Lent) → Fitting sheet lent → build sheet lent .leaves ≡ lent) → ⊥
+pub touches-nothing : (build : Build) → Meets build → ((sheet : List ℕ) (lent : Lent) → Fitting sheet lent
+    → build sheet lent .leaves ≡ lent) → ⊥
 touches-nothing build meets idle = leaves-w1-untouched (meets w1 sevens) .0 (ap (λ (l : Lent). l .table) (idle w1 sevens w1-fits))
 
 -- ---- builds that strike a true first round and then stop (and mistake 3, one pass of striking)
@@ -371,7 +375,8 @@ invents-b j (inr twelve) states a paper =
     let (states′, a′, paper′, is) = short-run-leaves j twelve in ap (λ (o : Outcome). o .b) is ∙ same-run-length paper′ paper
 
 -- So outcomes that differ in the count or in b do not both meet the promise.
-pub invents-nothing : {sheet : List ℕ} {lent : Lent} {o o′ : Outcome} → Judged sheet lent o → Judged sheet lent o′ → (o .count ≡ o′ .count) × (o .b ≡ o′ .b)
+pub invents-nothing : {sheet : List ℕ} {lent : Lent} {o o′ : Outcome} → Judged sheet lent o → Judged sheet lent o′
+    → (o .count ≡ o′ .count) × (o .b ≡ o′ .b)
 invents-nothing j j′ = (ap (λ (o : Outcome). o .count) (judged-unique j j′), ap (λ (o : Outcome). o .b) (judged-unique j j′))
 
 -- Answer 0 comes with a run that the run checker's rule accepts.
@@ -418,6 +423,11 @@ pub w16-short-run : {o : Outcome} → Judged w2 short-run o → o ≡ record {
 unfolding outcome firstFault capacity
 w16-short-run j = judged-unique j (record {
   finding = short 2;
-  found = (record { good = refl; reached = 2; number = w2-reached; room = lit≤ tt }, w2-kept .0, (0 ∷ 1 ∷ [], 1, w2-kept .2, refl), lit≤ tt);
+  found = (
+    record { good = refl; reached = 2; number = w2-reached; room = lit≤ tt },
+    w2-kept .0,
+    (0 ∷ 1 ∷ [], 1, w2-kept .2, refl),
+    lit≤ tt,
+  );
   returned = refl;
 })

@@ -49,5 +49,6 @@ obeys-accepted {S} {states} {a} h o = record { back = h; first = o .run .starts;
         (place a (length states) (g .0), place-in-loop a (length states) (g .0) (g .1), place-below a (length states) (g .0) h, g .2)
 
 -- A run paper is accepted exactly if it goes back to one of its states and its endless reading obeys.
-pub run-accepted-exactly : (S : System) (states : List ℕ) (a : ℕ) → RunAccepted S states a ↔ ((a < length states) × Obeys S (reading states a))
+pub run-accepted-exactly : (S : System) (states : List ℕ) (a : ℕ) → RunAccepted S states a ↔ ((a < length states)
+    × Obeys S (reading states a))
 run-accepted-exactly S states a = (λ h. (h .back, accepted-obeys h), λ p. obeys-accepted (p .0) (p .1))

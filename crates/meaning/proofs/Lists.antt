@@ -109,7 +109,8 @@ rising-within-list {m} l rises inside L =
 -- Lists of two predicates that agree are equal.
 pub lists-agree : {P Q : ℕ → Type 0} {l m : List ℕ} → ((x : ℕ) → P x ↔ Q x) → Lists P l → Lists Q m → l ≡ m
 lists-agree {P} {Q} {l} {m} same L M = ext-getD 0 l m long
-    (rising-same _<_ lt-through lt-strict {f = λ i. getD l i 0} {g = λ i. getD m i 0} (L .rises) (M .rises) (lists-hold l there M) (lists-hold m back L))
+    (rising-same _<_ lt-through lt-strict {f = λ i. getD l i 0} {g = λ i. getD m i 0} (L .rises) (M .rises) (lists-hold l there M)
+    (lists-hold m back L))
   where
     there : (i : ℕ) → i < length l → Q (getD l i 0)
     there i h = same (getD l i 0) .0 (L .sound i h)
@@ -182,7 +183,8 @@ lists-tail {P} {l} {x} L = record {
 }
   where
     above : (i : ℕ) → i < length l → x < getD l i 0
-    above i h = rising-apart _<_ lt-through lt-strict {f = λ j. getD (x ∷ l) j 0} {n = length (x ∷ l)} (L .rises) 0 (suc i) (omega arith) (omega arith)
+    above i h = rising-apart _<_ lt-through lt-strict {f = λ j. getD (x ∷ l) j 0} {n = length (x ∷ l)} (L .rises) 0 (suc i) (omega arith)
+        (omega arith)
 
     later : (y : ℕ) → x < y → In (x ∷ l) y → In l y
     later y a (zero, h, e) = absurd (omega arith)

@@ -21,7 +21,8 @@ unfolding someTrue
 some-true σ i [] = (λ t. t, λ t. t)
 some-true σ i (l ∷ ls) = either (trueIn (σ i) l) (some-true σ i ls)
   where
-    either : (b : Bool) → T (someTrue (σ i) ls) ↔ Sat σ i (someOf (map literal ls)) → T (b || someTrue (σ i) ls) ↔ (T b ⊎ Sat σ i (someOf (map literal ls)))
+    either : (b : Bool) → T (someTrue (σ i) ls) ↔ Sat σ i (someOf (map literal ls)) → T (b || someTrue (σ i) ls) ↔
+        (T b ⊎ Sat σ i (someOf (map literal ls)))
     either true e = (λ t. inl tt, λ t. tt)
     either false e = (λ t. inr (e .0 t), elim [ inl t ↦ absurd t | inr t ↦ e .1 t ])
 
@@ -49,7 +50,8 @@ unfolding stepHolds
 step-clause σ i rule = by (allTrue (σ i) (rule .left)) (all-true σ i (rule .left))
   where
     by : (b : Bool) → T b ↔ Sat σ i (allOf (map literal (rule .left)))
-        → T (not b || someTrue (σ (suc i)) (rule .right)) ↔ (Sat σ i (allOf (map literal (rule .left))) → Sat σ (suc i) (someOf (map literal (rule .right))))
+        → T (not b || someTrue (σ (suc i)) (rule .right)) ↔ (Sat σ i (allOf (map literal (rule .left)))
+        → Sat σ (suc i) (someOf (map literal (rule .right))))
     by true e = (λ t u. some-true σ (suc i) (rule .right) .0 t, λ h. some-true σ (suc i) (rule .right) .1 (h (e .0 tt)))
     by false e = (λ t u. absurd (e .1 u), λ h. tt)
 
@@ -74,7 +76,10 @@ promise-clauses : (σ : ℕ → ℕ) (i : ℕ) (ls : List ℕ) → Again σ i ls
 promise-clauses σ i [] = (λ h. tt, λ h k b. absurd (not-suc-le-zero b))
 promise-clauses σ i (l ∷ ls) =
     let rest : Again σ i ls ↔ Sat σ i (allOf (map sometimeClause ls)) = promise-clauses σ i ls in (
-      λ h. (λ t. (h 0 (zero-lt-suc _) .0, h 0 (zero-lt-suc _) .1, h 0 (zero-lt-suc _) .2, λ j a b. tt), rest .0 (λ k b. h (suc k) (suc-le-suc b))),
+      λ h. (
+        λ t. (h 0 (zero-lt-suc _) .0, h 0 (zero-lt-suc _) .1, h 0 (zero-lt-suc _) .2, λ j a b. tt),
+        rest .0 (λ k b. h (suc k) (suc-le-suc b)),
+      ),
       λ h. again-cons σ i l ls (rest .1 (h .1)) (h .0 tt .0, h .0 tt .1, h .0 tt .2),
     )
 
@@ -107,7 +112,11 @@ unfolding systemOf kept
 model-obeys sheet σ m = record {
   run = record {
     starts = first-parts sheet (σ 0) .1 (m .constrained 0, initial-now σ (sheet .firsts) .1 (m .satisfied 0 zero-le .0));
-    goes = λ i. move-parts sheet (σ i) (σ (suc i)) .1 (m .constrained i, m .constrained (suc i), step-clauses sheet σ i .1 (m .satisfied i zero-le .1 .0));
+    goes = λ i. move-parts sheet (σ i) (σ (suc i)) .1 (
+      m .constrained i,
+      m .constrained (suc i),
+      step-clauses sheet σ i .1 (m .satisfied i zero-le .1 .0),
+    );
   };
   keeps = λ k b i. let (j, late, now) = promise-clauses σ i (sheet .promises) .1 (m .satisfied i zero-le .1 .1) k b in
       (j, late, kept-parts sheet k (σ j) .1 (lt→ltb k (length (sheet .promises)) b, now));

@@ -1,6 +1,7 @@
--- The reader's numbers and places, line by line of document 01's table with document 02's places: the number is n and the place q exactly if the
--- n-th line holds of the sheet's bytes at q (read-1-exactly to read-10-exactly), and 0 exactly for a good sheet (read-0-exactly). The judge
--- and both checkers pass on the reader's number and place unaltered (judge-passes-on, run-passes-on, strikes-pass-on). Assumes nothing.
+-- The reader's numbers and places, line by line of document 01's table with document 02's places: the number is n and the place q exactly
+-- if the n-th line holds of the sheet's bytes at q (read-1-exactly to read-10-exactly), and 0 exactly for a good sheet (read-0-exactly).
+-- The judge and both checkers pass on the reader's number and place unaltered (judge-passes-on, run-passes-on, strikes-pass-on). Assumes
+-- nothing.
 use mathlib.Core.Path.{_≡_, refl, sym, _∙_, ap, subst}
 use mathlib.Core.Logic.{_↔_}
 use mathlib.Core.Bool.{cond}
@@ -112,7 +113,8 @@ read-fault : (s : List ℕ) (w : Why) (q : ℕ) → ReadPlaced s (numberOf w) q 
 unfolding ReadPlaced ReadSays readNumber placeOf
 read-fault s w q = (to, λ e. record { number = sym (ap readNumber e); where-met = sym (ap placeOf e) })
   where
-    by : (o : Option Fault) → firstFault s ≡ o → numberOf w ≡ readNumber o → q ≡ placeOf o → firstFault s ≡ some (record { why = w; at = q })
+    by : (o : Option Fault) → firstFault s ≡ o → numberOf w ≡ readNumber o → q ≡ placeOf o
+        → firstFault s ≡ some (record { why = w; at = q })
     by none e n p = absurd (omega (arith, n, fault-number w))
     by (some f) e n p =
         let why : w ≡ f .why = one-number n in
@@ -167,7 +169,14 @@ read-10-exactly s q = joined (read-fault s surplus q) (fault-10-exactly s q)
 -- 0 for a good sheet, with place 0.
 pub read-0-exactly : (s : List ℕ) (q : ℕ) → ReadPlaced s 0 q ↔ ((GoodUpTo s (recordsIn s) × (startOf s (recordsIn s) ≡ length s)) × (q ≡ 0))
 unfolding ReadPlaced ReadSays readNumber placeOf
-read-0-exactly s q = (to, λ w. let e = good-exactly s .1 (w .0) in record { number = sym (ap readNumber e); where-met = w .1 ∙ sym (ap placeOf e) })
+read-0-exactly s q = (
+  to,
+  λ w. let e = good-exactly s .1 (w .0) in record {
+    number = sym (ap readNumber e);
+    where-met = w .1
+        ∙ sym (ap placeOf e);
+  },
+)
   where
     by : (o : Option Fault) → firstFault s ≡ o → 0 ≡ readNumber o → q ≡ placeOf o
         → (GoodUpTo s (recordsIn s) × (startOf s (recordsIn s) ≡ length s)) × (q ≡ 0)
@@ -180,7 +189,8 @@ read-0-exactly s q = (to, λ w. let e = good-exactly s .1 (w .0) in record { num
 -- ---- "passed on unaltered"
 
 -- A number of the reader from 1 on is a fault's.
-read-some : (s : List ℕ) {n q : ℕ} → ReadPlaced s n q → 1 ≤ n → (f : Fault) × (firstFault s ≡ some f) × (numberOf (f .why) ≡ n) × (f .at ≡ q)
+read-some : (s : List ℕ) {n q : ℕ} → ReadPlaced s n q → 1 ≤ n → (f : Fault) × (firstFault s ≡ some f) × (numberOf (f .why) ≡ n)
+    × (f .at ≡ q)
 unfolding ReadPlaced ReadSays readNumber placeOf
 read-some s {n} {q} r low = by (firstFault s) refl (r .number) (r .where-met)
   where
@@ -197,7 +207,8 @@ judge-passes-on {sheet} {n = n} {q} j r low =
     answers-fault-exactly j n q low (omega (arith, fault-number (f .why))) .1 (f, e, number, place)
 
 -- So does a checker, whatever the paper.
-checker-passes-on : {sheet : List ℕ} {Ok : System → Type 0} {m p n q : ℕ} → Placed sheet (Checked sheet Ok) m p → ReadPlaced sheet n q → 1 ≤ n
+checker-passes-on : {sheet : List ℕ} {Ok : System → Type 0} {m p n q : ℕ} → Placed sheet (Checked sheet Ok) m p → ReadPlaced sheet n q
+    → 1 ≤ n
     → (m ≡ n) × (p ≡ q)
 unfolding ReadPlaced
 checker-passes-on {sheet} {Ok} {m} {p} {n} {q} c r low = (by (c .number) (read-some sheet r low), c .where-met ∙ sym (r .where-met))
@@ -207,7 +218,8 @@ checker-passes-on {sheet} {Ok} {m} {p} {n} {q} c r low = (by (c .number) (read-s
     by (accepted good ok k) (f, e, number, place) = absurd (bad-not-good e good)
     by (refused good never k) (f, e, number, place) = absurd (bad-not-good e good)
 
-pub run-passes-on : (sheet states : List ℕ) (a : ℕ) {m p n q : ℕ} → RunPlaced sheet states a m p → ReadPlaced sheet n q → 1 ≤ n → (m ≡ n) × (p ≡ q)
+pub run-passes-on : (sheet states : List ℕ) (a : ℕ) {m p n q : ℕ} → RunPlaced sheet states a m p → ReadPlaced sheet n q → 1 ≤ n → (m ≡ n)
+    × (p ≡ q)
 unfolding RunPlaced RunChecked
 run-passes-on sheet states a c r low = checker-passes-on c r low
 

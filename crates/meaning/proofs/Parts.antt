@@ -18,7 +18,8 @@ and-parts true b = (λ t. (tt, t), λ t. t .1)
 and-parts false b = (λ t. absurd t, λ t. t .0)
 
 -- A lawful state is a number below 2 to the power of the letters, and every limit holds in it.
-pub lawful-parts : (sheet : Sheet) (s : ℕ) → T (lawful sheet s) ↔ (T (ltb s (2 ^ sheet .letters)) × T (every (limitHolds s) (sheet .limits)))
+pub lawful-parts : (sheet : Sheet) (s : ℕ) → T (lawful sheet s) ↔ (T (ltb s (2 ^ sheet .letters))
+    × T (every (limitHolds s) (sheet .limits)))
 unfolding lawful
 lawful-parts sheet s = and-parts (ltb s (2 ^ sheet .letters)) (every (limitHolds s) (sheet .limits))
 
@@ -31,7 +32,8 @@ unfolding firstState
 first-parts sheet s = and-parts (lawful sheet s) (every (someTrue s) (sheet .firsts))
 
 -- A move is two lawful states, and every step rule holds from the one to the other.
-pub move-parts : (sheet : Sheet) (s t : ℕ) → T (moves sheet s t) ↔ (T (lawful sheet s) × T (lawful sheet t) × T (every (stepHolds s t) (sheet .steps)))
+pub move-parts : (sheet : Sheet) (s t : ℕ) → T (moves sheet s t) ↔ (T (lawful sheet s) × T (lawful sheet t)
+    × T (every (stepHolds s t) (sheet .steps)))
 unfolding moves
 move-parts sheet s t =
     let outer = and-parts (lawful sheet s && lawful sheet t) (every (stepHolds s t) (sheet .steps)) in
@@ -39,6 +41,7 @@ move-parts sheet s t =
     (λ m. (inner .0 (outer .0 m .0) .0, inner .0 (outer .0 m .0) .1, outer .0 m .1), λ p. outer .1 (inner .1 (p .0, p .1), p .2))
 
 -- A kept promise is one of the sheet's, and its literal is true.
-pub kept-parts : (sheet : Sheet) (k s : ℕ) → T (kept sheet k s) ↔ (T (ltb k (length (sheet .promises))) × T (trueIn s (getD (sheet .promises) k 0)))
+pub kept-parts : (sheet : Sheet) (k s : ℕ) → T (kept sheet k s) ↔ (T (ltb k (length (sheet .promises)))
+    × T (trueIn s (getD (sheet .promises) k 0)))
 unfolding kept
 kept-parts sheet k s = and-parts (ltb k (length (sheet .promises))) (trueIn s (getD (sheet .promises) k 0))

@@ -1,6 +1,6 @@
--- The ten lines of document 02's order 1, and the line of a good sheet: the first fault has number n and place q exactly if every earlier check
--- passes and this one fails at q, each check said of the sheet's bytes (specs/Faults.antt). So nobody need trust the chain of checks in
--- `firstFault`. What is found is so (`first-fault-found`); and no two of the eleven lines are so of one sheet. Assumes nothing.
+-- The ten lines of document 02's order 1, and the line of a good sheet: the first fault has number n and place q exactly if every earlier
+-- check passes and this one fails at q, each check said of the sheet's bytes (specs/Faults.antt). So nobody need trust the chain of checks
+-- in `firstFault`. What is found is so (`first-fault-found`); and no two of the eleven lines are so of one sheet. Assumes nothing.
 use mathlib.Core.Path.{_≡_, refl, sym, _∙_, ap, subst}
 use mathlib.Core.Bool.{Bool, true, false, cond, _&&_}
 use mathlib.Core.Logic.{_⊎_, inl, inr, _↔_}
@@ -14,7 +14,8 @@ use lib.ListN.{length}
 use borrow.Author.Tests.{le-leb, lt-leb, eq-eqb, ne-eqb}
 use Rattle.meaning.specs.Sheet.{Why, badSize, badVersion, badLength, badLetters, tooMany, recordMissing, badShape, badLiteral}
 use Rattle.meaning.specs.Sheet.{notAscending, surplus, Fault, unless, mostBytes, names, size, byte, lettersIn, firstFault}
-use Rattle.meaning.specs.Faults.{SizeFits, VersionFits, LengthFits, LettersFit, LimitsFit, PromisesFit, GoodHeader, startOf, recordsIn}
+use Rattle.meaning.specs.Faults.{SizeFits, VersionFits, LengthFits, LettersFit, LimitsFit, PromisesFit, GoodHeader, startOf}
+use Rattle.meaning.specs.Faults.{recordsIn}
 use Rattle.meaning.specs.Faults.{kindAt, Present, ShapeFits, NamesLetter, Ascends, GoodRecord, GoodUpTo}
 use Rattle.meaning.specs.Faults.{Comes, LiteralComes, Fault1, Fault2, Fault3, Fault4, Fault5, Fault6, Fault7, Fault8, Fault9, Fault10}
 use Rattle.meaning.proofs.FirstFault.{bounds, FaultAt, Whole, first-fault-found, starts-within}

@@ -138,7 +138,8 @@ pub short-not-fits : {S : System} {states : List ℕ} {a b n : ℕ}
 short-not-fits (states′, a′, paper′, long) above paper fits = omega (arith, long, same-run-length paper paper′)
 
 -- Two true findings of one input have one outcome.
-pub found-unique : (sheet : List ℕ) (lent : Lent) (x y : Finding) → Found sheet lent x → Found sheet lent y → outcome lent x ≡ outcome lent y
+pub found-unique : (sheet : List ℕ) (lent : Lent) (x y : Finding) → Found sheet lent x → Found sheet lent y
+    → outcome lent x ≡ outcome lent y
 found-unique sheet lent (bad f) (bad g) p q = ap (λ (x : Fault). outcome lent (bad x)) (same-fault p q)
 found-unique sheet lent (bad f) crowded p q = absurd (bad-not-good p (q .0))
 found-unique sheet lent (bad f) (short b) p q = absurd (bad-not-good p (q .0 .good))

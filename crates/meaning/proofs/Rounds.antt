@@ -8,7 +8,8 @@ use mathlib.Core.Path.{_≡_, refl, sym, _∙_, ap, subst}
 use mathlib.Core.Logic.{_↔_, _⊎_, inl, inr, ⊎-elim}
 use mathlib.Core.List.{List}
 use Prim.Native.Nat.{ℕ, zero, suc, _+_, _-_, _*_, _/_, _%_, _≤_, _<_, zero-le}
-use native.Mathlib.Nat.{mod-lt, div-add-mod', div-mul-le-self, div-lt-iff-lt-mul, suc-mul, mul-add-mod-self-left, mod-eq-of-lt, le-of-eq, le-of-lt}
+use native.Mathlib.Nat.{mod-lt, div-add-mod', div-mul-le-self, div-lt-iff-lt-mul, suc-mul, mul-add-mod-self-left, mod-eq-of-lt, le-of-eq}
+use native.Mathlib.Nat.{le-of-lt}
 use native.Mathlib.Decide.{decLt, decLe, le-ind, ℕ-discrete}
 use native.Mathlib.Omega.{arith}
 use lib.Arith.{digits-mod}
@@ -124,7 +125,14 @@ before r f (suc i) = f i
 
 -- a move into a fair path makes a fair path
 fair-before : {S : System} {r s t : ℕ} → S .Move r s → FairPath S s t → FairPath S r t
-fair-before {S} {r} m w = record { path = before r (w .path); begins = refl; goes = goes; keeps = keeps; moment = suc (w .moment); there = w .there }
+fair-before {S} {r} m w = record {
+  path = before r (w .path);
+  begins = refl;
+  goes = goes;
+  keeps = keeps;
+  moment = suc (w .moment);
+  there = w .there;
+}
   where
     goes : (i : ℕ) → S .Move (before r (w .path) i) (before r (w .path) (suc i))
     goes zero = rw (w .begins) m
@@ -214,7 +222,8 @@ module _ (S : System) (U : ℕ → Type 0) (saved : (r : ℕ) → r ≤ S .promi
 
   -- walking down from an aim that is d above q, the walk comes to aim q
   meets-down : (P : ℕ → Type 0) (q : ℕ)
-      → ((h : q ≤ S .promises) (s : ℕ) (w : Way S U (Goal S q) 0 s) → Meets P (record { state = s; aim = q; bounded = h; far = 0; way = w }))
+      → ((h : q ≤ S .promises) (s : ℕ) (w : Way S U (Goal S q) 0 s)
+      → Meets P (record { state = s; aim = q; bounded = h; far = 0; way = w }))
       → (d r : ℕ) → d + q ≡ r → (h : r ≤ S .promises) (n s : ℕ) (w : Way S U (Goal S r) n s)
       → Meets P (record { state = s; aim = r; bounded = h; far = n; way = w })
   unfolding step onward afresh taking
@@ -316,7 +325,8 @@ reachable-on {s = s} r m = (suc (r .0), (s, r .1, m))
 
 module _ (S : System) (states words : List ℕ) (small : S .promises < 32) (L : StrikeList S states words) where
   -- a next state that is not left before phase b is listed with the word of a phase before b
-  next-listed : (n b s t : ℕ) → Left S n s → S .Move s t → (Left S b t → ⊥) → (i : ℕ) × (i < b) × Listed states words (λ w. w ≡ wordOf S i) t
+  next-listed : (n b s t : ℕ) → Left S n s → S .Move s t → (Left S b t → ⊥) → (i : ℕ) × (i < b)
+      × Listed states words (λ w. w ≡ wordOf S i) t
   next-listed n b s t l m gone = by (L .whole t (reachable-on (left-reachable n l) m))
     where
       by : In states t → (i : ℕ) × (i < b) × Listed states words (λ w. w ≡ wordOf S i) t
@@ -328,7 +338,8 @@ module _ (S : System) (states words : List ℕ) (small : S .promises < 32) (L : 
           at k (no h) = absurd (gone (left-earlier S b (k .0) t (omega arith) (subst (Left S (k .0)) (j .2) (k .1 .0))))
 
   -- an entry struck in phase n for reason r shows what it must
-  entry-right : (n s : ℕ) → Left S n s → (r : ℕ) → reasonOf S n ≡ r → (SavedBy S (Left S n) r s → ⊥) → EntryRight S states words r (wordOf S n) s
+  entry-right : (n s : ℕ) → Left S n s → (r : ℕ) → reasonOf S n ≡ r → (SavedBy S (Left S n) r s → ⊥) → EntryRight S states words r
+      (wordOf S n) s
   entry-right n s l zero e none = λ t m.
       let k = next-listed n n s t l m (λ u. none (t, m, u)) in
       (k .2 .0, k .2 .1, k .2 .2, rw (k .2 .3) (phase-word-rises S small (k .0) n (k .1)))

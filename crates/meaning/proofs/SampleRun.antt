@@ -42,7 +42,8 @@ no-shorter x u go zero m h q w = omega arith
 no-shorter {S} {k} {t = t} x u go (suc n) m h q w = from (λ i p. no-shorter x u go n i (omega arith) (omega arith))
   where
     from : ((i : ℕ) → i < m → Way S (Livable S) (Met S k) i u → ⊥) → ⊥
-    from none = by (x .nearest u m go (way-starts S (Livable S) (Met S k) m u w) (record { way = w; fewest = λ i v. fewest i v (decLe m i) }))
+    from none = by (x .nearest u m go (way-starts S (Livable S) (Met S k) m u w)
+        (record { way = w; fewest = λ i v. fewest i v (decLe m i) }))
       where
         fewest : (i : ℕ) → Way S (Livable S) (Met S k) i u → Dec (m ≤ i) → m ≤ i
         fewest i v (yes p) = p
@@ -165,7 +166,8 @@ module _ {S : System} {f aim : ℕ → ℕ} (x : Sample S f aim) where
       met : (j : ℕ) × (i ≤ j) × Met S (aim i) (f j) × (aim (suc j) ≡ nextAim S (aim i))
       met = aim-passes i
 
-      by : Dec (suc (aim i) < S .promises) → ((j : ℕ) → S .promises ≤ n + aim j → (m : ℕ) × (j ≤ m) × (aim m ≡ 0)) → (j : ℕ) × (i ≤ j) × (aim j ≡ 0)
+      by : Dec (suc (aim i) < S .promises) → ((j : ℕ) → S .promises ≤ n + aim j → (m : ℕ) × (j ≤ m) × (aim m ≡ 0)) → (j : ℕ) × (i ≤ j)
+          × (aim j ≡ 0)
       by (no q) rest = (suc (met .0), omega (arith, met .1), met .3 ∙ next-aim-back S (aim i) (omega arith))
       by (yes q) rest = (later .0, omega (arith, met .1, later .1), later .2)
         where
@@ -200,7 +202,8 @@ module _ {S : System} {f aim : ℕ → ℕ} (x : Sample S f aim) where
       near = aim-distance i .1
 
       soonest : (g : ℕ → ℕ) (j e : ℕ) → Obeys S g → g j ≡ f i → S .Kept (aim i) (g (j + e)) → d ≤ e
-      soonest g j e o same q = near .fewest e (subst (λ (s : ℕ). Way S (Livable S) (Met S (aim i)) e s) same (obeying-way o (Met S (aim i)) e j (inr q)))
+      soonest g j e o same q = near .fewest e (subst (λ (s : ℕ). Way S (Livable S) (Met S (aim i)) e s) same
+          (obeying-way o (Met S (aim i)) e j (inr q)))
 
 -- ---- its paper
 

@@ -1,5 +1,5 @@
--- How large the numbers of the judge's papers get, on every sheet: a lawful state is below 2^24, a word of a strike list below 2^32, so that
--- both fit in four bytes; C is the largest number that fits four times over; b is at most 262,144. Assumes nothing.
+-- How large the numbers of the judge's papers get, on every sheet: a lawful state is below 2^24, a word of a strike list below 2^32, so
+-- that both fit in four bytes; C is the largest number that fits four times over; b is at most 262,144. Assumes nothing.
 use mathlib.Core.Path.{_≡_, sym, ap, subst}
 use mathlib.Core.Logic.{_↔_, _⊎_, inl, inr}
 use mathlib.Core.Option.{none}
@@ -93,7 +93,8 @@ unfolding capacity
 capacity-exactly lent c = (λ h. (omega arith, omega arith, omega arith, omega arith), λ (t, w, s, most). omega arith)
 
 -- b is at most 16 times C, whatever the sheet.
-run-within : (sheet : List ℕ) (lent : Lent) {states : List ℕ} {a : ℕ} → Roomy sheet lent → RunPaper (systemIn sheet) states a → length states ≤ 262144
+run-within : (sheet : List ℕ) (lent : Lent) {states : List ℕ} {a : ℕ} → Roomy sheet lent → RunPaper (systemIn sheet) states a
+    → length states ≤ 262144
 run-within sheet lent {states} roomy paper = by (ℕ-discrete (systemIn sheet .promises) 0)
   where
     K : ℕ
@@ -103,7 +104,12 @@ run-within sheet lent {states} roomy paper = by (ℕ-discrete (systemIn sheet .p
     number = lists-number (livable-list (finite-in sheet) .1)
 
     few : K ≤ 16384
-    few = omega (arith, number-mono (λ s. livable-reachable) number (roomy .number), capacity-exactly lent (roomy .reached) .0 (roomy .room) .3)
+    few = omega (
+      arith,
+      number-mono (λ s. livable-reachable) number (roomy .number),
+      capacity-exactly lent (roomy .reached) .0
+          (roomy .room) .3,
+    )
 
     by : Dec (systemIn sheet .promises ≡ 0) → length states ≤ 262144
     by (yes none-asked) = omega (arith, run-within-k paper number none-asked, few)

@@ -15,7 +15,8 @@ use Rattle.meaning.specs.Papers.{StrikesAccepted, Listed, EntryRight}
 abbrev WordAt : List ℕ → List ℕ → (ℕ → ℕ) → ℕ → ℕ → Type 0
 WordAt states words f w i = Listed states words (λ v. v ≡ w) (f i)
 
-module _ (S : System) (states words : List ℕ) (A : StrikesAccepted S states words) (f : ℕ → ℕ) (goes : (i : ℕ) → S .Move (f i) (f (suc i))) where
+module _ (S : System) (states words : List ℕ) (A : StrikesAccepted S states words) (f : ℕ → ℕ) (goes : (i : ℕ)
+    → S .Move (f i) (f (suc i))) where
   word-right : (w i : ℕ) → WordAt states words f w i → EntryRight S states words (w % 32) w (f i)
   word-right w i e = subst₂ (λ (v s : ℕ). EntryRight S states words (v % 32) v s) (e .3) (e .2) (A .entries (e .0) (e .1))
 

@@ -72,12 +72,14 @@ strike-list-unique {states} {words} {states′} {words′} L M = (
     long : length states ≡ length states′
     long = omega (
       arith,
-      rising-shorter Before before-through before-strict {f = entry states words} {g = entry states′ words′} (L .ordered) (M .ordered) there,
+      rising-shorter Before before-through before-strict {f = entry states words} {g = entry states′ words′} (L .ordered)
+          (M .ordered) there,
       rising-shorter Before before-through before-strict {f = entry states′ words′} {g = entry states words} (M .ordered) (L .ordered) back,
     )
 
     same : (i : ℕ) → i < length states → entry states words i ≡ entry states′ words′ i
-    same = rising-same Before before-through before-strict {f = entry states words} {g = entry states′ words′} (L .ordered) (M .ordered) there back
+    same = rising-same Before before-through before-strict {f = entry states words} {g = entry states′ words′} (L .ordered)
+        (M .ordered) there back
 
 -- A strike list has as many entries as there are reachable states.
 pub strike-list-number : {S : System} {states words : List ℕ} → StrikeList S states words → Number (Reachable S) (length states)
@@ -86,7 +88,8 @@ strike-list-number {S} {states} {words} L = number-same (λ s. (there s, L .whol
     there : (s : ℕ) → In states s → Reachable S s
     there s (i, h, e) = subst (Reachable S) e (strike-list-reachable L i h)
 
-    clash : (i j : ℕ) → getD words i 0 ≡ getD words j 0 → getD states i 0 ≡ getD states j 0 → Before (entry states words i) (entry states words j) → ⊥
+    clash : (i j : ℕ) → getD words i 0 ≡ getD words j 0 → getD states i 0 ≡ getD states j 0 → Before (entry states words i)
+        (entry states words j) → ⊥
     clash i j e h (inl b) = omega arith
     clash i j e h (inr (b, c)) = omega arith
 
@@ -107,7 +110,12 @@ Key S N k = Struck S (k / N) (k % N)
 -- the list of all keys, read as states and words, is the strike list
 keys-strike-list : (S : System) (N : ℕ) (keys : List ℕ) → zero < N → S .promises < 32 → Lists (Key S N) keys
     → ((s : ℕ) → Reachable S s → (m : ℕ) × (s < N) × Struck S m s) → StrikeList S (map (λ k. k % N) keys) (map (λ k. wordOf S (k / N)) keys)
-keys-strike-list S N keys pos few L strikes = record { as-many = length-map keys word ∙ sym long; ordered = order; struck = hit; whole = found }
+keys-strike-list S N keys pos few L strikes = record {
+  as-many = length-map keys word ∙ sym long;
+  ordered = order;
+  struck = hit;
+  whole = found;
+}
   where
     state : ℕ → ℕ
     state k = k % N
@@ -128,7 +136,8 @@ keys-strike-list S N keys pos few L strikes = record { as-many = length-map keys
     in-order a b (inl h) = inl (phase-word-rises S few (a / N) (b / N) h)
     in-order a b (inr (e, h)) = inr (ap (wordOf S) e, h)
 
-    order : (i : ℕ) → suc i < length (map state keys) → Before (entry (map state keys) (map word keys) i) (entry (map state keys) (map word keys) (suc i))
+    order : (i : ℕ) → suc i < length (map state keys) → Before (entry (map state keys) (map word keys) i)
+        (entry (map state keys) (map word keys) (suc i))
     order i h =
         let here : i < length keys = omega (arith, long) in
         let next : suc i < length keys = omega (arith, long) in

@@ -20,7 +20,8 @@ use Rattle.meaning.specs.Rules.{firstState, moves, kept, systemOf}
 use Rattle.meaning.proofs.Places.{place-below, place-early, place-turns}
 use Rattle.meaning.proofs.Rounds.{Quiet, quiet-left-is-livable}
 use Rattle.meaning.proofs.Parts.{lawful-below, first-parts, move-parts}
-use Rattle.meaning.proofs.Tests.{Test, bool?, as?, same?, le?, both?, either?, none?, if?, each?, any?, in?, Steps, steps?, sometime?}
+use Rattle.meaning.proofs.Tests.{Test, bool?, as?, same?, le?, both?, either?, none?, if?, each?, any?, in?, Steps, steps?}
+use Rattle.meaning.proofs.Tests.{sometime?}
 
 -- after the last place comes a
 place-whole : (a b : ℕ) → a < b → place a b b ≡ a
@@ -86,14 +87,16 @@ module _ {S : System} (F : Testable S) where
     -- a way of any number of moves
     unfoldable pub some-way? : (s : ℕ) → Test ((n : ℕ) × Way S U G n s)
     unfolding sometime? through? goal? as? way-steps steps-way
-    some-way? s = as? (λ (n, w). (n, steps-way n s w)) (λ (n, w). (n, way-steps n s w)) (sometime? through? goal? (F .bound) through-below s)
+    some-way? s = as? (λ (n, w). (n, steps-way n s w)) (λ (n, w). (n, way-steps n s w))
+        (sometime? through? goal? (F .bound) through-below s)
 
   -- ---- phases
 
   unfoldable pub saved? : {U : ℕ → Type 0} → ((s : ℕ) → Test (U s)) → ((s : ℕ) → U s → s < F .bound) → (r s : ℕ) → Test (SavedBy S U r s)
   unfolding some-way? any? both? as?
   saved? u? below zero s =
-      as? (λ (t, h, w). (t, w .0, w .1)) (λ (t, m, u). (t, F .move-below s t m .1, (m, u))) (any? (F .bound) (λ t. both? (F .move? s t) (u? t)))
+      as? (λ (t, h, w). (t, w .0, w .1)) (λ (t, m, u). (t, F .move-below s t m .1, (m, u)))
+      (any? (F .bound) (λ t. both? (F .move? s t) (u? t)))
   saved? u? below (suc k) s = some-way? u? (F .kept? k) below s
 
   -- What is left before a phase lies below the bound.
@@ -151,7 +154,8 @@ module _ {S : System} (F : Testable S) where
   -- phase n begins a round that strikes nothing
   unfoldable pub quiet? : (n : ℕ) → Test (Quiet S n)
   unfolding each? if? left? as?
-  quiet? n = as? (λ f s l. f s (left-below n s l) l) (λ f s h. f s) (each? (F .bound) (λ s. if? (left? n s) (left? (suc (S .promises) + n) s)))
+  quiet? n = as? (λ f s l. f s (left-below n s l) l) (λ f s h. f s)
+      (each? (F .bound) (λ s. if? (left? n s) (left? (suc (S .promises) + n) s)))
 
   module _ (n : ℕ) (quiet : Quiet S n) where
     unfoldable pub livable? : (s : ℕ) → Test (Livable S s)
@@ -272,8 +276,11 @@ module _ {S : System} (F : Testable S) where
             back = w .0;
             same-state = ap stateAt (back ∙ early a (w .0));
             same-aim = ap aimAt (back ∙ early a (w .0));
-            no-earlier = λ i j h l p q. w .1 .1 .1 j l i h
-                (ap stateAt (early i (omega arith)) ∙ p ∙ sym (ap stateAt (early j l)), ap aimAt (early i (omega arith)) ∙ q ∙ sym (ap aimAt (early j l)));
+            no-earlier = λ i j h l p q. w .1 .1 .1 j l i h (
+              ap stateAt (early i (omega arith)) ∙ p ∙ sym (ap stateAt (early j l)),
+              ap aimAt (early i (omega arith)) ∙ q
+                  ∙ sym (ap aimAt (early j l)),
+            );
           }
 
 -- ---- a sheet's system

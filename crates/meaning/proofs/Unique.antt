@@ -67,7 +67,8 @@ paper-not-shorter {states = states} {a = a} x y q = y .no-earlier a (length stat
     same = sample-unique (x .sample) (y .sample)
 
 -- There is one paper of the sample run.
-pub run-paper-unique : {S : System} {states states′ : List ℕ} {a a′ : ℕ} → RunPaper S states a → RunPaper S states′ a′ → (states ≡ states′) × (a ≡ a′)
+pub run-paper-unique : {S : System} {states states′ : List ℕ} {a a′ : ℕ} → RunPaper S states a → RunPaper S states′ a′
+    → (states ≡ states′) × (a ≡ a′)
 run-paper-unique {S} {states} {states′} {a} {a′} x y = (ext-getD 0 states states′ same-length same-states, by (decLt a a′) (decLt a′ a))
   where
     same : (i : ℕ) → (x .run i ≡ y .run i) × (x .aim i ≡ y .aim i)

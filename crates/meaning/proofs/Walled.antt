@@ -61,13 +61,18 @@ module _ (sheet : List ℕ) (phase : ℕ) (q : T (quiet? (tests-in sheet) phase 
   -- Livable states, states of a run and aims that pass their tests: the sheet can be kept, K is the number of livable states, and the run
   -- is the judge's.
   pub can-be-kept : (livable states aims : List ℕ) (a : ℕ)
-      → T (lists? (livable? (tests-in sheet) phase quiet) (tests-in sheet .bound) (livable-below (tests-in sheet) phase quiet) livable .says)
+      → T (lists? (livable? (tests-in sheet) phase quiet) (tests-in sheet .bound) (livable-below (tests-in sheet) phase quiet)
+      livable .says)
       → T (paper? (tests-in sheet) phase quiet states aims a .says)
       → CanBeKept (systemIn sheet) × Lists (Livable (systemIn sheet)) livable × RunPaper (systemIn sheet) states a
   can-be-kept livable states aims a x y =
       let paper = run-paper-tested (tests-in sheet) phase quiet states aims a y in
-      let start = paper .sample .livable in
-      ((start .run, start .obeys), lists? (livable? (tests-in sheet) phase quiet) _ (livable-below (tests-in sheet) phase quiet) livable .sound x, paper)
+      let start = paper .sample .livable in (
+        (start .run, start .obeys),
+        lists? (livable? (tests-in sheet) phase quiet) _ (livable-below (tests-in sheet) phase quiet)
+            livable .sound x,
+        paper,
+      )
 
 -- what the wall says of W1 to W6; in W1, W2 and W3 the first phase is quiet already
 pub w1-kept : CanBeKept (systemIn w1) × Lists (Livable (systemIn w1)) (0 ∷ 1 ∷ []) × RunPaper (systemIn w1) (0 ∷ []) 0

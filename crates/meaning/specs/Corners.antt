@@ -1,5 +1,5 @@
--- Corners: sentences of document 01 that the wall's examples do not tell from a neighbour (one less, the other order, a condition left out),
--- each tied down by an example from bytes. One list, as the wall is; proved in proofs/Cornered.antt. Every refused paper fails in one
+-- Corners: sentences of document 01 that the wall's examples do not tell from a neighbour (one less, the other order, a condition left
+-- out), each tied down by an example from bytes. One list, as the wall is; proved in proofs/Cornered.antt. Every refused paper fails in one
 -- condition and meets all others, so that a definition without it would accept the paper. Assumes nothing.
 use mathlib.Core.List.{List, [], _∷_, _++_}
 use Prim.Native.Nat.{ℕ, _+_}

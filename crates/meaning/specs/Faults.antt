@@ -1,6 +1,7 @@
--- The ten faults, a line of document 01's table each, with the place that document 02's order 1 gives it, said of the sheet's bytes and not by
--- `firstFault`'s own chain of checks: number n at place q exactly if every earlier check passes and this one fails at q. proofs/Placing.antt
--- shows that the two say the same. Records are counted from 0 here, over all four kinds in the order in which they stand. Assumes nothing.
+-- The ten faults, a line of document 01's table each, with the place that document 02's order 1 gives it, said of the sheet's bytes and not
+-- by `firstFault`'s own chain of checks: number n at place q exactly if every earlier check passes and this one fails at q.
+-- proofs/Placing.antt shows that the two say the same. Records are counted from 0 here, over all four kinds in the order in which they
+-- stand. Assumes nothing.
 use mathlib.Core.Path.{_≡_}
 use mathlib.Core.Logic.{_⊎_}
 use mathlib.Core.Bool.{cond}
@@ -8,7 +9,8 @@ use mathlib.Core.List.{List}
 use Prim.Native.Nat.{ℕ, zero, suc, _+_, _-_, _*_, _%_, _≤_, _<_}
 use lib.Dec.{ltb}
 use lib.ListN.{length}
-use Rattle.meaning.specs.Sheet.{Kind, aLimit, aFirst, aStep, aPromise, byte, size, leastBytes, mostBytes, mostLetters, mostLimits, mostPromises}
+use Rattle.meaning.specs.Sheet.{Kind, aLimit, aFirst, aStep, aPromise, byte, size, leastBytes, mostBytes, mostLetters, mostLimits}
+use Rattle.meaning.specs.Sheet.{mostPromises}
 
 -- ---- the header, byte by byte
 
@@ -94,7 +96,8 @@ Begins aPromise s q i = i ≡ q + 1
 abbrev pub NamesLetter : List ℕ → ℕ → Type 0
 NamesLetter s i = (1 ≤ size (byte s i)) × (size (byte s i) ≤ byte s 3)
 
--- 9: "list not strictly ascending": the first of its list, or as a signed number above the byte before it (-128 counts as 0 here, 127 as 255)
+-- 9: "list not strictly ascending": the first of its list, or as a signed number above the byte before it (-128 counts as 0 here, 127 as
+-- 255)
 abbrev pub Ascends : Kind → List ℕ → (q i : ℕ) → Type 0
 Ascends kind s q i = Begins kind s q i ⊎ ((byte s (i - 1) + 128) % 256 < (byte s i + 128) % 256)
 

@@ -28,8 +28,8 @@ unfoldable pub ReadSays : List ℕ → ℕ → Type 0
 unfolding readNumber firstFault
 ReadSays sheet n = n ≡ readNumber (firstFault sheet)
 
--- Document 02, order 1: "Answers 1 to 10 from the reader, the judge and both checkers now also return a place .. It is passed on unaltered, 0
--- on other answers." A call answers 1 to 10 exactly where the sheet has a first fault, so its place is settled by the sheet alone.
+-- Document 02, order 1: "Answers 1 to 10 from the reader, the judge and both checkers now also return a place .. It is passed on unaltered,
+-- 0 on other answers." A call answers 1 to 10 exactly where the sheet has a first fault, so its place is settled by the sheet alone.
 unfoldable pub placeOf : Option Fault → ℕ
 placeOf none = 0
 placeOf (some f) = f .at
@@ -44,8 +44,8 @@ unfoldable pub ReadPlaced : (sheet : List ℕ) (n place : ℕ) → Type 0
 unfolding ReadSays
 ReadPlaced sheet n place = Placed sheet (ReadSays sheet) n place
 
--- The reader's C form with the place, which returns nothing else: number and place in `out`, in this order. What stood in `out` before plays
--- no part, and it is written for every sheet.
+-- The reader's C form with the place, which returns nothing else: number and place in `out`, in this order. What stood in `out` before
+-- plays no part, and it is written for every sheet.
 pub record ReadOut (sheet out : List ℕ) : Type 0 where
   pub number : ℕ
   pub place : ℕ
@@ -223,8 +223,8 @@ pub record Judged (sheet : List ℕ) (lent : Lent) (o : Outcome) : Type 0 where
   pub found : Found sheet lent finding
   pub returned : o ≡ outcome lent finding
 
--- The judge's C form, which returns nothing else: the same, its five numbers in `out`, in the order answer, count, a, b, place. `out` is the
--- returned value and no lent slice: what stood in it before plays no part, and it is written on every answer, 1 to 10 too.
+-- The judge's C form, which returns nothing else: the same, its five numbers in `out`, in the order answer, count, a, b, place. `out` is
+-- the returned value and no lent slice: what stood in it before plays no part, and it is written on every answer, 1 to 10 too.
 pub record JudgedOut (sheet : List ℕ) (lent : Lent) (out : List ℕ) (leaves : Lent) : Type 0 where
   pub judged : Outcome
   pub promise : Judged sheet lent judged

@@ -25,9 +25,9 @@ numberOf badLiteral = 8
 numberOf notAscending = 9
 numberOf surplus = 10
 
--- A fault and the byte where it was met: "0 for 1, the header byte for 2 to 5 (byte 1 for 3, the limit count before the promise count for 5),
--- the record's length byte for 6 and 7 (the sheet's length if that byte is missing), the literal's byte for 8 and 9, the first surplus byte for
--- 10" (document 02, order 1; Faults.antt says each of these of the sheet's bytes).
+-- A fault and the byte where it was met: "0 for 1, the header byte for 2 to 5 (byte 1 for 3, the limit count before the promise count for
+-- 5), the record's length byte for 6 and 7 (the sheet's length if that byte is missing), the literal's byte for 8 and 9, the first surplus
+-- byte for 10" (document 02, order 1; Faults.antt says each of these of the sheet's bytes).
 pub record Fault : Type 0 where
   pub why : Why
   pub at : ℕ

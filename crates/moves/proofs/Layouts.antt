@@ -110,7 +110,8 @@ starts-kept moves i v h = take-set-le mostStates moves i v h
 -- into the cells,
 cells-set : (moves : List ℕ) (e v : ℕ) → e < mostCells → cellsOf (set moves (cellsFrom + e) v) ≡ set (cellsOf moves) e v
 unfolding cellsOf
-cells-set moves e v h = ap (λ (l : List ℕ). take mostCells l) (drop-set-add cellsFrom moves e v) ∙ take-set-lt mostCells (drop cellsFrom moves) e v h
+cells-set moves e v h = ap (λ (l : List ℕ). take mostCells l) (drop-set-add cellsFrom moves e v)
+    ∙ take-set-lt mostCells (drop cellsFrom moves) e v h
 
 ends-under : (moves : List ℕ) (e v : ℕ) → endsOf (set moves (cellsFrom + e) v) ≡ endsOf moves
 unfolding endsOf
@@ -151,7 +152,8 @@ link-set moves i k = record {
 }
 
 -- A row is set, and then a link.
-pub place-set : (i start end k : ℕ) (old mid new : List ℕ) → RowSet i start end old mid → LinkSet i k mid new → PlaceSet i start end k old new
+pub place-set : (i start end k : ℕ) (old mid new : List ℕ) → RowSet i start end old mid → LinkSet i k mid new
+    → PlaceSet i start end k old new
 place-set i start end k old mid new r l = record {
   starts = l .rest .starts ∙ r .starts;
   ends = l .rest .ends ∙ r .ends;
@@ -229,10 +231,12 @@ module _ (moves cells : List ℕ) (long : length moves ≡ movesSize) (same : le
   pub cells-back : cellsOf (cellsBack moves cells) ≡ cells
   unfolding cellsOf
   cells-back =
-      ap (λ (l : List ℕ). take mostStates l) rest ∙ take-append-le mostStates cells _ (omega (arith, same)) ∙ take-all mostStates cells (omega (arith, same))
+      ap (λ (l : List ℕ). take mostStates l) rest ∙ take-append-le mostStates cells _ (omega (arith, same))
+      ∙ take-all mostStates cells (omega (arith, same))
 
   middle : drop mostStates (take cellsFrom moves) ≡ take mostStates (drop mostStates moves)
-  middle = ap (λ (l : List ℕ). drop mostStates l) (take-add mostStates mostStates moves) ∙ drop-at (take mostStates moves) _ mostStates (length-take-le mostStates moves (omega arith))
+  middle = ap (λ (l : List ℕ). drop mostStates l) (take-add mostStates mostStates moves) ∙ drop-at (take mostStates moves) _ mostStates
+      (length-take-le mostStates moves (omega arith))
 
   -- and nothing else has changed.
   pub cells-only : CellsOnly moves (cellsBack moves cells)
@@ -241,7 +245,8 @@ module _ (moves cells : List ℕ) (long : length moves ≡ movesSize) (same : le
     starts = take-append-le mostStates (take cellsFrom moves) _ (omega (arith, head)) ∙ take-take mostStates cellsFrom moves (omega arith);
     ends =
         ap (λ (l : List ℕ). take mostStates l) (drop-append-le mostStates (take cellsFrom moves) _ (omega (arith, head)))
-        ∙ take-append-le mostStates (drop mostStates (take cellsFrom moves)) _ (omega (arith, head, length-drop mostStates (take cellsFrom moves)))
+        ∙ take-append-le mostStates (drop mostStates (take cellsFrom moves)) _
+        (omega (arith, head, length-drop mostStates (take cellsFrom moves)))
         ∙ ap (λ (l : List ℕ). take mostStates l) middle ∙ take-take mostStates mostStates (drop mostStates moves) (omega arith);
     links = sym (drop-drop mostStates cellsFrom (cellsBack moves cells)) ∙ ap (λ (l : List ℕ). drop mostStates l) rest
         ∙ drop-at cells _ mostStates same ∙ drop-drop mostStates cellsFrom moves;

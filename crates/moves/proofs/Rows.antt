@@ -11,7 +11,8 @@ use Rattle.moves.specs.Moves.{RowsIn, Storable}
 use Rattle.moves.proofs.Layouts.{cells-long}
 
 -- Each place of stored rows has a row.
-pub rows-has : (R : ℕ → ℕ → Type 0) (r : ℕ) (moves : List ℕ) → length moves ≡ movesSize → r ≤ mostStates → RowsIn R r moves → (i : ℕ) → i < r
+pub rows-has : (R : ℕ → ℕ → Type 0) (r : ℕ) (moves : List ℕ) → length moves ≡ movesSize → r ≤ mostStates → RowsIn R r moves → (i : ℕ)
+    → i < r
     → HasRow moves i
 rows-has R r moves long few rows i h =
     record { long = long; place = omega arith; within = omega (arith, rows .in-cells i h, cells-long moves long) }

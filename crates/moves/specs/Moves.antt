@@ -1,4 +1,5 @@
--- Stored moves: rows of a relation over a table's first r places, the moves forth, the moves back, and whose moves can be stored. Assumes nothing.
+-- Stored moves: rows of a relation over a table's first r places, the moves forth, the moves back, and whose moves can be stored. Assumes
+-- nothing.
 use mathlib.Core.Path.{_≡_}
 use mathlib.Core.Logic.{_⊎_}
 use mathlib.Core.List.{List}

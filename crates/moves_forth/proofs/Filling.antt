@@ -9,7 +9,8 @@ use lib.ListN.{length, getD, set, take, drop, length-set}
 use lib.Seq.{getD-set-same, getD-set-other}
 use Rattle.rules.proofs.FreerLaws.{freer-moves}
 use Rattle.meaning.specs.Promises.{mostStates}
-use Rattle.moves.specs.Layout.{mostCells, movesSize, cellsFrom, linksFrom, startsOf, endsOf, cellsOf, noLink, startAt, endAt, HasRow, CellsOnly, PlaceSet}
+use Rattle.moves.specs.Layout.{mostCells, movesSize, cellsFrom, linksFrom, startsOf, endsOf, cellsOf, noLink, startAt, endAt, HasRow}
+use Rattle.moves.specs.Layout.{CellsOnly, PlaceSet}
 use Rattle.moves.specs.Moves.{Forth, Storable, SameMoves, Kindred}
 use Rattle.moves_forth.specs.Storing.{Row, Nexts, Filled}
 use Rattle.moves.proofs.Layouts.{starts-long, ends-long, cells-long, cells-part, cellsBack, cells-back, cells-only}
@@ -99,7 +100,8 @@ pub filling-none : (P : ℕ → Type 0) (at : ℕ) (cells : List ℕ) → at ≤
 filling-none P at cells h none = record { long = refl; keeps = λ e l. refl; inside = h; row = row-none P at cells none }
 
 -- The same places are filled.
-pub filling-same : (P Q : ℕ → Type 0) {at to : ℕ} {old new : List ℕ} → ((j : ℕ) → P j → Q j) → ((j : ℕ) → Q j → P j) → Filling P at old new to
+pub filling-same : (P Q : ℕ → Type 0) {at to : ℕ} {old new : List ℕ} → ((j : ℕ) → P j → Q j) → ((j : ℕ) → Q j → P j)
+    → Filling P at old new to
     → Filling Q at old new to
 filling-same P Q there back w =
     record { long = w .long; keeps = w .keeps; inside = w .inside; row = row-same P Q there back (w .row) }
@@ -115,7 +117,8 @@ filling-more P Q at to j old new room w above there here back = record {
 }
 
 -- What is filled is a filled row of the same places.
-pub filling-filled : (P Q : ℕ → Type 0) {at to : ℕ} {old new : List ℕ} → ((j : ℕ) → P j → Q j) → ((j : ℕ) → Q j → P j) → Filling P at old new to
+pub filling-filled : (P Q : ℕ → Type 0) {at to : ℕ} {old new : List ℕ} → ((j : ℕ) → P j → Q j) → ((j : ℕ) → Q j → P j)
+    → Filling P at old new to
     → Filled Q at old new to
 filling-filled P Q there back w = record { long = w .long; keeps = w .keeps; row = λ h. row-same P Q there back (w .row) }
 
@@ -173,7 +176,8 @@ module _ (book table : List ℕ) (r : ℕ) where
   -- One row more, below at′, where the rows before it are kept.
   stored-row : (i at at′ from to : ℕ) (starts ends cells cells′ : List ℕ) → i < length starts → i < length ends → at ≤ at′ → to ≤ at′
       → ((e : ℕ) → e < at → getD cells′ e 0 ≡ getD cells e 0) → Stored book table r i at starts ends cells
-      → Row (Nexts book table r (getD table i 0)) from to cells′ → Stored book table r (i + 1) at′ (set starts i from) (set ends i to) cells′
+      → Row (Nexts book table r (getD table i 0)) from to cells′ → Stored book table r (i + 1) at′ (set starts i from)
+      (set ends i to) cells′
   stored-row i at at′ from to starts ends cells cells′ in-starts in-ends up room keeps s here = record {
     below = λ k h. low k h (ℕ-discrete k i);
     rows = λ k h. row k h (ℕ-discrete k i);
@@ -231,7 +235,8 @@ module _ (book table : List ℕ) (r : ℕ) where
       (s .rows k (same .before)))
 
   -- A stored row can be read.
-  pub stored-has : (i k at : ℕ) (moves : List ℕ) → length moves ≡ movesSize → i ≤ mostStates → at ≤ mostCells → StoredIn book table r i at moves → k < i
+  pub stored-has : (i k at : ℕ) (moves : List ℕ) → length moves ≡ movesSize → i ≤ mostStates → at ≤ mostCells
+      → StoredIn book table r i at moves → k < i
       → HasRow moves k × (startAt moves k ≤ mostCells)
   stored-has i k at moves long few room s h = (
     record { long = long; place = omega arith; within = omega (arith, s .below k h) },
@@ -239,11 +244,13 @@ module _ (book table : List ℕ) (r : ℕ) where
   )
 
   -- The same in one list: a filled row is set,
-  pub set-more : (i at to : ℕ) (old mid new : List ℕ) → length old ≡ movesSize → i < mostStates → to ≤ mostCells → StoredIn book table r i at old
+  pub set-more : (i at to : ℕ) (old mid new : List ℕ) → length old ≡ movesSize → i < mostStates → to ≤ mostCells
+      → StoredIn book table r i at old
       → Filled (Nexts book table r (getD table i 0)) at (cellsOf old) (cellsOf mid) to → CellsOnly old mid → PlaceSet i at to noLink mid new
       → StoredIn book table r (i + 1) to new
   set-more i at to old mid new long inside room s f c w =
-      stored-as i to _ _ _ new (w .starts ∙ ap (λ (l : List ℕ). set l i at) (c .starts)) (w .ends ∙ ap (λ (l : List ℕ). set l i to) (c .ends)) (w .cells)
+      stored-as i to _ _ _ new (w .starts ∙ ap (λ (l : List ℕ). set l i at) (c .starts)) (w .ends ∙ ap (λ (l : List ℕ). set l i to)
+      (c .ends)) (w .cells)
       (stored-more i at to (startsOf old) (endsOf old) (cellsOf old) (cellsOf mid) (omega (arith, starts-long old long))
       (omega (arith, ends-long old long)) (omega (arith, cells-long old long)) s f)
 
@@ -253,7 +260,8 @@ module _ (book table : List ℕ) (r : ℕ) where
       → StoredIn book table r (i + 1) at new
   set-again i k at old new long inside able h same s w =
       stored-as i at _ _ _ new (w .starts) (w .ends) (w .cells)
-      (stored-again i k at (startsOf old) (endsOf old) (cellsOf old) (omega (arith, starts-long old long)) (omega (arith, ends-long old long)) able h
+      (stored-again i k at (startsOf old) (endsOf old) (cellsOf old) (omega (arith, starts-long old long))
+      (omega (arith, ends-long old long)) able h
       same s)
 
   -- Before the first place there is no link.

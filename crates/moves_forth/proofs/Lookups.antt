@@ -89,7 +89,8 @@ module _ (book : List ℕ) (s : ℕ) (before after : List ℕ) (n : ℕ) (L : Li
       record { rises = front-rises before after n L h; long = (let l = front-long before after n L in omega arith) }
 
   -- The places of the listed next states are the places that s moves to.
-  pub listing-nexts : n ≤ length before → (table : List ℕ) (r at : ℕ) {to : ℕ} {old new : List ℕ} → Filled (Listed after n table r) at old new to
+  pub listing-nexts : n ≤ length before → (table : List ℕ) (r at : ℕ) {to : ℕ} {old new : List ℕ}
+      → Filled (Listed after n table r) at old new to
       → Filled (Nexts book table r s) at old new to
   listing-nexts h table r at w =
       filled-same (Listed after n table r) (Nexts book table r s)

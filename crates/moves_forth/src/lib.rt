@@ -15,8 +15,8 @@ ghost use Rattle.moves_forth.specs.Storing.{Nexts, Listed, listSize, Fil
 // How many next states of one place are stored at most.
 const LIST: usize = 256;
 
-// How many cells the rows forth may take: so many at first, and so many more for each place. A sheet with many classes of many next states is
-// over that soon, and little work is lost; one with a few such classes is not.
+// How many cells the rows forth may take: so many at first, and so many more for each place. A sheet with many classes of many next states
+// is over that soon, and little work is lost; one with a few such classes is not.
 const FIRST_CELLS: usize = 4096;
 
 const CELLS_EACH: usize = 4;
@@ -34,7 +34,8 @@ fn look_up(
     at: usize,
     cells: &mut [u16],
 ) -> usize
-    requires { ⌜ Sorted (now table) r × (r ≤ mostStates) × Sorted (now list) n × (at ≤ length (now cells)) × (length (now cells) ≤ mostCells) ⌝ }
+    requires { ⌜ Sorted (now table) r × (r ≤ mostStates) × Sorted (now list) n × (at ≤ length (now cells))
+        × (length (now cells) ≤ mostCells) ⌝ }
     ensures { λ to. ⌜ Filled (Listed (now (list .entry)) n (now (table .entry)) r) at (now (cells .entry)) (now (cells .exit)) to ⌝ }
 {
     let mut to = at;
@@ -59,11 +60,12 @@ fn look_up(
     to
 }
 
-// The same in the cells of the slice that has them all. Nothing else is lent to be written here: a part lent beside another slice is proved at
-// four times the cost.
+// The same in the cells of the slice that has them all. Nothing else is lent to be written here: a part lent beside another slice is proved
+// at four times the cost.
 fn fill(table: &[State], r: usize, list: &[State], n: usize, at: usize, moves: &mut [u16]) -> usize
     requires { ⌜ Sorted (now table) r × (r ≤ mostStates) × Sorted (now list) n × (at ≤ mostCells) × (length (now moves) ≡ movesSize) ⌝ }
-    ensures { λ to. ⌜ Filled (Listed (now (list .entry)) n (now (table .entry)) r) at (cellsOf (now (moves .entry))) (cellsOf (now (moves .exit))) to
+    ensures { λ to. ⌜ Filled (Listed (now (list .entry)) n (now (table .entry)) r) at (cellsOf (now (moves .entry)))
+        (cellsOf (now (moves .exit))) to
         × CellsOnly (now (moves .entry)) (now (moves .exit)) ⌝ }
 {
     let from = moves::CELLS;
@@ -84,7 +86,8 @@ fn row(
 ) -> usize
     requires { ⌜ Storable (now book) (now table) r × (bookLawful (now book) s ≡ true) × (length (now room) ≡ listSize)
         × (at ≤ mostCells) × (length (now moves) ≡ movesSize) ⌝ }
-    ensures { λ to. ⌜ Filled (Nexts (now (book .entry)) (now (table .entry)) r s) at (cellsOf (now (moves .entry))) (cellsOf (now (moves .exit))) to
+    ensures { λ to. ⌜ Filled (Nexts (now (book .entry)) (now (table .entry)) r s) at (cellsOf (now (moves .entry)))
+        (cellsOf (now (moves .exit))) to
         × CellsOnly (now (moves .entry)) (now (moves .exit)) × (length (now (room .exit)) ≡ listSize) ⌝ }
 {
     let n = walk_listing::next_states(book, s, room);
@@ -112,15 +115,16 @@ fn same_moves(book: &[State], table: &[State], k: usize, i: usize) -> bool
 // Gives place i the row of place k, and links it to that place.
 fn share_row(moves: &mut [u16], i: usize, k: usize)
     requires { ⌜ (length (now moves) ≡ movesSize) × (i < mostStates) × HasRow (now moves) k × (startAt (now moves) k ≤ mostCells) ⌝ }
-    ensures { λ _. ⌜ PlaceSet i (startAt (now (moves .entry)) k) (endAt (now (moves .entry)) k) k (now (moves .entry)) (now (moves .exit)) ⌝ }
+    ensures { λ _. ⌜ PlaceSet i (startAt (now (moves .entry)) k) (endAt (now (moves .entry)) k) k (now (moves .entry)) (now (moves .exit))
+        ⌝ }
 {
     let start = moves::row_start(moves, k);
     let end = moves::row_end(moves, k);
     moves::set_place(moves, i, start, end, k);
 }
 
-// How many cells the rows so far may take, if place i is to be stored: so many at first, and `each` more for each row so far, where storing is
-// patient, else for each place before i.
+// How many cells the rows so far may take, if place i is to be stored: so many at first, and `each` more for each row so far, where storing
+// is patient, else for each place before i.
 fn budget(patient: bool, each: usize, i: usize, rows: usize) -> usize
     requires { ⌜ (each ≤ mostCells) × (i ≤ mostStates) × (rows ≤ i) ⌝ }
 {
@@ -136,8 +140,8 @@ fn missed(patient: bool, luck: usize) -> usize {
     if patient { luck } else { luck / 2 }
 }
 
-// Stores the moves forth of the table's first r places; false where there is no room for all of them, or they are over the budget. A class has
-// one row: a place whose state moves where an earlier one's does gets the earlier one's row, if that place is found, and a link to it.
+// Stores the moves forth of the table's first r places; false where there is no room for all of them, or they are over the budget. A class
+// has one row: a place whose state moves where an earlier one's does gets the earlier one's row, if that place is found, and a link to it.
 fn store_rows(
     book: &[State],
     table: &[State],
@@ -147,7 +151,8 @@ fn store_rows(
     moves: &mut [u16],
     places: &mut [u16],
 ) -> bool
-    requires { ⌜ Storable (now book) (now table) r × (each ≤ mostCells) × (length (now moves) ≡ movesSize) × (length (now places) ≡ movesSize) ⌝ }
+    requires { ⌜ Storable (now book) (now table) r × (each ≤ mostCells) × (length (now moves) ≡ movesSize)
+        × (length (now places) ≡ movesSize) ⌝ }
     ensures { λ b. ⌜ ForthStored (now (book .entry)) (now (table .entry)) r (now (moves .exit)) b × (length (now (moves .exit)) ≡ movesSize)
         × (length (now (places .exit)) ≡ movesSize) ⌝ }
 {
@@ -183,8 +188,8 @@ fn store_rows(
 }
 
 // The same patiently, where there are few classes for so many places: the first places may all be of different classes, and have many next
-// states each. The classes are counted, and no row may take more than its share of the cells, on average. One class more is counted, so that
-// there is a share where none was met.
+// states each. The classes are counted, and no row may take more than its share of the cells, on average. One class more is counted, so
+// that there is a share where none was met.
 fn store_patiently(
     book: &[State],
     table: &[State],

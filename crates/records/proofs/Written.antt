@@ -3,9 +3,8 @@
 --   a section     section-read, section-of: the same of records one behind the other
 --   faultless     fault-anywhere: whether a record is faultless does not depend on where it stands; Faultless: each of some records is
 --   a sheet       records-read: what is written of records is read as these records; records-back: a good sheet is written of its own
---   good sheets   GoodRecords: records that are good one by one, and not too many; bytes-good: they make a good sheet; good-records: and back
---   the meaning   sheetSaid: what records say; decode-records, decode-bytes: it is what the sheet says
--- Assumes nothing.
+-- good sheets GoodRecords: records that are good one by one, and not too many; bytes-good: they make a good sheet; good-records: and back
+-- the meaning sheetSaid: what records say; decode-records, decode-bytes: it is what the sheet says Assumes nothing.
 use mathlib.Core.Path.{_≡_, refl, sym, _∙_, ap, subst}
 use mathlib.Core.Bool.{Bool, true, _&&_}
 use mathlib.Core.Option.{Option, none}
@@ -194,7 +193,8 @@ length-joined r =
     let f = section (r .firsts) in
     let t = section (r .steps) in
     let p = section (r .promises) in
-    length-append l (f ++ (t ++ p)) ∙ ap (λ (n : ℕ). length l + n) (length-append f (t ++ p) ∙ ap (λ (n : ℕ). length f + n) (length-append t p))
+    length-append l (f ++ (t ++ p)) ∙ ap (λ (n : ℕ). length l + n) (length-append f (t ++ p) ∙ ap (λ (n : ℕ). length f + n)
+    (length-append t p))
 
 -- and the whole sheet with them
 pub length-bytes : (r : Records) → length (bytesOf r) ≡ recordsAt + length (joined r)
@@ -286,7 +286,8 @@ bytes-header r g = record {
   few-promises = g .few-promises;
   limits-read = faultless-section aLimit (r .letters) (bytesOf r) recordsAt (r .limits) _ (limits-written r .stands) (g .limits-faultless);
   firsts-read =
-      faultless-section aFirst (r .letters) (bytesOf r) (firstsAt (bytesOf r)) (r .firsts) _ (firsts-written r .stands) (g .firsts-faultless);
+      faultless-section aFirst (r .letters) (bytesOf r) (firstsAt (bytesOf r)) (r .firsts) _ (firsts-written r .stands)
+      (g .firsts-faultless);
   steps-read =
       faultless-section aStep (r .letters) (bytesOf r) (stepsAt (bytesOf r)) (r .steps) _ (steps-written r .stands) (g .steps-faultless);
   promises-read =

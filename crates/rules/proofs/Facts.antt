@@ -8,7 +8,8 @@ use borrow.Author.Tests.{lt-ltb, ltb-true}
 use lib.Dec.{ltb}
 use Rattle.meaning.specs.System.{Reachable}
 use Rattle.ground.proofs.Tests.{passed, passes, and-left, and-right, both-and}
-use Rattle.rules.specs.Book.{lettersOf, promisesOf, limitsOk, firstsOk, stepsOk, bookLawful, bookFirst, bookMoves, bookKept, bookSystem}
+use Rattle.rules.specs.Book.{lettersOf, promisesOf, limitsOk, firstsOk, stepsOk, bookLawful, bookFirst, bookMoves, bookKept}
+use Rattle.rules.specs.Book.{bookSystem}
 
 -- ---- what the system says, and what the book tests
 

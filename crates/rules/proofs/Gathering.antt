@@ -43,7 +43,8 @@ module _ (test : ℕ → ℕ → ℕ → Bool) (asks : ℕ → ℕ → Bool) (le
   copied-row book from l l′ n i so c m here =
       subst₂ (Sofar test asks letters l′) (sym (add-one n)) (sym (add-one i)) (record { few = omega arith; masks = masks; says = says })
     where
-      old : (j : ℕ) → j < n → (getD l′ (gatheredAt j) 0 ≡ getD l (gatheredAt j) 0) × (getD l′ (gatheredAt j + 1) 0 ≡ getD l (gatheredAt j + 1) 0)
+      old : (j : ℕ) → j < n → (getD l′ (gatheredAt j) 0 ≡ getD l (gatheredAt j) 0)
+          × (getD l′ (gatheredAt j + 1) 0 ≡ getD l (gatheredAt j + 1) 0)
       old j h = (c .keeps .same (gatheredAt j) (omega arith), c .keeps .same (gatheredAt j + 1) (omega arith))
 
       masks : (j : ℕ) → j < suc n → Masks l′ letters (gatheredAt j)
@@ -79,7 +80,8 @@ StepSofar book s l n i = Sofar someOf (stepOk book s) (lettersOf book) l n i
 
 module _ (book : List ℕ) (shaped : Shaped book) where
   pub first-copied :
-      (l l′ : List ℕ) (i : ℕ) → i < firstsOf book → FirstSofar book l i → Copied book (firstAt i) l (gatheredAt i) l′ → FirstSofar book l′ (i + 1)
+      (l l′ : List ℕ) (i : ℕ) → i < firstsOf book → FirstSofar book l i → Copied book (firstAt i) l (gatheredAt i) l′
+      → FirstSofar book l′ (i + 1)
   first-copied l l′ i h so c =
       copied-row someOf (λ t i. someAt book (firstAt i) t) (lettersOf book) book (firstAt i) l l′ i i so c (shaped .firsts i h) (λ t. refl)
 

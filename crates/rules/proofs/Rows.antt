@@ -44,7 +44,8 @@ five l a b c d e = set (set (set (set (set l 0 a) 1 b) 2 c) 3 d) 4 e
 
 fronted :
     (l : List ℕ) (a b c d e : ℕ) → 5 ≤ length l
-    → (getD (five l a b c d e) 0 0 ≡ a) × (getD (five l a b c d e) 1 0 ≡ b) × (getD (five l a b c d e) 2 0 ≡ c) × (getD (five l a b c d e) 3 0 ≡ d)
+    → (getD (five l a b c d e) 0 0 ≡ a) × (getD (five l a b c d e) 1 0 ≡ b) × (getD (five l a b c d e) 2 0 ≡ c)
+    × (getD (five l a b c d e) 3 0 ≡ d)
     × (getD (five l a b c d e) 4 0 ≡ e) × (length (five l a b c d e) ≡ length l)
 fronted [] a b c d e h = absurd (omega arith)
 fronted (x0 ∷ []) a b c d e h = absurd (omega arith)

@@ -1,5 +1,5 @@
-// A book's layout: where each number of a compiled sheet stands. Only this module knows where a row begins and where its numbers stand in it;
-// they are read and written here. specs/Book.antt says the same under the same names.
+// A book's layout: where each number of a compiled sheet stands. Only this module knows where a row begins and where its numbers stand in
+// it; they are read and written here. specs/Book.antt says the same under the same names.
 use ground::MOST_LIMITS;
 use ground::MOST_PROMISES;
 use ground::MOST_RULES;
@@ -14,7 +14,8 @@ ghost use Rattle.rules.specs.Rows.{Put};
 // A book's numbers are as wide as a state.
 pub use ground::State;
 
-// How many numbers a row has: a list's are its two masks; a limit's its masks, the least and the most; a step rule's the masks of its sides.
+// How many numbers a row has: a list's are its two masks; a limit's its masks, the least and the most; a step rule's the masks of its
+// sides.
 const LIST_WIDTH: usize = 2;
 
 const LIMIT_WIDTH: usize = 4;

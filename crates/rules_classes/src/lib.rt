@@ -1,7 +1,7 @@
-// Classes of states. States after which the same step rules ask something are of one class: they move to the same states, so that one listing
-// or count serves them all. A table of places finds an earlier state that is likely of the same class: `likely` in a small one, where classes
-// that share a slot forget one another, `found` in a large one, where they hardly ever do. That it is of the same class is not promised here:
-// who uses it tests it (rules::freer), so a wrong place only costs time.
+// Classes of states. States after which the same step rules ask something are of one class: they move to the same states, so that one
+// listing or count serves them all. A table of places finds an earlier state that is likely of the same class: `likely` in a small one,
+// where classes that share a slot forget one another, `found` in a large one, where they hardly ever do. That it is of the same class is
+// not promised here: who uses it tests it (rules::freer), so a wrong place only costs time.
 use ground::State;
 ghost use mathlib.Core.Path.{_≡_};
 ghost use Prim.Native.Nat.{_<_, _≤_, _+_};
@@ -68,8 +68,8 @@ pub fn likely(book: &[State], s: State, i: usize, luck: usize, places: &mut [u16
     place
 }
 
-// The slot of a signature in a table with two numbers for each slot, the place given last and a mark: of the slots from `home` on the first that
-// has the mark, or none; `home` itself where the first few all have other marks.
+// The slot of a signature in a table with two numbers for each slot, the place given last and a mark: of the slots from `home` on the first
+// that has the mark, or none; `home` itself where the first few all have other marks.
 fn slot_of(places: &[u16], home: usize, mark: u16) -> usize
     requires { ⌜ (length (now places) ≤ 65536) × (home + home + 1 < length (now places)) ⌝ }
     ensures { λ slot. ⌜ slot + slot + 1 < length (now (places .entry)) ⌝ }
@@ -129,7 +129,8 @@ pub fn found(book: &[State], s: State, i: usize, luck: usize, places: &mut [u16]
 
 // How many classes the table's first r states are of, likely; more than `most` where that many are met. Every slot is to hold zeros before.
 pub fn number(book: &[State], table: &[State], r: usize, most: usize, places: &mut [u16]) -> usize
-    requires { ⌜ Shaped (now book) × (r ≤ length (now table)) × (r ≤ mostStates) × (2 ≤ length (now places)) × (length (now places) ≤ 65536) ⌝ }
+    requires { ⌜ Shaped (now book) × (r ≤ length (now table)) × (r ≤ mostStates) × (2 ≤ length (now places))
+        × (length (now places) ≤ 65536) ⌝ }
     ensures { λ n. ⌜ (n ≤ mostStates) × (length (now (places .exit)) ≡ length (now (places .entry))) ⌝ }
 {
     let mut met: usize = 0;

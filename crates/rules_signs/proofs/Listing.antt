@@ -1,5 +1,5 @@
--- The live rules listed one after the other: none yet (listed-none), a rule that is live (listed-more), one that is not (listed-past), and all
--- (listed-all). Assumes nothing.
+-- The live rules listed one after the other: none yet (listed-none), a rule that is live (listed-more), one that is not (listed-past), and
+-- all (listed-all). Assumes nothing.
 use mathlib.Core.Path.{_≡_, refl, sym, _∙_, subst}
 use mathlib.Core.List.{List}
 use Prim.Native.Nat.{ℕ, _+_, _≤_, _<_}
@@ -73,7 +73,8 @@ listed-past {book} {table} {r} {live} {n} {i} L inside never = record {
 
 -- All rules were asked.
 pub listed-all :
-    {book table : List ℕ} {r : ℕ} {live : List ℕ} {n i : ℕ} → Shaped book → Listed book table r live n i → stepsOf book ≤ i → Live book table r live n
+    {book table : List ℕ} {r : ℕ} {live : List ℕ} {n i : ℕ} → Shaped book → Listed book table r live n i → stepsOf book ≤ i
+    → Live book table r live n
 listed-all S L done = record {
   ruled = record { shaped = S; long = L .long; few = omega (arith, L .fewer, L .reached, S .few-steps); rules = L .rules };
   all = λ j h. L .all j (omega arith);

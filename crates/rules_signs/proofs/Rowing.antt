@@ -1,5 +1,5 @@
--- Words and rows written one after the other: a word more (words-more), what a later write keeps (words-kept), a row more (rows-more). Where rows
--- stand: room for them (lent-signs), a row's windows (asked-window, unmet-window) and bounds of their places. Assumes nothing.
+-- Words and rows written one after the other: a word more (words-more), what a later write keeps (words-kept), a row more (rows-more).
+-- Where rows stand: room for them (lent-signs), a row's windows (asked-window, unmet-window) and bounds of their places. Assumes nothing.
 use mathlib.Core.Path.{_≡_, refl, sym, _∙_, subst}
 use mathlib.Core.Bool.{Bool, true, false}
 use mathlib.Core.List.{List}
@@ -80,7 +80,8 @@ words-more {test} {n} {k} {l} {at} x W inside here = record { words = λ j h. by
         subst (λ (y : ℕ). WordOf test (wordSize * j) n y) (sym (set-here l (at + k) (at + j) x same inside))
         (subst (λ (i : ℕ). WordOf test (wordSize * i) n x) (sym e) here)
     by j (no e) h =
-        subst (λ (y : ℕ). WordOf test (wordSize * j) n y) (sym (set-apart l (at + k) (at + j) x (λ q. e (omega arith)))) (W .words j (omega arith))
+        subst (λ (y : ℕ). WordOf test (wordSize * j) n y) (sym (set-apart l (at + k) (at + j) x (λ q. e (omega arith))))
+        (W .words j (omega arith))
 
 -- Past the last word all are written.
 pub words-done : {test : ℕ → Bool} {n k w : ℕ} {l : List ℕ} {at : ℕ} → WordsOf test n k l at → w ≤ k → WordsOf test n w l at
@@ -102,7 +103,8 @@ kept-then h K M = record { long = M .long ∙ K .long; same = λ j s. M .same j 
 
 -- Words that stand before are kept.
 pub words-kept :
-    {test : ℕ → Bool} {n w m : ℕ} {l new : List ℕ} {at : ℕ} → at + w ≤ m → KeptBelow m l new → WordsOf test n w l at → WordsOf test n w new at
+    {test : ℕ → Bool} {n w m : ℕ} {l new : List ℕ} {at : ℕ} → at + w ≤ m → KeptBelow m l new → WordsOf test n w l at
+    → WordsOf test n w new at
 words-kept {test} {n} h K W = record {
   words = λ k s. subst (λ (y : ℕ). WordOf test (wordSize * k) n y) (sym (K .same _ (omega arith))) (W .words k s);
 }

@@ -1,5 +1,5 @@
--- What written rows say: a rule with a bit in both rows forbids the move, and where every live rule has a bit, nothing else does (signed, filled). A place
--- whose unmet rules are unmet at another is reached by whoever reaches that (stricter-moves). Assumes nothing.
+-- What written rows say: a rule with a bit in both rows forbids the move, and where every live rule has a bit, nothing else does (signed,
+-- filled). A place whose unmet rules are unmet at another is reached by whoever reaches that (stricter-moves). Assumes nothing.
 use mathlib.Core.Path.{_≡_, refl, sym, _∙_, subst}
 use mathlib.Core.Bool.{Bool, true, false, not, _||_}
 use mathlib.Core.List.{List}
@@ -41,18 +41,22 @@ module _ {book table live : List ℕ} {r n : ℕ} (states : LawfulTable book tab
       → signTest false book live (getD table j 0) c ≡ true → ⊥
   unfolding stepsOk stepOk
   none-forbids i j m c h =
-      forbids _ _ (below-at (stepsOf book) (stepOk book (getD table i 0) (getD table j 0)) (move-steps book _ _ m) (getD live c 0) (L .ruled .rules c h))
+      forbids _ _ (below-at (stepsOf book) (stepOk book (getD table i 0) (getD table j 0)) (move-steps book _ _ m) (getD live c 0)
+      (L .ruled .rules c h))
 
   -- Where no live rule does, a move leads.
   all-allow : (i j : ℕ) → i < r → j < r
-      → ((c : ℕ) → c < n → signTest true book live (getD table i 0) c ≡ true → signTest false book live (getD table j 0) c ≡ true → ⊥) → To book table i j
+      → ((c : ℕ) → c < n → signTest true book live (getD table i 0) c ≡ true → signTest false book live (getD table j 0) c ≡ true → ⊥)
+      → To book table i j
   unfolding stepsOk stepOk
   all-allow i j hi hj never =
       steps-move book _ _ (states .lawful i hi) (states .lawful j hj)
       (below-all (stepsOf book) (stepOk book (getD table i 0) (getD table j 0))
-      (λ k h. allows (allAt book (stepAt k) (getD table i 0)) (someAt book (rightAt k) (getD table j 0)) (λ a u. at k (L .all k h i hi a) a u)))
+      (λ k h. allows (allAt book (stepAt k) (getD table i 0)) (someAt book (rightAt k) (getD table j 0))
+      (λ a u. at k (L .all k h i hi a) a u)))
     where
-      at : (k : ℕ) → Has live n k → allAt book (stepAt k) (getD table i 0) ≡ true → not (someAt book (rightAt k) (getD table j 0)) ≡ true → ⊥
+      at : (k : ℕ) → Has live n k → allAt book (stepAt k) (getD table i 0) ≡ true → not (someAt book (rightAt k) (getD table j 0)) ≡ true
+          → ⊥
       at k (c, h, e) a u =
           never c h (subst (λ (x : ℕ). allAt book (stepAt x) (getD table i 0) ≡ true) (sym e) a)
           (subst (λ (x : ℕ). not (someAt book (rightAt x) (getD table j 0)) ≡ true) (sym e) u)
@@ -77,7 +81,8 @@ module _ {book table live : List ℕ} {r n : ℕ} (states : LawfulTable book tab
 
   -- So are rows written behind a head that was written before.
   pub filled : (w f : ℕ) (l signs : List ℕ) → headSize ≤ length l → (f ≡ 1 → n ≤ wordSize * w) → w ≤ mostWords → askedFrom w r ≤ length l
-      → RowsTo book table live n w signs r → KeptBelow headSize (set (set l 0 w) 1 f) signs → Signed book table r signs × (length signs ≡ length l)
+      → RowsTo book table live n w signs r → KeptBelow headSize (set (set l 0 w) 1 f) signs → Signed book table r signs
+      × (length signs ≡ length l)
   filled w f l signs head full narrow room R K =
       (signed w signs R first (λ e. full (sym second ∙ e)) narrow (omega (arith, long)), long)
     where
@@ -93,5 +98,6 @@ module _ {book table live : List ℕ} {r n : ℕ} (states : LawfulTable book tab
 -- Whoever moves to place j moves to place k, whose unmet rules are among those of j.
 pub stricter-moves :
     {book table : List ℕ} {r : ℕ} {signs : List ℕ} → Signed book table r signs → wholeOf signs ≡ 1 → (k j : ℕ) → k < r → j < r
-    → Within signs (unmetFrom (wordsOf signs) k) (unmetFrom (wordsOf signs) j) (wordsOf signs) → (i : ℕ) → i < r → To book table i j → To book table i k
+    → Within signs (unmetFrom (wordsOf signs) k) (unmetFrom (wordsOf signs) j) (wordsOf signs) → (i : ℕ) → i < r → To book table i j
+    → To book table i k
 stricter-moves S whole k j hk hj W i hi m = S .moves whole i k hi hk (apart-within _ W (S .free i j hi hj m))

@@ -1,5 +1,5 @@
--- The two ways of walking, along stored moves and by tests of pairs: what each has to be lent, and that a run found after nothing was touched is
--- the run of the whole. Assumes nothing.
+-- The two ways of walking, along stored moves and by tests of pairs: what each has to be lent, and that a run found after nothing was
+-- touched is the run of the whole. Assumes nothing.
 use mathlib.Core.Path.{_≡_, sym, subst, subst₂}
 use mathlib.Core.List.{List}
 use Prim.Native.Nat.{ℕ, _*_, _≤_}
@@ -17,8 +17,8 @@ use Rattle.sample_step.specs.Step.{Onward}
 use Rattle.sample_walk.specs.Walk.{Steerable, Walked}
 use Rattle.sample_walk.proofs.Trails.{few-rows}
 
--- Arrays of zeros for n places are room for the distances and the queue of r places. Their lengths come by a law; computed, they would cost by the
--- arrays' size.
+-- Arrays of zeros for n places are room for the distances and the queue of r places. Their lengths come by a law; computed, they would cost
+-- by the arrays' size.
 pub lent-rows : {book table : List ℕ} {r : ℕ} → LivableTable book table r → (n : ℕ) → r ≤ n
     → (aimsOf (bookSystem book) * r ≤ length (replicate {A = ℕ} (16 * n) 0)) × (r ≤ length (replicate {A = ℕ} n 0))
 lent-rows {book = book} {r = r} t n few = (
@@ -42,7 +42,8 @@ abbrev pub Ways : (book table : List ℕ) (r : ℕ) (forth back queue signs : Li
 Ways book table r forth back queue signs = Onward book table r forth signs × Followable book table r back queue signs
 
 -- Stored moves need no signs.
-pub stored-ways : {book table : List ℕ} {r n : ℕ} {forth back : List ℕ} (queue signs : List ℕ) → StoredRows book table r forth back n → (n ≡ 0 → ⊥)
+pub stored-ways : {book table : List ℕ} {r n : ℕ} {forth back : List ℕ} (queue signs : List ℕ) → StoredRows book table r forth back n
+    → (n ≡ 0 → ⊥)
     → r ≤ length queue → Ways book table r forth back queue signs
 stored-ways queue signs (none e) some room = absurd (some e)
 stored-ways queue signs (both e f b) some room = (
@@ -51,7 +52,8 @@ stored-ways queue signs (both e f b) some room = (
 )
 
 -- Where none are stored, signs are enough.
-pub tested-ways : {book table : List ℕ} {r : ℕ} {signs : List ℕ} (moves queue : List ℕ) → length moves ≡ 0 → Signed book table r signs → r ≤ length queue
+pub tested-ways : {book table : List ℕ} {r : ℕ} {signs : List ℕ} (moves queue : List ℕ) → length moves ≡ 0 → Signed book table r signs
+    → r ≤ length queue
     → Ways book table r moves moves queue signs
 tested-ways moves queue e signed room =
     (record { stored = λ some. absurd (some e); tested = λ _. signed }, none-followable _ _ _ moves queue _ e signed room)

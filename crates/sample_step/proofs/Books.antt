@@ -34,7 +34,8 @@ finite-book book = record {
 }
 
 -- A table of livable states is one of lawful states.
-pub livable-table : {book table : List ℕ} {r : ℕ} → Shaped book → 1 ≤ r → r ≤ mostStates → r ≤ length table → Livables (bookSystem book) table r
+pub livable-table : {book table : List ℕ} {r : ℕ} → Shaped book → 1 ≤ r → r ≤ mostStates → r ≤ length table
+    → Livables (bookSystem book) table r
     → LivableTable book table r
 livable-table {book} {table} shaped some few in-table livables = record {
   states = record {
@@ -52,5 +53,6 @@ pub table-storable : {book table : List ℕ} {r : ℕ} → LivableTable book tab
 table-storable t = storable (t .states) (t .livables .rises)
 
 -- Distances to a promise can be measured.
-pub rows-measurable : {book table words : List ℕ} {r : ℕ} → Rowable book table words r → (q : ℕ) → q < promisesOf book → Measurable book q table words r
+pub rows-measurable : {book table words : List ℕ} {r : ℕ} → Rowable book table words r → (q : ℕ) → q < promisesOf book
+    → Measurable book q table words r
 rows-measurable L q h = record { states = L .states .states; promise = h; in-words = L .in-words }

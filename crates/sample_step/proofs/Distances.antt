@@ -38,10 +38,12 @@ module _ {S : System} {table : List ℕ} (words : List ℕ) {r : ℕ} (L : Livab
 
   -- A way of livable states to an aim is a way of unmarked places to a kept promise.
   way-kept : (q : ℕ) → q < S .promises → (n s : ℕ) → Way S (Livable S) (Met S q) n s → Way S (UnstruckIn table words r) (S .Kept q) n s
-  way-kept q h = way-both S (Livable S) (UnstruckIn table words r) (Met S q) (S .Kept q) livable-live (λ t m. kept-of-met S q t (omega arith) m)
+  way-kept q h = way-both S (Livable S) (UnstruckIn table words r) (Met S q) (S .Kept q) livable-live
+      (λ t m. kept-of-met S q t (omega arith) m)
 
   -- What is measured at a livable state is its distance.
-  measured-distance : (q s word d : ℕ) → q < S .promises → word ≡ 0 → Livable S s → Place S (UnstruckIn table words r) (S .Kept q) s word d → Near S q s d
+  measured-distance : (q s word d : ℕ) → q < S .promises → word ≡ 0 → Livable S s → Place S (UnstruckIn table words r) (S .Kept q) s word
+      d → Near S q s d
   measured-distance q s word d h e l (near _ small way fewest) = (
     record {
       way = way-both S (UnstruckIn table words r) (Livable S) (S .Kept q) (Met S q) live-livable (λ t m. inr m) d s way;
@@ -56,7 +58,8 @@ module _ {S : System} {table : List ℕ} (words : List ℕ) {r : ℕ} (L : Livab
 
 -- the rows below n are measured
 abbrev pub RowsTo : (S : System) (table : List ℕ) (r n : ℕ) (dist : List ℕ) → Type 0
-RowsTo S table r n dist = (q x : ℕ) → q < n → x < r → Distance S q (getD dist (q * r + x) 0) (getD table x 0) × (getD dist (q * r + x) 0 < far)
+RowsTo S table r n dist = (q x : ℕ) → q < n → x < r → Distance S q (getD dist (q * r + x) 0) (getD table x 0)
+    × (getD dist (q * r + x) 0 < far)
 
 -- One more row is measured.
 pub one-more-row : {book table words : List ℕ} {r : ℕ} (L : Rowable book table words r) (n : ℕ) (old dist : List ℕ) → n < promisesOf book
@@ -71,11 +74,13 @@ one-more-row {book} {table} {words} {r} L n old dist h m before q x p i = by (de
         (omega (arith, promises-are book)) (L .unmarked x i) (L .states .livables .sound x i) (m .places x i))
 
 -- All rows are measured.
-pub rowed-of-rows : {S : System} {table : List ℕ} {r : ℕ} {dist : List ℕ} (p : ℕ) → p ≡ S .promises → 1 ≤ p → RowsTo S table r p dist → Rowed S table r dist
+pub rowed-of-rows : {S : System} {table : List ℕ} {r : ℕ} {dist : List ℕ} (p : ℕ) → p ≡ S .promises → 1 ≤ p → RowsTo S table r p dist
+    → Rowed S table r dist
 rowed-of-rows p e h all = record { distance = λ q x l i. all q x (omega arith) i .0; near = λ q x l i. all q x (omega arith) i .1 }
 
 -- With no promises a row of zeros serves.
-pub rowed-of-none : {S : System} {table : List ℕ} {r : ℕ} {dist : List ℕ} → Livables S table r → S .promises ≡ 0 → Zeros dist r → Rowed S table r dist
+pub rowed-of-none : {S : System} {table : List ℕ} {r : ℕ} {dist : List ℕ} → Livables S table r → S .promises ≡ 0 → Zeros dist r
+    → Rowed S table r dist
 rowed-of-none {S} {table} {r} {dist} L e clean =
     record {
       distance = λ q x l i. subst (λ (d : ℕ). Distance S q d (getD table x 0)) (sym (none q x l i)) (here q x i);
@@ -94,5 +99,6 @@ pub row-room : (q p r : ℕ) → q < p → q * r + r ≤ p * r
 row-room q p r h = omega (arith, suc-mul q r, mul-le-mul-right r h)
 
 -- So has a row of the walk.
-pub row-within : {book table dist : List ℕ} {r : ℕ} → Walkable book table dist r → (q : ℕ) → q < aimsOf (bookSystem book) → q * r + r ≤ length dist
+pub row-within : {book table dist : List ℕ} {r : ℕ} → Walkable book table dist r → (q : ℕ) → q < aimsOf (bookSystem book)
+    → q * r + r ≤ length dist
 row-within {book} {r = r} laid q h = omega (arith, row-room q (aimsOf (bookSystem book)) r h, laid .in-dist)

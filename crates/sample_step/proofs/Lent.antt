@@ -8,9 +8,14 @@ use Rattle.rules_signs.specs.Signs.{Signed}
 use Rattle.sample_step.specs.Follow.{Followable}
 
 -- Where no moves are stored signs are enough, and a queue with room for every place;
-pub none-followable : (book table : List ℕ) (r : ℕ) (back queue signs : List ℕ) → length back ≡ 0 → Signed book table r signs → r ≤ length queue
+pub none-followable : (book table : List ℕ) (r : ℕ) (back queue signs : List ℕ) → length back ≡ 0 → Signed book table r signs
+    → r ≤ length queue
     → Followable book table r back queue signs
-none-followable book table r back queue signs none signed room = record { stored = λ some. absurd (some none); tested = λ _. signed; in-queue = room }
+none-followable book table r back queue signs none signed room = record {
+  stored = λ some. absurd (some none);
+  tested = λ _. signed;
+  in-queue = room;
+}
 
 -- and a queue of the same length serves as well.
 pub followable-queue : (book table : List ℕ) (r : ℕ) (back queue queue′ signs : List ℕ) → Followable book table r back queue signs

@@ -40,13 +40,15 @@ pub passed-none : (S : System) (aim s : ℕ) → S .promises ≡ 0 → Passed S 
 passed-none S aim s e = (inl (inl e, sym (next-aim-back S aim (omega arith))), omega arith)
 
 -- A kept promise passes the aim on to the next one.
-pub passed-on : (book : List ℕ) (aim s : ℕ) → bookKept book aim s ≡ true → aim + 1 < bookSystem book .promises → Passed (bookSystem book) aim s (aim + 1)
+pub passed-on : (book : List ℕ) (aim s : ℕ) → bookKept book aim s ≡ true → aim + 1 < bookSystem book .promises
+    → Passed (bookSystem book) aim s (aim + 1)
 passed-on book aim s e h =
     let n : aim + 1 ≡ suc aim = omega arith in
     (inl (inr (kept-is book aim s e), n ∙ sym (next-aim-on (bookSystem book) aim (omega arith))), omega arith)
 
 -- The last promise passes it back to the first.
-pub passed-back : (book : List ℕ) (aim s : ℕ) → bookKept book aim s ≡ true → bookSystem book .promises ≤ aim + 1 → Passed (bookSystem book) aim s 0
+pub passed-back : (book : List ℕ) (aim s : ℕ) → bookKept book aim s ≡ true → bookSystem book .promises ≤ aim + 1
+    → Passed (bookSystem book) aim s 0
 passed-back book aim s e h = (inl (inr (kept-is book aim s e), sym (next-aim-back (bookSystem book) aim (omega arith))), omega arith)
 
 -- A promise that is not kept stays aimed at.
@@ -57,7 +59,8 @@ passed-not book aim s e h l =
 
 -- ---- the best next state
 
-module _ {book table dist : List ℕ} {r : ℕ} (w : Walkable book table dist r) (place aim : ℕ) (inside : place < r) (aimed : aim < aimsOf (bookSystem book)) where
+module _ {book table dist : List ℕ} {r : ℕ} (w : Walkable book table dist r) (place aim : ℕ) (inside : place < r)
+    (aimed : aim < aimsOf (bookSystem book)) where
   -- If P are the places that the state at `place` moves to, the first of the nearest of them holds the best next state.
   best-of : {P : ℕ → Type 0} → ((x : ℕ) → P x → (x < r) × To book table place x) → ((x : ℕ) → x < r → To book table place x → P x) → (p : ℕ)
       → FirstNearest P (rowAt dist (aim * r)) p → BestAt (bookSystem book) table r place aim p
@@ -91,7 +94,13 @@ module _ {book table dist : List ℕ} {r : ℕ} (w : Walkable book table dist r)
       by (inl e) = absurd (omega (arith, some, e .0))
       by (inr h) = (
         here .0,
-        record { move = here .1; livable = L .sound p (here .0); far = d p; distance = w .rowed .distance aim p aimed (here .0); nearest = nearest },
+        record {
+          move = here .1;
+          livable = L .sound p (here .0);
+          far = d p;
+          distance = w .rowed .distance aim p aimed (here .0);
+          nearest = nearest;
+        },
       )
         where
           here : (p < r) × To book table place p
@@ -112,7 +121,11 @@ module _ {book table dist : List ℕ} {r : ℕ} (w : Walkable book table dist r)
               pick : Dec (d p < d x) → Dec (p ≤ x) → (d p < e) ⊎ ((d p ≡ e) × (getD table p 0 ≤ u))
               pick (yes q) g = inl (omega (arith, same))
               pick (no q) (yes g) =
-                  inr (omega (arith, same, h .1, n .low x (v .3)), subst (λ (t : ℕ). getD table p 0 ≤ t) (v .2) (places-rise L p x g (v .1)))
+                  inr (
+                    omega (arith, same, h .1, n .low x (v .3)),
+                    subst (λ (t : ℕ). getD table p 0 ≤ t) (v .2)
+                        (places-rise L p x g (v .1)),
+                  )
               pick (no q) (no g) = absurd (omega (arith, n .first x (v .3) (omega arith), h .1))
 
   -- ---- where the places are tested
@@ -131,11 +144,13 @@ module _ {book table dist : List ℕ} {r : ℕ} (w : Walkable book table dist r)
   next-scannable signed = record { signed = signed; inside = inside; in-dist = row-within w aim aimed }
 
   -- and the first of the nearest is the best.
-  pub best-tested : (p : ℕ) → FirstNearest (Below (To book table place) r) (rowAt dist (aim * r)) p → BestAt (bookSystem book) table r place aim p
+  pub best-tested : (p : ℕ) → FirstNearest (Below (To book table place) r) (rowAt dist (aim * r)) p
+      → BestAt (bookSystem book) table r place aim p
   best-tested = best-of (λ x m. m) (λ x l m. (l, m))
 
   -- So is the first that is one nearer than the state itself, if there is one.
-  pub best-hit : (wanted p : ℕ) → wanted ≡ rowAt dist (aim * r) place - 1 → FirstAt (To book table place) (rowAt dist (aim * r)) r wanted p → p < r
+  pub best-hit : (wanted p : ℕ) → wanted ≡ rowAt dist (aim * r) place - 1 → FirstAt (To book table place) (rowAt dist (aim * r)) r wanted
+      p → p < r
       → BestAt (bookSystem book) table r place aim p
   best-hit wanted p e at h =
       best-tested p (nearest-at (λ x l m. subst (λ (y : ℕ). y ≤ rowAt dist (aim * r) x) (sym e) (next-not-nearer x l m)) at h)
@@ -154,5 +169,6 @@ module _ {book table dist : List ℕ} {r : ℕ} (w : Walkable book table dist r)
     -- The first of its nearest is the best.
     pub best-in-row : (p : ℕ) → FirstNearest (Between (cellsOf moves) (startAt moves place) (endAt moves place)) (rowAt dist (aim * r)) p
         → BestAt (bookSystem book) table r place aim p
-    best-in-row = best-of (λ x m. subst (λ (y : ℕ). (y < r) × To book table place y) (m .3) (forth .rows .sound place (m .0) inside (m .1) (m .2)))
+    best-in-row = best-of (λ x m. subst (λ (y : ℕ). (y < r) × To book table place y) (m .3) (forth .rows .sound place (m .0) inside (m .1)
+        (m .2)))
         (λ x l m. forth .rows .whole place x inside l m)

@@ -22,7 +22,8 @@ livables-of {S} table r h L = record { rises = rises; sound = sound; whole = who
 
     rises : (x y : ℕ) → x < y → y < r → getD table x 0 < getD table y 0
     rises x y p q =
-        let up = rising-apart _<_ (λ a b c u v. omega arith) (λ a u. omega arith) {f = λ i. getD (take r table) i 0} {n = length (take r table)}
+        let up = rising-apart _<_ (λ a b c u v. omega arith) (λ a u. omega arith) {f = λ i. getD (take r table) i 0}
+        {n = length (take r table)}
         (L .rises) x y p (omega (arith, size)) in
         omega (arith, up, at x (omega arith), at y q)
 

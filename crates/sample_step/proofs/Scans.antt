@@ -30,13 +30,18 @@ module _ {P Q : ℕ → Type 0} {d : ℕ → ℕ} {best least : ℕ} (n : Neares
 
   -- Places behind all others, which are not nearer, change nothing.
   nearest-stays : ((y : ℕ) → P y → Q y) → ((y : ℕ) → Q y → P y ⊎ ((least ≤ d y) × ((z : ℕ) → P z → z < y))) → Nearest Q d best least
-  nearest-stays keeps grows = record { low = λ y m. low y (grows y m); first = λ y m l. first y l (grows y m) (n .here); here = here (n .here) }
+  nearest-stays keeps grows = record {
+    low = λ y m. low y (grows y m);
+    first = λ y m l. first y l (grows y m) (n .here);
+    here = here (n .here);
+  }
     where
       low : (y : ℕ) → P y ⊎ ((least ≤ d y) × ((z : ℕ) → P z → z < y)) → least ≤ d y
       low y (inl p) = n .low y p
       low y (inr w) = w .0
 
-      first : (y : ℕ) → y < best → P y ⊎ ((least ≤ d y) × ((z : ℕ) → P z → z < y)) → ((least ≡ far) × (best ≡ 0)) ⊎ (P best × (d best ≡ least))
+      first : (y : ℕ) → y < best → P y ⊎ ((least ≤ d y) × ((z : ℕ) → P z → z < y)) → ((least ≡ far) × (best ≡ 0))
+          ⊎ (P best × (d best ≡ least))
           → least < d y
       first y l (inl p) h = n .first y p l
       first y l (inr w) (inl e) = absurd (omega (arith, e .1))
@@ -94,7 +99,8 @@ nearest-at {P} {d} {r} {wanted} {p} low at h = record {
 -- ---- in a stored row
 
 -- Cells that ascend one by one ascend.
-climbs : (cell : ℕ → ℕ) (start end : ℕ) → ((e : ℕ) → start ≤ e → suc e < end → cell e < cell (suc e)) → (n e f : ℕ) → start ≤ e → f ≡ suc (e + n)
+climbs : (cell : ℕ → ℕ) (start end : ℕ) → ((e : ℕ) → start ≤ e → suc e < end → cell e < cell (suc e)) → (n e f : ℕ) → start ≤ e
+    → f ≡ suc (e + n)
     → f < end → cell e < cell f
 climbs cell start end up zero e f p q h = let z : suc e ≡ f = omega arith in subst (λ (y : ℕ). cell e < cell y) z (up e p (omega arith))
 climbs cell start end up (suc n) e f p q h =
@@ -111,7 +117,8 @@ stands-more cells start e y (f, p, q, s) = by (decLt f e)
     by (yes l) = inl (f, p, l, s)
     by (no l) = let z : f ≡ e = omega arith in inr (sym (subst (λ (g : ℕ). getD cells g 0 ≡ y) z s))
 
-module _ (cells : List ℕ) (d : ℕ → ℕ) (start e x : ℕ) {best least : ℕ} (here : x ≡ getD cells e 0) (n : Nearest (Between cells start e) d best least) where
+module _ (cells : List ℕ) (d : ℕ → ℕ) (start e x : ℕ) {best least : ℕ} (here : x ≡ getD cells e 0)
+    (n : Nearest (Between cells start e) d best least) where
   -- The place in the next cell, if it is nearer, is the nearest so far.
   pub looked-nearer : start ≤ e → d x < least → Nearest (Between cells start (e + 1)) d x (d x)
   looked-nearer s h = nearest-closer n x h (e, s, omega arith, sym here) (λ y m. by y (stands-more cells start e y m))
@@ -130,7 +137,8 @@ module _ (cells : List ℕ) (d : ℕ → ℕ) (start e x : ℕ) {best least : �
           let above : getD cells f 0 < getD cells e 0 = climbs (λ (g : ℕ). getD cells g 0) start end up (e - suc f) f e p (omega arith) l in
           omega arith
 
-      by : (y : ℕ) → Between cells start e y ⊎ (y ≡ getD cells e 0) → Between cells start e y ⊎ ((least ≤ d y) × ((z : ℕ) → Between cells start e z → z < y))
+      by : (y : ℕ) → Between cells start e y ⊎ (y ≡ getD cells e 0) → Between cells start e y
+          ⊎ ((least ≤ d y) × ((z : ℕ) → Between cells start e z → z < y))
       by y (inl p) = inl p
       by y (inr q) = let same : x ≡ y = omega arith in
           subst (λ (w : ℕ). Between cells start e w ⊎ ((least ≤ d w) × ((z : ℕ) → Between cells start e z → z < w))) same (inr (h, before))

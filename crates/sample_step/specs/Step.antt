@@ -54,7 +54,8 @@ pub record Scannable (book table dist : List ℕ) (r : ℕ) (signs : List ℕ) (
   pub inside : place < r
   pub in-dist : from + r ≤ length dist
 
--- a stored row that can be looked through: its cells ascend, and each is a place with a number in the row of distances that starts at `from`
+-- a stored row that can be looked through: its cells ascend, and each is a place with a number in the row of distances that starts at
+-- `from`
 pub record Lookable (dist : List ℕ) (from : ℕ) (forth : List ℕ) (place : ℕ) : Type 0 where
   pub row : HasRow forth place
   pub in-dist : (e : ℕ) → startAt forth place ≤ e → e < endAt forth place → from + cellAt forth e < length dist

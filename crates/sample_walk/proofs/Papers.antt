@@ -64,7 +64,8 @@ steered-short {b = b} run a c h = record {
 }
 
 -- A run that fits is written.
-pub steered-written : {S : System} {table : List ℕ} {b place aim : ℕ} (run new : List ℕ) (a : ℕ) → RunWritten S table b place aim run new a → b ≤ length run
+pub steered-written : {S : System} {table : List ℕ} {b place aim : ℕ} (run new : List ℕ) (a : ℕ)
+    → RunWritten S table b place aim run new a → b ≤ length run
     → Steered S run new a b
 unfolding over
 steered-written {b = b} run new a w h = record {
@@ -94,7 +95,8 @@ steered-written {b = b} run new a w h = record {
         by (no l) =
             let e : length states + (i - length states) ≡ i = omega (arith, size) in
             w .rest i (omega arith) ∙ sym (ap (λ (y : ℕ). getD run y 0) e) ∙ sym (getD-drop (length states) run (i - length states) 0)
-            ∙ sym (getD-append-add states (drop (length states) run) (i - length states) 0) ∙ ap (λ (y : ℕ). getD (states ++ drop (length states) run) y 0) e
+            ∙ sym (getD-append-add states (drop (length states) run) (i - length states) 0)
+            ∙ ap (λ (y : ℕ). getD (states ++ drop (length states) run) y 0) e
 
 -- ---- the parts put together
 
@@ -112,5 +114,6 @@ module _ {book table words : List ℕ} {r : ℕ} (s : Steerable book table words
   rowable-of w = record { states = s .states; in-words = omega (arith, w .long, s .in-words); unmarked = w .zeros }
 
   -- With the rows measured, the walk can begin.
-  pub walkable-of : {old dist : List ℕ} → aimsOf (bookSystem book) * r ≤ length old → RowsMeasured book table r old dist → Walkable book table dist r
+  pub walkable-of : {old dist : List ℕ} → aimsOf (bookSystem book) * r ≤ length old → RowsMeasured book table r old dist
+      → Walkable book table dist r
   walkable-of h m = record { states = s .states; in-dist = omega (arith, h, m .long); rowed = m .rowed }

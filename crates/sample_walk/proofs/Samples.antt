@@ -1,5 +1,5 @@
--- The livable states by their places in the table: livability can be decided, so the sample run exists, and it has only so many pairs of state
--- and aim. Assumes nothing.
+-- The livable states by their places in the table: livability can be decided, so the sample run exists, and it has only so many pairs of
+-- state and aim. Assumes nothing.
 use mathlib.Core.Path.{_≡_, sym, ap, subst, _∙_}
 use mathlib.Core.List.{List}
 use Prim.Native.Nat.{ℕ, _*_, _≤_, _<_}
@@ -35,8 +35,10 @@ module _ {S : System} {table : List ℕ} {r : ℕ} (L : Livables S table r) wher
       (w .0, w .1, subst (S .First) (sym (w .2)) (l .obeys .run .starts))
 
   -- So many moments with different pairs of state and aim there are at most.
-  pub pairs-within : {f aim : ℕ → ℕ} → Sample S f aim → (n : ℕ) → ((i j : ℕ) → i < j → j < n → f i ≡ f j → aim i ≡ aim j → ⊥) → n ≤ r * aimsOf S
-  pairs-within {f} {aim} x n apart = pairs-fit r (aimsOf S) n place aim (λ i h. L .whole (f i) (sample-livable x i) .1) (λ i h. aim-below x i)
+  pub pairs-within : {f aim : ℕ → ℕ} → Sample S f aim → (n : ℕ) → ((i j : ℕ) → i < j → j < n → f i ≡ f j → aim i ≡ aim j → ⊥)
+      → n ≤ r * aimsOf S
+  pairs-within {f} {aim} x n apart = pairs-fit r (aimsOf S) n place aim (λ i h. L .whole (f i) (sample-livable x i) .1)
+      (λ i h. aim-below x i)
       (λ i j p q e. apart i j p q (sym (stands i) ∙ ap (λ (y : ℕ). getD table y 0) e ∙ stands j))
     where
       place : ℕ → ℕ

@@ -78,7 +78,8 @@ module _ {S : System} {table : List ℕ} {r : ℕ} {f aims : ℕ → ℕ} {i pla
       record { sample = m .sample; here = ap f n ∙ state; aimed = ap aims n ∙ same; inside = t .best .0 }
     where
       same : aims (suc i) ≡ aim′
-      same = passes-unique S aim (getD table place 0) (subst₂ (λ (a s : ℕ). Passes S a s (aims (suc i))) (m .aimed) (m .here) (m .sample .passes i)) (t .passes)
+      same = passes-unique S aim (getD table place 0) (subst₂ (λ (a s : ℕ). Passes S a s (aims (suc i))) (m .aimed) (m .here)
+          (m .sample .passes i)) (t .passes)
 
       state : f (suc i) ≡ getD table place′ 0
       state = best-unique (subst₂ (λ (a s : ℕ). Best S a s (f (suc i))) same (m .here) (m .sample .best i)) (t .best .1)
@@ -176,7 +177,8 @@ module _ {S : System} {table words : List ℕ} {r i place aim : ℕ} (L : Livabl
             own : x ≡ place → bit a (getD new x 0) ≡ bit a (bitOr w (2 ^ aim))
             own p = ap (λ (y : ℕ). bit a (getD new y 0)) p ∙ ap (bit a) (getD-set-same words place (bitOr w (2 ^ aim)) 0 fits)
 
-            by : Dec (x ≡ place) → Dec (a ≡ aim) → ((x ≡ place) × (a ≡ aim) × (bit a (getD new x 0) ≡ 1)) ⊎ (bit a (getD new x 0) ≡ bit a (getD words x 0))
+            by : Dec (x ≡ place) → Dec (a ≡ aim) → ((x ≡ place) × (a ≡ aim) × (bit a (getD new x 0) ≡ 1))
+                ⊎ (bit a (getD new x 0) ≡ bit a (getD words x 0))
             by (no p) d = inr (ap (bit a) (getD-set-other words place x (bitOr w (2 ^ aim)) 0 p))
             by (yes p) (yes q) = inl (p, q, own p ∙ ap (λ (y : ℕ). bit y (bitOr w (2 ^ aim))) q ∙ bit-marked aim w)
             by (yes p) (no q) = inr (own p ∙ bit-unmarked aim a w q ∙ ap (λ (y : ℕ). bit a (getD words y 0)) (sym p))
@@ -205,11 +207,13 @@ few-aims {book} s = omega (arith, promises-are book, s .few-promises)
 
 -- There are few enough pairs.
 few-pairs : {book table : List ℕ} {r : ℕ} → LivableTable book table r → r * aimsOf (bookSystem book) ≤ 262144
-few-pairs {book} {r = r} t = mul-le-mul {n₁ = r} {m₁ = aimsOf (bookSystem book)} {n₂ = 16384} {m₂ = 16} (t .states .few) (few-aims (t .states .shaped))
+few-pairs {book} {r = r} t = mul-le-mul {n₁ = r} {m₁ = aimsOf (bookSystem book)} {n₂ = 16384} {m₂ = 16} (t .states .few)
+    (few-aims (t .states .shaped))
 
 -- So there are few enough distances for room of so many states.
 pub few-rows : {book table : List ℕ} {r : ℕ} → LivableTable book table r → (most : ℕ) → r ≤ most → aimsOf (bookSystem book) * r ≤ 16 * most
-few-rows {book} {r = r} t most h = mul-le-mul {n₁ = aimsOf (bookSystem book)} {m₁ = r} {n₂ = 16} {m₂ = most} (few-aims (t .states .shaped)) h
+few-rows {book} {r = r} t most h = mul-le-mul {n₁ = aimsOf (bookSystem book)} {m₁ = r} {n₂ = 16} {m₂ = most}
+    (few-aims (t .states .shaped)) h
 
 -- ---- the walk as it goes
 
@@ -222,12 +226,14 @@ pub record Walking (book table dist forth signs old words : List ℕ) (r i place
   pub trail : Trail (bookSystem book) table words r i place aim
 
 -- The walk begins.
-pub walking-begins : {book table dist forth signs words : List ℕ} {r : ℕ} → Walkable book table dist r → Onward book table r forth signs → r ≤ length words
+pub walking-begins : {book table dist forth signs words : List ℕ} {r : ℕ} → Walkable book table dist r → Onward book table r forth signs
+    → r ≤ length words
     → Zeros words r → (p : ℕ) → FirstPlace book table r p → Walking book table dist forth signs words words r 0 p 0
 walking-begins w o fits clean p at =
     record { walkable = w; onward = o; in-words = fits; long = refl; trail = trail-starts (w .states) p at clean }
 
-module _ {book table dist forth signs old words : List ℕ} {r i place aim : ℕ} (w : Walking book table dist forth signs old words r i place aim) where
+module _ {book table dist forth signs old words : List ℕ} {r i place aim : ℕ} (w : Walking book table dist forth signs old words r i place
+    aim) where
   -- The place has a word, and the aim a bit of it; so has the next aim.
   pub walking-at : place < length words
   walking-at = omega (arith, w .trail .at .inside, w .in-words)
@@ -259,7 +265,8 @@ module _ {book table dist forth signs old words : List ℕ} {r i place aim : ℕ
     walking-few = omega (arith, walking-room, few-pairs (w .walkable .states))
 
     -- and the walk goes on.
-    pub walking-goes : (word place′ aim′ : ℕ) → word ≡ bitOr (getD words place 0) (2 ^ aim) → Stepped (bookSystem book) table r place aim place′ aim′
+    pub walking-goes : (word place′ aim′ : ℕ) → word ≡ bitOr (getD words place 0) (2 ^ aim)
+        → Stepped (bookSystem book) table r place aim place′ aim′
         → Walking book table dist forth signs old (set words place word) r (i + 1) place′ aim′
     walking-goes word place′ aim′ e s = record {
       walkable = w .walkable;

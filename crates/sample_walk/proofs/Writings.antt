@@ -1,5 +1,5 @@
--- The second walk. A writing: the first i states of the cut sample run stand in the run, and the rest is as it was; the moment that the pair
--- at b comes from is found on the way. Assumes nothing.
+-- The second walk. A writing: the first i states of the cut sample run stand in the run, and the rest is as it was; the moment that the
+-- pair at b comes from is found on the way. Assumes nothing.
 use mathlib.Core.Path.{_≡_, refl, sym, ap, _∙_}
 use mathlib.Core.Logic.{_⊎_, inl, inr}
 use mathlib.Core.List.{List}
@@ -30,7 +30,8 @@ pub record Writing (S : System) (table : List ℕ) (b last goal : ℕ) (old new 
   pub found : Back (cut .run) (cut .aims) b i a
 
 -- The walk begins again, with nothing written.
-pub writing-starts : {book table : List ℕ} {b last goal r : ℕ} (old : List ℕ) → LivableTable book table r → (p : ℕ) → FirstPlace book table r p
+pub writing-starts : {book table : List ℕ} {b last goal r : ℕ} (old : List ℕ) → LivableTable book table r → (p : ℕ)
+    → FirstPlace book table r p
     → LoopCut (bookSystem book) table b last goal → Writing (bookSystem book) table b last goal old old r 0 p 0 0
 writing-starts old t p at c = record {
   cut = c;
@@ -44,7 +45,8 @@ writing-starts old t p at c = record {
 module _ {S : System} {table : List ℕ} {b last goal : ℕ} {old new : List ℕ} {r i place aim a : ℕ} (L : Livables S table r)
     (w : Writing S table b last goal old new r i place aim a) where
   -- The walk writes one more state.
-  pub writing-goes : last < r → i < length new → (a′ place′ aim′ : ℕ) → BackFrom place last aim goal i a a′ → Stepped S table r place aim place′ aim′
+  pub writing-goes : last < r → i < length new → (a′ place′ aim′ : ℕ) → BackFrom place last aim goal i a a′
+      → Stepped S table r place aim place′ aim′
       → Writing S table b last goal old (set new i (getD table place 0)) r (i + 1) place′ aim′ a′
   writing-goes h fits a′ place′ aim′ kept s = record {
     cut = c;

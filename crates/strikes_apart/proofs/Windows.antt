@@ -45,7 +45,8 @@ module _ {l : List ℕ} {low count : ℕ} {marks : List ℕ} {next i : ℕ} (m :
     (s-is : s ≡ getD l i 0) where
   -- A place more: what was placed stays placed, and this one is.
   seen-more : (marks′ : List ℕ) (next′ : ℕ) → length marks′ ≡ length marks → low < next′
-      → ((j : ℕ) → Placed l low marks next j → Placed l low marks′ next′ j) → Placed l low marks′ next′ i → Seen l low count marks′ next′ (i + 1)
+      → ((j : ℕ) → Placed l low marks next j → Placed l low marks′ next′ j) → Placed l low marks′ next′ i → Seen l low count marks′ next′
+      (i + 1)
   seen-more marks′ next′ same above keeps here = record {
     counted = m .counted;
     small = m .small;
@@ -92,7 +93,8 @@ module _ {l : List ℕ} {low count : ℕ} {marks : List ℕ} {next i : ℕ} (m :
           absurd (eqb-false (markAt marks k) 1 (sym met-is ∙ unmet) (m .placed (a .0) (a .1) .marked k (a .2 ∙ sym s-is ∙ at) inside))
 
 -- All places are looked at: numbers below the next one are settled, and all are where there is no next one.
-module _ {l : List ℕ} {low count : ℕ} {marks : List ℕ} {next i : ℕ} (m : Seen l low count marks next i) (done : count ≤ i) (before : Settled l low) where
+module _ {l : List ℕ} {low count : ℕ} {marks : List ℕ} {next i : ℕ} (m : Seen l low count marks next i) (done : count ≤ i)
+    (before : Settled l low) where
   pub seen-settled : Settled l next
   seen-settled j h below = by (decLt (getD l j 0) low) (decLt (getD l j 0) (low + windowSize)) (m .placed j (omega (arith, m .counted)))
     where

@@ -26,7 +26,8 @@ use Rattle.strikes_entries.specs.Entries.{Rising, EntryOk, KeptBy, State
 
 -- A later word is no smaller.
 later-no-smaller : (words : List ℕ) → Rising words → (m j : ℕ) → m ≤ j → j < length words → getD words m 0 ≤ getD words j 0
-later-no-smaller words rising m zero h below = let e : m ≡ 0 = omega arith in subst (λ (k : ℕ). getD words k 0 ≤ getD words 0 0) (sym e) (omega arith)
+later-no-smaller words rising m zero h below = let e : m ≡ 0 = omega arith in subst (λ (k : ℕ). getD words k 0 ≤ getD words 0 0) (sym e)
+    (omega arith)
 later-no-smaller words rising m (suc j) h below = by (decLt m (suc j)) (λ q. later-no-smaller words rising m j (omega arith) (omega arith))
   where
     by : Dec (m < suc j) → (m < suc j → getD words m 0 ≤ getD words j 0) → getD words m 0 ≤ getD words (suc j) 0
@@ -35,8 +36,13 @@ later-no-smaller words rising m (suc j) h below = by (decLt m (suc j)) (λ q. la
 
 -- ---- the first m words are those below the limit
 
-pub under-more : {words : List ℕ} {limit m : ℕ} → Under words limit m → m < length words → getD words m 0 < limit → Under words limit (m + 1)
-under-more {words} {limit} {m} u h here = record { within = omega arith; below = below-more (λ j. getD words j 0 < limit) m (u .below) here }
+pub under-more : {words : List ℕ} {limit m : ℕ} → Under words limit m → m < length words → getD words m 0 < limit
+    → Under words limit (m + 1)
+under-more {words} {limit} {m} u h here = record {
+  within = omega arith;
+  below = below-more (λ j. getD words j 0 < limit) m
+      (u .below) here;
+}
 
 pub under-stops : {words : List ℕ} {limit m : ℕ} → Under words limit m → limit ≤ getD words m 0 → Reach words limit m
 under-stops u stop = record { under = u; above = λ h. stop }
@@ -81,7 +87,8 @@ kept-by-says S (suc k) s {r} more says = let e : suc k - 1 ≡ k = omega arith i
 
 module _ (S : System) (states words : List ℕ) (as-many : length words ≡ length states) (rising : Rising words) where
   -- What the code looks at, reason by reason, is what an entry must show.
-  looked-right : (reason word s near far : ℕ) → Reach words word near → Reach words (word + 1) far → StateOk S reason s states (placesOf reason near far)
+  looked-right : (reason word s near far : ℕ) → Reach words word near → Reach words (word + 1) far
+      → StateOk S reason s states (placesOf reason near far)
       → EntryRight S states words reason word s
   looked-right zero word s near far n f ok = λ t move. among-listed states words as-many n t (ok .1 t move)
   looked-right (suc k) word s near far n f ok =
@@ -96,7 +103,8 @@ module _ (S : System) (states words : List ℕ) (as-many : length words ≡ leng
 -- ---- what was shown for one state serves another
 
 -- Entry k stands before entry i, and its state u may move wherever that one's state s may.
-pub follows-at : {book states : List ℕ} {i k u s : ℕ} → k < i → u ≡ getD states k 0 → s ≡ getD states i 0 → Freer book u s → Follows book states i
+pub follows-at : {book states : List ℕ} {i k u s : ℕ} → k < i → u ≡ getD states k 0 → s ≡ getD states i 0 → Freer book u s
+    → Follows book states i
 follows-at {book} {states} {i} {k} {u} {s} h u-is s-is free = record {
   place = k;
   before = h;
@@ -136,22 +144,27 @@ pub record Turn (book states words : List ℕ) (distinct : Bool) (i s word near 
   pub nearer : Reach words word near
   pub farther : Reach words (word + 1) far
 
-module _ {book states words : List ℕ} {distinct : Bool} {i s word near far : ℕ} (turn : Turn book states words distinct i s word near far) {m : ℕ}
+module _ {book states words : List ℕ} {distinct : Bool} {i s word near far : ℕ} (turn : Turn book states words distinct i s word near far)
+    {m : ℕ}
     (m-is : m ≡ placesOf (word % 32) near far) where
   -- What is shown of the state among the first m is what the entry must show.
-  pub entry-says : {r : Bool} → Says (StateOk (bookSystem book) (word % 32) s states m) r → Says (EntryOk (bookSystem book) states words i) r
+  pub entry-says : {r : Bool} → Says (StateOk (bookSystem book) (word % 32) s states m) r
+      → Says (EntryOk (bookSystem book) states words i) r
   entry-says {r} says =
       subst (λ (w : ℕ). Says (EntryRight (bookSystem book) states words (w % 32) w (getD states i 0)) r) (turn .word-is)
       (subst (λ (x : ℕ). Says (EntryRight (bookSystem book) states words (word % 32) word x) r) (turn .s-is)
-      (says-as (looked-right _ states words (turn .asks .as-many) (turn .asks .rising) (word % 32) word s near far (turn .nearer) (turn .farther))
+      (says-as (looked-right _ states words (turn .asks .as-many) (turn .asks .rising) (word % 32) word s near far (turn .nearer)
+      (turn .farther))
       (right-looked _ states words (turn .asks .as-many) (turn .asks .rising) (word % 32) word s near far (turn .nearer) (turn .farther))
       (subst (λ (k : ℕ). Says (StateOk (bookSystem book) (word % 32) s states k) r) m-is says)))
 
   -- The next states of a state that may move only where an earlier entry's may are there, once that entry is right.
-  pub follows-within : ((j : ℕ) → j < i → EntryOk (bookSystem book) states words j) → Follows book states i → NextsWithin (bookSystem book) s states m
+  pub follows-within : ((j : ℕ) → j < i → EntryOk (bookSystem book) states words j) → Follows book states i
+      → NextsWithin (bookSystem book) s states m
   follows-within right w t move =
       subst (λ (k : ℕ). Has states k t) (sym m-is)
-      (earlier-places (bookSystem book) states words (turn .asks .as-many) (turn .asks .rising) (getD words k 0 % 32) (word % 32) (getD words k 0) word u near far
+      (earlier-places (bookSystem book) states words (turn .asks .as-many) (turn .asks .rising) (getD words k 0 % 32) (word % 32)
+      (getD words k 0) word u near far
       refl refl up (right k (w .before)) (turn .nearer) (turn .farther) t
       (freer-moves book u (getD states i 0) lawful (w .freer) t (subst (λ (x : ℕ). bookSystem book .Move x t) (turn .s-is) move)))
     where
@@ -162,7 +175,12 @@ module _ {book states words : List ℕ} {distinct : Bool} {i s word near far : �
       u = getD states k 0
 
       up : getD words k 0 ≤ word
-      up = omega (arith, later-no-smaller words (turn .asks .rising) k i (omega (arith, w .before)) (omega (arith, turn .asks .as-many, turn .inside)), turn .word-is)
+      up = omega (
+        arith,
+        later-no-smaller words (turn .asks .rising) k i (omega (arith, w .before))
+            (omega (arith, turn .asks .as-many, turn .inside)),
+        turn .word-is,
+      )
 
       lawful : bookLawful book u ≡ true
       lawful = lawful-true book u (turn .asks .states-ask .lawful k (omega (arith, w .before, turn .inside)))

@@ -1,5 +1,5 @@
-// Whether every entry of a strike list shows what it must: the promise of its reason is false in its state, and all next states of that state
-// are listed, with a smaller word (reason 0) or with no larger one (any other reason).
+// Whether every entry of a strike list shows what it must: the promise of its reason is false in its state, and all next states of that
+// state are listed, with a smaller word (reason 0) or with no larger one (any other reason).
 //
 // It does not search, it counts: words never fall, so "listed with a smaller word" is "among the first m entries"; and all next states are
 // among them exactly if there are as many next states as different ones among these entries. A state that may move only where one

@@ -1,7 +1,7 @@
 // Witnesses, whichever way moves are known. Each unstruck place has a witness: it keeps the promise itself, or it names a next place whose
-// witnesses lead on to one that does. Here is what watching along stored moves (crate watch) and watching by tests (crate watch_tests)
-// share: how a row of witnesses begins, the tests of one place, who stands alone before the first phase, and who falls. The struck places
-// stand in a log, in the order in which they fell.
+// witnesses lead on to one that does. Here is what watching along stored moves (crate watch_along) and watching by tests (crate
+// watch_tests) share: how a row of witnesses begins, the tests of one place, who stands alone before the first phase, and who falls. The
+// struck places stand in a log, in the order in which they fell.
 use ground::State;
 ghost use Prim.Native.Nat.{_<_, _≤_};
 ghost use lib.ListN.{length};

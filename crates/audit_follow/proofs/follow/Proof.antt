@@ -31,7 +31,8 @@ note-requires c κs =
 loop-again : tie.Need-loop-again Inv-loop μ-loop
 loop-again c =
     let moves = c .before .before .before .before in
-    following-next _ _ _ _ _ _ _ _ _ _ _ _ (moves .before .before .before .loop .inv) (moves .same-moves .ensures) (c .before .move-into .ensures)
+    following-next _ _ _ _ _ _ _ _ _ _ _ _ (moves .before .before .before .loop .inv) (moves .same-moves .ensures)
+    (c .before .move-into .ensures)
     (c .note .ensures)
 
 pub follow-spec : {M : Type 1} → statement M
@@ -47,7 +48,15 @@ follow-spec =
     (λ c. omega (arith, c .same-moves .ensures .within, c .before .before .before .loop .inv .fits))
     move-into-requires
     note-requires
-    (λ c. omega (arith, c .before .before .before .before .same-moves .ensures .within, c .before .before .before .before .before .before .before .loop .inv .fits))
-    (λ c. omega (arith, c .before .before .before .before .same-moves .ensures .some, c .before .before .before .before .same-moves .ensures .within))
+    (λ c. omega (
+      arith,
+      c .before .before .before .before .same-moves .ensures .within,
+      c .before .before .before .before .before .before .before .loop .inv .fits,
+    ))
+    (λ c. omega (
+      arith,
+      c .before .before .before .before .same-moves .ensures .some,
+      c .before .before .before .before .same-moves .ensures .within,
+    ))
     loop-again
     (λ c. following-all (c .before .loop .inv) (c .loop-test .left)))

@@ -8,7 +8,8 @@ use Rattle.audit_follow.proofs.note.Tie as tie
 
 returns : tie.Need-returns
 returns c =
-    noted-breach-numbers _ _ _ _ _ _ _ (c .before .before .before .what-is .ensures) (sym (c .before .before .is-first .ensures) ∙ c .before .if1 .taken)
+    noted-breach-numbers _ _ _ _ _ _ _ (c .before .before .before .what-is .ensures) (sym (c .before .before .is-first .ensures)
+    ∙ c .before .if1 .taken)
     (c .rule-told .ensures)
 
 pub note-spec : {M : Type 1} → statement M

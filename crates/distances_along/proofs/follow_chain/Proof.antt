@@ -1,4 +1,5 @@
--- `distances_along::follow_chain` meets its contract. The loop's invariant: the places of the chain before place i are followed. Assumes nothing.
+-- `distances_along::follow_chain` meets its contract. The loop's invariant: the places of the chain before place i are followed. Assumes
+-- nothing.
 use Prim.Native.Nat.{_-_, _+_, _<_}
 use native.Mathlib.Omega.{arith}
 use lib.ListN.{length}
@@ -45,30 +46,43 @@ loop-less : tie.Need-loop-less Inv-loop μ-loop
 loop-less c =
     let e = then (c .before) in
     let l = e .before in
-    omega (arith, inside e .0, chain-further _ _ _ _ _ _ _ (entry l .pre .0) (entry l .pre .1) _ _ _ _ (l .loop .inv) (inside e .0) _ (c .link .ensures .0))
+    omega (
+      arith,
+      inside e .0,
+      chain-further _ _ _ _ _ _ _ (entry l .pre .0) (entry l .pre .1) _ _ _ _ (l .loop .inv) (inside e .0) _
+          (c .link .ensures .0),
+    )
 
 loop-again : tie.Need-loop-again Inv-loop μ-loop
 loop-again c =
     let e = then (c .before) in
     let l = e .before in
-    chain-more _ _ _ _ _ _ _ (entry l .pre .0) (entry l .pre .1) _ _ _ _ (l .loop .inv) (inside e .0) _ (c .link .ensures .0) (c .before .if1 .taken)
+    chain-more _ _ _ _ _ _ _ (entry l .pre .0) (entry l .pre .1) _ _ _ _ (l .loop .inv) (inside e .0) _ (c .link .ensures .0)
+    (c .before .if1 .taken)
 
 loop-less-2 : tie.Need-loop-less-2 Inv-loop μ-loop
 loop-less-2 c =
     let e = else (c .before) in
     let l = e .before in
-    omega (arith, inside e .0, chain-further _ _ _ _ _ _ _ (entry l .pre .0) (entry l .pre .1) _ _ _ _ (l .loop .inv) (inside e .0) _ (c .link2 .ensures .0))
+    omega (
+      arith,
+      inside e .0,
+      chain-further _ _ _ _ _ _ _ (entry l .pre .0) (entry l .pre .1) _ _ _ _ (l .loop .inv) (inside e .0) _
+          (c .link2 .ensures .0),
+    )
 
 loop-again-2 : tie.Need-loop-again-2 Inv-loop μ-loop
 loop-again-2 c =
     let e = else (c .before) in
     let l = e .before in
-    chain-past _ _ _ _ _ _ _ (entry l .pre .0) (entry l .pre .1) _ _ _ _ (l .loop .inv) (inside e .0) _ (c .link2 .ensures .0) (c .before .if1 .left)
+    chain-past _ _ _ _ _ _ _ (entry l .pre .0) (entry l .pre .1) _ _ _ _ (l .loop .inv) (inside e .0) _ (c .link2 .ensures .0)
+    (c .before .if1 .left)
 
 returns : tie.Need-returns Inv-loop μ-loop
 returns c =
     let l = c .before in
-    chain-done _ _ _ _ _ _ _ (entry l .pre .0) (entry l .pre .1) _ _ _ _ (l .loop .inv) (omega (arith, c .loop-test .left, l .loop .inv .so-far .spread .long))
+    chain-done _ _ _ _ _ _ _ (entry l .pre .0) (entry l .pre .1) _ _ _ _ (l .loop .inv)
+    (omega (arith, c .loop-test .left, l .loop .inv .so-far .spread .long))
 
 pub follow-chain-spec : {M : Type 1} → statement M
 follow-chain-spec =

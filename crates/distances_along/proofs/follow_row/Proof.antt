@@ -34,14 +34,17 @@ few l = row-few _ _ _ _ _ _ _ (entry l .pre) _ _ _ _ (l .loop .inv)
 
 -- the row with one chain more
 more : (c : tie.After-follow-chain Inv-loop μ-loop)
-    → RowTo (entry (cell c .before .before) .args .moves .now) (entry (cell c .before .before) .args .j) (entry (cell c .before .before) .args .d)
-    (length (entry (cell c .before .before) .args .near .now)) (entry (cell c .before .before) .args .near .now) (entry (cell c .before .before) .args .tail)
+    → RowTo (entry (cell c .before .before) .args .moves .now) (entry (cell c .before .before) .args .j)
+    (entry (cell c .before .before) .args .d)
+    (length (entry (cell c .before .before) .args .near .now)) (entry (cell c .before .before) .args .near .now)
+    (entry (cell c .before .before) .args .tail)
     (entry (cell c .before .before) .args .queue .now) (c .follow-chain .last .1 .1 .1 .0) (c .follow-chain .last .1 .1 .1 .1 .1 .0)
     (cell c .before .before .loop .got + c .follow-chain .result) (cell c .before .before .loop .e + 1)
 more c =
     let at-cell = cell c in
     let l = at-cell .before .before in
-    cell-more _ _ _ _ _ _ _ (entry l .pre) _ _ _ _ (l .loop .inv) _ (inside (at-cell .before) .0) (at-cell .cell .ensures) _ _ _ (c .follow-chain .ensures)
+    cell-more _ _ _ _ _ _ _ (entry l .pre) _ _ _ _ (l .loop .inv) _ (inside (at-cell .before) .0) (at-cell .cell .ensures) _ _ _
+    (c .follow-chain .ensures)
 
 follow-chain-requires : tie.Need-follow-chain-requires Inv-loop μ-loop
 follow-chain-requires c κs =

@@ -1,10 +1,11 @@
--- `distances_along::measure_back` meets its contract. The loop's invariant: the rows of the queue's first `head` places are followed. The measure: the
--- places that can still come to stand in the queue. Assumes nothing.
+-- `distances_along::measure_back` meets its contract. The loop's invariant: the rows of the queue's first `head` places are followed. The
+-- measure: the places that can still come to stand in the queue. Assumes nothing.
 use mathlib.Core.Path.{_∙_, sym}
 use Prim.Native.Nat.{_-_}
 use native.Mathlib.Omega.{arith}
 use Rattle.rules.specs.Book.{bookSystem}
-use Rattle.distances_along.proofs.Along.{Next, Tracing, moves-back, tracing-none, tracing-next, tracing-ready, tracing-more, tracing-done}
+use Rattle.distances_along.proofs.Along.{Next, Tracing, moves-back, tracing-none, tracing-next, tracing-ready, tracing-more}
+use Rattle.distances_along.proofs.Along.{tracing-done}
 use Rattle.distances_along.proofs.measure_back.Statement.{statement}
 use Rattle.distances_along.proofs.measure_back.Tie as tie
 
@@ -29,7 +30,10 @@ next : (c : tie.In-loop Inv-loop μ-loop)
 next c = tracing-next _ _ _ _ _ _ _ _ _ _ _ (c .before .loop .inv) (c .loop-test .taken)
 
 begin-requires : tie.Need-begin-requires Inv-loop μ-loop
-begin-requires c κs = (c .before .before .before .before .before .before .before .pre .0, c .before .before .before .before .before .before .before .pre .1)
+begin-requires c κs = (
+  c .before .before .before .before .before .before .before .pre .0,
+  c .before .before .before .before .before .before .before .pre .1,
+)
 
 line-up-requires : tie.Need-line-up-requires Inv-loop μ-loop
 line-up-requires c κs =
@@ -42,7 +46,8 @@ loop-holds c =
     let at-line-up = c .before .before in
     let at-begin = at-line-up .before .before .before .before .before in
     let pre = at-begin .before .before .before .before .before .before .before .before .pre in
-    tracing-none _ _ _ _ _ _ _ _ _ (moves-back _ _ _ _ (pre .2)) (pre .0 .states .few) (omega (arith, at-line-up .line-up .ensures .1, pre .3))
+    tracing-none _ _ _ _ _ _ _ _ _ (moves-back _ _ _ _ (pre .2)) (pre .0 .states .few)
+    (omega (arith, at-line-up .line-up .ensures .1, pre .3))
     (at-begin .begin .ensures) (at-line-up .line-up .ensures .0)
 
 follow-row-requires : tie.Need-follow-row-requires Inv-loop μ-loop
@@ -62,21 +67,26 @@ add-tail c =
 
 add-head : tie.Need-add-head Inv-loop μ-loop
 add-head c =
-    let at-loop-test = turn (c .before .before .before .before) in omega (arith, next at-loop-test .early, at-loop-test .before .loop .inv .few)
+    let at-loop-test = turn (c .before .before .before .before) in
+    omega (arith, next at-loop-test .early, at-loop-test .before .loop .inv .few)
 
 loop-again : tie.Need-loop-again Inv-loop μ-loop
 loop-again c =
     let at-row = c .before .before .before .before in
     let at-loop-test = turn at-row in
-    tracing-more _ _ _ _ _ _ _ _ _ _ _ (at-loop-test .before .loop .inv) (at-loop-test .loop-test .taken) _ _ _ (at-row .follow-row .ensures)
+    tracing-more _ _ _ _ _ _ _ _ _ _ _ (at-loop-test .before .loop .inv) (at-loop-test .loop-test .taken) _ _ _
+    (at-row .follow-row .ensures)
 
 same-length-2 : tie.Need-same-length-2 Inv-loop μ-loop
 same-length-2 c = c .before .loop .inv .along .sure .long ∙ sym (entry (c .before) .pre .1)
 
 returns : tie.Need-returns Inv-loop μ-loop
 returns c =
-    let at-loop = c .before in
-    (tracing-done _ _ _ _ _ _ _ _ _ _ _ (at-loop .loop .inv) (omega arith), at-loop .loop .inv .same ∙ at-loop .before .before .before .line-up .ensures .1)
+    let at-loop = c .before in (
+      tracing-done _ _ _ _ _ _ _ _ _ _ _ (at-loop .loop .inv) (omega arith),
+      at-loop .loop .inv .same
+          ∙ at-loop .before .before .before .line-up .ensures .1,
+    )
 
 pub measure-back-spec : {M : Type 1} → statement M
 measure-back-spec =

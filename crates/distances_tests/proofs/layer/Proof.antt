@@ -44,7 +44,10 @@ loop-holds c =
 
 returns : tie.Need-returns Inv-loop μ-loop
 returns c =
-    let l = c .before .before in (spreading-full _ _ _ _ _ _ _ _ (start l .pre .0) _ _ _ _ (l .loop .inv .1) (c .if1 .taken), l .loop .inv .2)
+    let l = c .before .before in (
+      spreading-full _ _ _ _ _ _ _ _ (start l .pre .0) _ _ _ _ (l .loop .inv .1) (c .if1 .taken),
+      l .loop .inv .2,
+    )
 
 served-requires : tie.Need-served-requires Inv-loop μ-loop
 served-requires c κs =
@@ -57,7 +60,8 @@ loop-again c =
     let a = c .before .before .before in
     let l = turn (in-layer a) in (
       omega arith,
-      spreading-served _ _ _ _ _ _ _ _ (start l .pre .0) _ _ _ _ (l .loop .inv .1) (in-layer a .if2 .taken) (a .served .ensures .0 (c .if3 .taken)),
+      spreading-served _ _ _ _ _ _ _ _ (start l .pre .0) _ _ _ _ (l .loop .inv .1) (in-layer a .if2 .taken)
+          (a .served .ensures .0 (c .if3 .taken)),
       a .served .ensures .1 ∙ l .loop .inv .2,
     )
 

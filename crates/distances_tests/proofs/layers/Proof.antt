@@ -1,9 +1,10 @@
--- `distances_tests::layers` meets its contract. The loop's invariant: the layers before d are spread. The measure: the places not reached yet.
--- Assumes nothing.
+-- `distances_tests::layers` meets its contract. The loop's invariant: the layers before d are spread. The measure: the places not reached
+-- yet. Assumes nothing.
 use mathlib.Core.Path.{_≡_, _∙_, sym, refl}
 use native.Mathlib.Omega.{arith}
 use lib.ListN.{length}
-use Rattle.distances_tests.proofs.Turns.{Measuring, measuring-none, measuring-spreadable, measuring-next, measuring-quiet, measuring-full}
+use Rattle.distances_tests.proofs.Turns.{Measuring, measuring-none, measuring-spreadable, measuring-next, measuring-quiet}
+use Rattle.distances_tests.proofs.Turns.{measuring-full}
 use Rattle.distances_tests.proofs.layers.Statement.{statement}
 use Rattle.distances_tests.proofs.layers.Tie as tie
 

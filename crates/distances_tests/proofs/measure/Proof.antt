@@ -1,5 +1,5 @@
--- `distances_tests::measure` meets its contract: the places not reached yet are listed, and all layers are spread, whichever table is lent for it.
--- Assumes nothing.
+-- `distances_tests::measure` meets its contract: the places not reached yet are listed, and all layers are spread, whichever table is lent
+-- for it. Assumes nothing.
 use mathlib.Core.Path.{_∙_, sym}
 use native.Mathlib.Omega.{arith}
 use borrow.Author.Needs.{needs}

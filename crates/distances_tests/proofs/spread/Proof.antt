@@ -20,7 +20,8 @@ start l = l .before .before .before .before .before .before
 
 -- within the loop's body: what is known of the place that is looked at
 here : (c : tie.In-loop Inv-loop μ-loop)
-    → Here (length (start (c .before) .args .near .now)) (c .before .loop .near) (c .before .loop .list) (c .before .loop .i) (c .before .loop .kept)
+    → Here (length (start (c .before) .args .near .now)) (c .before .loop .near) (c .before .loop .list) (c .before .loop .i)
+    (c .before .loop .kept)
 here c =
     let pre = start (c .before) .pre in
     sift-here _ _ _ _ _ _ (pre .0) (pre .3) _ _ _ _ (c .before .loop .inv .1) (c .loop-test .taken)

@@ -20,8 +20,11 @@ returns c =
     let at-if1 = at-turn .before .before .before in
     let at-forth = at-if1 .before .before .before .before .before in
     let F = at-forth .store-forth .ensures .0 (at-if1 .if1 .taken) in
-    let able = at-forth .before .before .before .before .before .before .before .pre .0 in
-    (both refl (F .0) (at-turn .turn .ensures .0 (c .if2 .taken) _ _ (able .states) (F .0 .rows) (F .1)), F .0 .long, at-turn .turn .ensures .1)
+    let able = at-forth .before .before .before .before .before .before .before .pre .0 in (
+      both refl (F .0) (at-turn .turn .ensures .0 (c .if2 .taken) _ _ (able .states) (F .0 .rows) (F .1)),
+      F .0 .long,
+      at-turn .turn .ensures .1,
+    )
 
 returns-2 : tie.Need-returns-2
 returns-2 c =

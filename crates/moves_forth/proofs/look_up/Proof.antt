@@ -15,8 +15,11 @@ abbrev μ-loop : tie.MeasureT-loop
 
 loop-holds : tie.Need-loop-holds Inv-loop μ-loop
 loop-holds c =
-    let entry = c .before .before .before in
-    (omega arith, filling-none _ _ _ (entry .pre .3) (listed-none (entry .args .list .now) (entry .args .table .now) (entry .args .r) (entry .pre .0 .rises)))
+    let entry = c .before .before .before in (
+      omega arith,
+      filling-none _ _ _ (entry .pre .3) (listed-none (entry .args .list .now) (entry .args .table .now) (entry .args .r)
+          (entry .pre .0 .rises)),
+    )
 
 mul-x : tie.Need-mul-x Inv-loop μ-loop
 mul-x c =
@@ -94,7 +97,8 @@ loop-again c =
       omega arith,
       listed-more (entry .args .list .now) (entry .args .table .now) (entry .args .r) (entry .pre .0 .rises) _ _ _ _ _ _ _
           (entry .pre .2 .rises) (at-loop-test .loop-test .taken)
-          (at-stands .stands .ensures .yes (at-if1 .if1 .taken)) (let a = at-loop .loop .inv .1 .inside in let b = at-loop .loop .inv .1 .long in omega arith)
+          (at-stands .stands .ensures .yes (at-if1 .if1 .taken)) (let a = at-loop .loop .inv .1 .inside in
+          let b = at-loop .loop .inv .1 .long in omega arith)
           (at-loop .loop .inv .1),
     )
 
@@ -123,7 +127,8 @@ returns-2 : tie.Need-returns-2 Inv-loop μ-loop
 returns-2 c =
     let at-loop = c .before in
     let entry = at-loop .before .before .before .before in
-    listed-filled (entry .args .list .now) (entry .args .table .now) (entry .args .r) (entry .pre .0 .rises) _ _ _ _ _ _ (omega arith) (at-loop .loop .inv .1)
+    listed-filled (entry .args .list .now) (entry .args .table .now) (entry .args .r) (entry .pre .0 .rises) _ _ _ _ _ _ (omega arith)
+    (at-loop .loop .inv .1)
 
 pub look-up-spec : {M : Type 1} → statement M
 look-up-spec =

@@ -1,5 +1,5 @@
--- `moves_forth::store_rows` meets its contract. The loop's invariant: the rows of the first i places are stored below `at`, their links lead to places of
--- their classes, and there are places for classes. Assumes nothing.
+-- `moves_forth::store_rows` meets its contract. The loop's invariant: the rows of the first i places are stored below `at`, their links
+-- lead to places of their classes, and there are places for classes. Assumes nothing.
 use mathlib.Core.Path.{_≡_, refl, sym, ap, _∙_}
 use mathlib.Core.List.{List}
 use Prim.Native.Nat.{ℕ, _-_, _≤_, _<_}
@@ -12,7 +12,8 @@ use Rattle.meaning.specs.Promises.{mostStates}
 use Rattle.moves.specs.Layout.{mostCells, movesSize, noLink, linksOf}
 use Rattle.moves_forth.specs.Storing.{listSize}
 use Rattle.moves.specs.Moves.{Kindred}
-use Rattle.moves_forth.proofs.Filling.{StoredIn, stored-none, stored-has, set-more, set-again, stored-forth, kin-none, kin-more, kin-all}
+use Rattle.moves_forth.proofs.Filling.{StoredIn, stored-none, stored-has, set-more, set-again, stored-forth, kin-none, kin-more}
+use Rattle.moves_forth.proofs.Filling.{kin-all}
 use Rattle.moves.proofs.Layouts.{links-long}
 use Rattle.moves_forth.proofs.store_rows.Statement.{statement}
 use Rattle.moves_forth.proofs.store_rows.Tie as tie
@@ -71,7 +72,8 @@ loop-again c =
       at-share .share-row .ensures .long ∙ l .loop .inv .3,
       l .loop .inv .4,
       at-same .before .before .before .found .ensures ∙ l .loop .inv .5,
-      kin-more _ _ (entry l .args .r) _ _ _ _ (omega (arith, links-long (l .loop .moves) (l .loop .inv .3), inside e .1)) (at-share .share-row .ensures .links)
+      kin-more _ _ (entry l .args .r) _ _ _ _ (omega (arith, links-long (l .loop .moves) (l .loop .inv .3), inside e .1))
+          (at-share .share-row .ensures .links)
           (inr (at-same .same-moves .ensures (at-if2 .if2 .taken))) (l .loop .inv .6),
       omega (arith, l .loop .inv .7),
     )
@@ -95,8 +97,11 @@ long-places c = c .before .before .before .found .ensures ∙ turn (within c) .l
 
 returns-2 : tie.Need-returns-2 Inv-loop μ-loop
 returns-2 c =
-    let at-row = c .before .before .before .before in
-    (λ e. absurd (true≢false (sym e)), at-row .row .ensures .1 .long ∙ turn (within (filled at-row)) .loop .inv .3, long-places (filled at-row))
+    let at-row = c .before .before .before .before in (
+      λ e. absurd (true≢false (sym e)),
+      at-row .row .ensures .1 .long ∙ turn (within (filled at-row)) .loop .inv .3,
+      long-places (filled at-row),
+    )
 
 set-place-requires : tie.Need-set-place-requires Inv-loop μ-loop
 set-place-requires c κs =
@@ -125,7 +130,8 @@ loop-again-2 c =
       at-row .row .ensures .2,
       at-same .before .before .before .found .ensures ∙ l .loop .inv .5,
       kin-more _ _ (entry l .args .r) _ _ _ _ (omega (arith, links-long (l .loop .moves) (l .loop .inv .3), inside e .1))
-          (at-set .set-place .ensures .links ∙ ap (λ (x : List ℕ). set x (l .loop .i) noLink) (at-row .row .ensures .1 .links)) (inl refl) (l .loop .inv .6),
+          (at-set .set-place .ensures .links ∙ ap (λ (x : List ℕ). set x (l .loop .i) noLink) (at-row .row .ensures .1 .links)) (inl refl)
+          (l .loop .inv .6),
       omega (arith, l .loop .inv .7),
     )
 

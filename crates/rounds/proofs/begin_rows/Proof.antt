@@ -1,5 +1,5 @@
--- `rounds::begin_rows` meets its contract. The loop's invariant: the first row is as it was, and the rows of the promises below k have begun. The
--- measure: how many promises are left. Assumes nothing.
+-- `rounds::begin_rows` meets its contract. The loop's invariant: the first row is as it was, and the rows of the promises below k have
+-- begun. The measure: how many promises are left. Assumes nothing.
 use Prim.Native.Nat.{suc, _+_, _-_, _*_, _≤_, _<_}
 use native.Mathlib.Nat.{suc-mul}
 use native.Mathlib.Omega.{arith}
@@ -31,7 +31,8 @@ inside c =
 
 -- and it begins early
 small : (c : tie.In-loop Inv-loop μ-loop) → (c .before .loop .k + 1) * entry c .args .r ≤ 262144
-small c = row-early (c .before .loop .k + 1) _ (omega (arith, promise c, entry c .pre .states .shaped .few-promises)) (entry c .pre .states .few)
+small c = row-early (c .before .loop .k + 1) _ (omega (arith, promise c, entry c .pre .states .shaped .few-promises))
+    (entry c .pre .states .few)
 
 begin-requires : tie.Need-begin-requires Inv-loop μ-loop
 begin-requires c κs =
@@ -65,7 +66,11 @@ begin-rows-spec =
     (λ c. omega (arith, inside c))
     (λ c. omega (arith, inside c))
     begin-requires
-    (λ c. omega (arith, promise (c .before .before .before .before), entry (c .before .before .before .before) .pre .states .shaped .few-promises))
+    (λ c. omega (
+      arith,
+      promise (c .before .before .before .before),
+      entry (c .before .before .before .before) .pre .states .shaped .few-promises,
+    ))
     (λ c. omega (arith, c .before .before .before .before .loop-test .taken))
     loop-again
     (λ c. begun c .long)

@@ -14,7 +14,11 @@ mul-place c =
 
 cast-place : tie.Need-cast-place
 cast-place c =
-    omega (arith, c .slice-known2 .given (c .before .signature .result % length (c .before .before .before .before .before .before .args .places .now)))
+    omega (
+      arith,
+      c .slice-known2 .given
+          (c .before .signature .result % length (c .before .before .before .before .before .before .args .places .now)),
+    )
 
 mul-places : tie.Need-mul-places
 mul-places c =

@@ -1,4 +1,5 @@
--- `rules_classes::signature` meets its contract, which is none: its sums fit. The invariant: the signature is below the prime number 2147483647. Assumes nothing.
+-- `rules_classes::signature` meets its contract, which is none: its sums fit. The invariant: the signature is below the prime number
+-- 2147483647. Assumes nothing.
 use Prim.Native.Nat.{_-_, _<_}
 use native.Mathlib.Omega.{arith}
 use Rattle.rules_classes.proofs.signature.Statement.{statement}

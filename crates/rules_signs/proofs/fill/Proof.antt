@@ -27,7 +27,8 @@ returns c =
     let head = written .before .before .before in
     let s = start head in
     let w = head .before .width .ensures in
-    filled (s .pre .0) (head .before .before .before .list-live .ensures) (head .before .width .result) (head .whole .result) (s .args .signs .now) _
+    filled (s .pre .0) (head .before .before .before .list-live .ensures) (head .before .width .result) (head .whole .result)
+    (s .args .signs .now) _
     (s .pre .1) (head .whole .ensures) (w .0) (w .1) (written .write-rows .ensures .0) (written .write-rows .ensures .1)
 
 pub fill-spec : {M : Type 1} → statement M

@@ -28,7 +28,8 @@ apart-requires c κs =
 returns : tie.Need-returns
 returns c =
     let s = start (c .before .before) in
-    says-no (λ move. c .before .apart .ensures .never (not-true _ (c .if1 .taken)) (s .pre .0 .free (s .args .i) (s .args .j) (s .pre .1) (s .pre .2) move))
+    says-no (λ move. c .before .apart .ensures .never (not-true _ (c .if1 .taken)) (s .pre .0 .free (s .args .i) (s .args .j) (s .pre .1)
+    (s .pre .2) move))
 
 returns-2 : tie.Need-returns-2
 returns-2 c =

@@ -16,7 +16,8 @@ abbrev μ-loop : tie.MeasureT-loop
 -- where the rows do not fit, there are words
 some : (c : tie.Then1 Inv-loop μ-loop) → 1 ≤ c .before .before .loop .w
 some c = let s = c .before .before .before in
-    some-words (s .args .size) (s .args .r) (c .before .before .loop .w) (s .pre .0) (c .before .fits2 .ensures .never (not-true _ (c .if1 .taken)))
+    some-words (s .args .size) (s .args .r) (c .before .before .loop .w) (s .pre .0)
+    (c .before .fits2 .ensures .never (not-true _ (c .if1 .taken)))
 
 pub width-spec : {M : Type 1} → statement M
 width-spec =

@@ -23,9 +23,11 @@ turn c = c .before .before .before .before .before .before .before .before .befo
 
 -- within the loop: where the row begins, and the rows' room
 small : (c : tie.In-loop Inv-loop μ-loop) → c .before .loop .i * (2 * start (c .before) .args .w) ≤ 131072
-small c = let s = start (c .before) in rows-small (c .before .loop .i) (s .args .w) (omega (arith, c .loop-test .taken, s .pre .2)) (s .pre .3)
+small c = let s = start (c .before) in rows-small (c .before .loop .i) (s .args .w) (omega (arith, c .loop-test .taken, s .pre .2))
+    (s .pre .3)
 
-room : (c : tie.In-loop Inv-loop μ-loop) → askedFrom (start (c .before) .args .w) (start (c .before) .args .r) ≤ length (c .before .loop .signs)
+room : (c : tie.In-loop Inv-loop μ-loop) → askedFrom (start (c .before) .args .w) (start (c .before) .args .r) ≤ length
+    (c .before .loop .signs)
 room c = omega (arith, start (c .before) .pre .4, c .before .loop .inv .1 .long)
 
 write-requires : tie.Need-write-requires Inv-loop μ-loop
@@ -47,7 +49,8 @@ loop-again c =
     let one = c .before .before .before .before .before .before .write .ensures in
     let head = turn c .before in
     let a = start head .args in (
-      rows-more (a .book .now) (a .table .now) (a .live .now) (a .n) (a .w) (head .loop .i) _ _ _ (head .loop .inv .0) (one .0) (one .1) (two .0) (two .1),
+      rows-more (a .book .now) (a .table .now) (a .live .now) (a .n) (a .w) (head .loop .i) _ _ _ (head .loop .inv .0) (one .0) (one .1)
+          (two .0) (two .1),
       kept-then (omega arith) (head .loop .inv .1) (kept-then (omega arith) (one .1) (two .1)),
     )
 

@@ -1,5 +1,5 @@
--- `sample::walk_stored` meets its contract. As many distances as there can be have room, and the moves are stored both ways, or nothing is touched.
--- Assumes nothing.
+-- `sample::walk_stored` meets its contract. As many distances as there can be have room, and the moves are stored both ways, or nothing is
+-- touched. Assumes nothing.
 use mathlib.Core.Path.{refl}
 use Prim.Native.Nat.{ℕ}
 use borrow.Author.Needs.{needs}
@@ -30,7 +30,11 @@ walk-stored-spec =
     (tie.spec
     (λ c. search needs)
     (λ c. search needs)
-    (λ c κs. (table-storable (c .before .before .before .before .before .before .pre .states), length-replicate {A = ℕ} movesSize 0, length-replicate {A = ℕ} movesSize 0))
+    (λ c κs. (
+      table-storable (c .before .before .before .before .before .before .pre .states),
+      length-replicate {A = ℕ} movesSize 0,
+      length-replicate {A = ℕ} movesSize 0,
+    ))
     (λ c. (refl, refl))
     (λ c. search needs)
     (λ c. search needs)

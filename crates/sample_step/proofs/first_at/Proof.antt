@@ -35,7 +35,12 @@ first-at-spec =
     (λ c. omega (arith, start (c .before) .pre .in-dist))
     (λ c. omega (arith, start (c .before .before) .pre .in-dist))
     (λ c κs. search needs)
-    (λ c. record { inside = omega arith; earlier = head (c .before) .loop .inv .1; here = λ h. c .before .stands-at .ensures .yes (c .if1 .taken) })
+    (λ c. record {
+      inside = omega arith;
+      earlier = head (c .before) .loop .inv .1;
+      here = λ h. c .before .stands-at .ensures .yes
+          (c .if1 .taken);
+    })
     (λ c. omega arith)
     (λ c. omega arith)
     (λ c. (omega arith, below-more _ _ (head (c .before) .loop .inv .1) (c .before .stands-at .ensures .never (c .if1 .left))))

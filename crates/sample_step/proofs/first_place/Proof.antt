@@ -32,5 +32,9 @@ first-place-spec =
     })
     (λ c. omega arith)
     (λ c. omega arith)
-    (λ c. (omega arith, below-more _ _ (c .before .before .before .before .loop .inv .1) (sym (c .before .first-state .ensures) ∙ c .if1 .left)))
+    (λ c. (
+      omega arith,
+      below-more _ _ (c .before .before .before .before .loop .inv .1) (sym (c .before .first-state .ensures)
+          ∙ c .if1 .left),
+    ))
     (λ c. record { inside = omega arith; earlier = c .before .loop .inv .1; here = λ h. absurd (omega arith) }))

@@ -1,4 +1,5 @@
--- `sample_step::nearest` meets its contract. The loop's invariant: `best` is the first of the nearest among the first x places. Assumes nothing.
+-- `sample_step::nearest` meets its contract. The loop's invariant: `best` is the first of the nearest among the first x places. Assumes
+-- nothing.
 use Prim.Native.Nat.{_-_, _≤_}
 use native.Mathlib.Omega.{arith}
 use borrow.Author.Needs.{needs}

@@ -1,4 +1,5 @@
--- `sample_step::nearest_in_row` meets its contract. The loop's invariant: `best` is the first of the nearest among the cells before e. Assumes nothing.
+-- `sample_step::nearest_in_row` meets its contract. The loop's invariant: `best` is the first of the nearest among the cells before e.
+-- Assumes nothing.
 use mathlib.Core.List.{List}
 use Prim.Native.Nat.{ℕ, _+_, _-_, _≤_, _<_}
 use native.Mathlib.Omega.{arith}
@@ -25,7 +26,8 @@ abbrev cells : tie.At-loop Inv-loop μ-loop → List ℕ
 cells c = cellsOf (start c .args .forth .now)
 
 -- within the loop's body: e is a cell of the row,
-inside : (c : tie.In-loop Inv-loop μ-loop) → c .before .loop .e < endAt (start (c .before) .args .forth .now) (start (c .before) .args .place)
+inside : (c : tie.In-loop Inv-loop μ-loop) → c .before .loop .e < endAt (start (c .before) .args .forth .now)
+    (start (c .before) .args .place)
 inside c = omega (arith, c .loop-test .taken, c .before .before .before .row-end .ensures .0)
 
 -- so it is one of the cells,
@@ -33,7 +35,8 @@ in-cells : (c : tie.In-loop Inv-loop μ-loop) → c .before .loop .e < 1000000
 in-cells c = omega (arith, inside c, start (c .before) .pre .row .within)
 
 -- and its place has a number
-in-dist : (c : tie.After-cell Inv-loop μ-loop) → start (c .before .before) .args .from + c .cell .result < length (start (c .before .before) .args .dist .now)
+in-dist : (c : tie.After-cell Inv-loop μ-loop) → start (c .before .before) .args .from + c .cell .result < length
+    (start (c .before .before) .args .dist .now)
 in-dist c =
     let head = c .before .before in
     omega (arith, c .cell .ensures, start head .pre .in-dist (head .loop .e) (head .loop .inv .0) (inside (c .before)))
@@ -74,7 +77,11 @@ nearest-in-row-spec =
     μ-loop
     (λ c κs. (c .before .before .pre .row .long, c .before .before .pre .row .place))
     (λ c κs. (c .before .before .before .pre .row .long, c .before .before .before .pre .row .place))
-    (λ c. (omega (arith, c .row-start .ensures), omega (arith, c .row-start .ensures), nearest-none (λ x m. omega (arith, c .row-start .ensures, m .1, m .2))))
+    (λ c. (
+      omega (arith, c .row-start .ensures),
+      omega (arith, c .row-start .ensures),
+      nearest-none (λ x m. omega (arith, c .row-start .ensures, m .1, m .2)),
+    ))
     (λ c κs. let row = start (c .before) .pre .row in (row .long, omega (arith, inside c, row .within)))
     (λ c. omega (arith, in-dist c))
     (λ c. omega (arith, in-dist c))

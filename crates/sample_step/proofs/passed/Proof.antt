@@ -17,7 +17,8 @@ passed-spec =
     tie.close
     (tie.spec
     (λ c κs. search needs)
-    (λ c. let a = c .before .before .before .args in passed-none (bookSystem (a .book .now)) (a .aim) (a .s) (omega (arith, promises-are (a .book .now))))
+    (λ c. let a = c .before .before .before .args in passed-none (bookSystem (a .book .now)) (a .aim) (a .s)
+    (omega (arith, promises-are (a .book .now))))
     (λ c κs. search needs)
     (λ c. omega (arith, promises-are (start (c .before) .args .book .now)))
     (λ c.

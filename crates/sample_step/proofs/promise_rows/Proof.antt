@@ -48,7 +48,8 @@ loop-again c =
 returns : tie.Need-returns Inv-loop μ-loop
 returns c =
     let head = c .before in
-    let all = rowed-of-rows (head .loop .q) (omega (arith, promises-are (start head .args .book .now))) (omega arith) (head .loop .inv .2) in
+    let all = rowed-of-rows (head .loop .q) (omega (arith, promises-are (start head .args .book .now))) (omega arith)
+    (head .loop .inv .2) in
     record { rowed = all; long = head .loop .inv .1 }
 
 pub promise-rows-spec : {M : Type 1} → statement M

@@ -20,7 +20,8 @@ promise-rows-requires c κs =
       start .pre .0,
       counted .promises .ensures,
       omega arith,
-      subst (λ (y : ℕ). y * start .args .r ≤ length (start .args .dist .now)) (omega (arith, promises-are (start .args .book .now))) (start .pre .1),
+      subst (λ (y : ℕ). y * start .args .r ≤ length (start .args .dist .now)) (omega (arith, promises-are (start .args .book .now)))
+          (start .pre .1),
       start .pre .2,
     )
 

@@ -1,5 +1,5 @@
--- `sample_step::seek` meets its contract: the first next state at one less than the state's own distance is the best; where there is none, it is the
--- first of the nearest of all. Assumes nothing.
+-- `sample_step::seek` meets its contract: the first next state at one less than the state's own distance is the best; where there is none,
+-- it is the first of the nearest of all. Assumes nothing.
 use Prim.Native.Nat.{_+_, _*_, _≤_}
 use native.Mathlib.Omega.{arith}
 use borrow.Author.Needs.{needs}
@@ -21,7 +21,8 @@ returns : tie.Need-returns
 returns c =
     let wanted = c .before .before in
     let s = start (wanted .before .before) in
-    best-hit (s .pre .0) (s .args .place) (s .args .aim) (s .pre .1) (s .pre .2) _ _ (wanted .one-less .ensures) (c .before .first-at .ensures) (c .if1 .taken)
+    best-hit (s .pre .0) (s .args .place) (s .args .aim) (s .pre .1) (s .pre .2) _ _ (wanted .one-less .ensures)
+    (c .before .first-at .ensures) (c .if1 .taken)
 
 returns-2 : tie.Need-returns-2
 returns-2 c =
@@ -37,7 +38,8 @@ seek-spec =
     (λ c. omega (arith, room c, start c .pre .1))
     (λ c. omega (arith, room (c .before), start (c .before) .pre .1))
     (λ c κs. search needs)
-    (λ c κs. let s = start (c .before .before) in next-scannable (s .pre .0) (s .args .place) (s .args .aim) (s .pre .1) (s .pre .2) (s .pre .3))
+    (λ c κs. let s = start (c .before .before) in next-scannable (s .pre .0) (s .args .place) (s .args .aim) (s .pre .1) (s .pre .2)
+    (s .pre .3))
     returns
     (λ c κs.
     let s = start (c .before .before .before .before) in

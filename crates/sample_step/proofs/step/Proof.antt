@@ -18,7 +18,8 @@ returns-2 : tie.Need-returns-2
 returns-2 c =
     let at = c .before .before in
     let pre = start at .pre in
-    let best = best-in-row (pre .0) (start at .args .place) (at .passed .result) (pre .1) (at .passed .ensures .1) (pre .3 .stored (c .before .if1 .left))
+    let best = best-in-row (pre .0) (start at .args .place) (at .passed .result) (pre .1) (at .passed .ensures .1)
+    (pre .3 .stored (c .before .if1 .left))
     (c .nearest-in-row .result) (c .nearest-in-row .ensures) in
     record { passes = at .passed .ensures .0; aimed = at .passed .ensures .1; best = best }
 

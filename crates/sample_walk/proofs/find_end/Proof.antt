@@ -1,5 +1,5 @@
--- `sample::find_end` meets its contract. The loop's invariant: the walk has come to moment b, each pair of state and aim marked and none met
--- twice. It ends because there are no more than r times the aims such pairs. Assumes nothing.
+-- `sample::find_end` meets its contract. The loop's invariant: the walk has come to moment b, each pair of state and aim marked and none
+-- met twice. It ends because there are no more than r times the aims such pairs. Assumes nothing.
 use mathlib.Core.Path.{_≡_}
 use Prim.Native.Nat.{_*_, _-_}
 use native.Mathlib.Omega.{arith}
@@ -14,7 +14,8 @@ use Rattle.sample_walk.proofs.find_end.Statement.{statement}
 use Rattle.sample_walk.proofs.find_end.Tie as tie
 
 abbrev Inv-loop : tie.InvT-loop
-Inv-loop book table words₀ dist r forth signs place₀ aim₀ b₀ words place aim b = Walking book table dist forth signs words₀ words r b place aim
+Inv-loop book table words₀ dist r forth signs place₀ aim₀ b₀ words place aim b = Walking book table dist forth signs words₀ words r b
+    place aim
 
 abbrev μ-loop : tie.MeasureT-loop
 μ-loop book table words₀ dist r forth signs place₀ aim₀ b₀ words place aim b = r * aimsOf (bookSystem book) - b
@@ -55,4 +56,5 @@ find-end-spec =
     (λ c. omega (arith, walking-room (head (c .before .before .before) .loop .inv) (unmet (c .before .before .before))))
     loop-again
     (λ c. c .before .before .before .loop .inv .long)
-    (λ c. walking-ends (c .before .before .before .loop .inv) (marked-of _ (c .before .met .result) (c .before .met .ensures) (c .if1 .left))))
+    (λ c. walking-ends (c .before .before .before .loop .inv) (marked-of _ (c .before .met .result) (c .before .met .ensures)
+    (c .if1 .left))))

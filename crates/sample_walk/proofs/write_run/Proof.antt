@@ -11,7 +11,8 @@ use Rattle.sample_walk.proofs.write_run.Tie as tie
 
 abbrev Inv-loop : tie.InvT-loop
 Inv-loop book table run₀ dist r b last goal forth signs place₀ aim₀ a₀ i₀ run place aim a i =
-    Known book table dist run₀ r b last goal × Onward book table r forth signs × (i ≤ b) × Writing (bookSystem book) table b last goal run₀ run r i place aim a
+    Known book table dist run₀ r b last goal × Onward book table r forth signs × (i ≤ b)
+    × Writing (bookSystem book) table b last goal run₀ run r i place aim a
 
 abbrev μ-loop : tie.MeasureT-loop
 μ-loop book table run₀ dist r b last goal forth signs place₀ aim₀ a₀ i₀ run place aim a i = b - i
@@ -20,7 +21,8 @@ loop-holds : tie.Need-loop-holds Inv-loop μ-loop
 loop-holds c =
     let start = c .before .before .before .before .before .before .before in
     let known = start .pre .0 in
-    let begun = writing-starts (start .args .run .now) (known .walkable .states) (c .first-place .result) (c .first-place .ensures) (known .cut) in
+    let begun = writing-starts (start .args .run .now) (known .walkable .states) (c .first-place .result) (c .first-place .ensures)
+    (known .cut) in
     (known, start .pre .1, omega arith, begun)
 
 loop-again : tie.Need-loop-again Inv-loop μ-loop
@@ -30,7 +32,8 @@ loop-again c =
       inv .0,
       inv .1,
       omega arith,
-      writing-goes (inv .0 .walkable .states .livables) (inv .3) (inv .0 .inside) (omega (arith, inv .3 .long, inv .0 .fits, test .loop-test .taken))
+      writing-goes (inv .0 .walkable .states .livables) (inv .3) (inv .0 .inside)
+          (omega (arith, inv .3 .long, inv .0 .fits, test .loop-test .taken))
           _ _ _ (c .before .back-from .ensures) (c .step .ensures),
     )
 
@@ -40,7 +43,8 @@ write-run-spec =
     (tie.spec
     Inv-loop
     μ-loop
-    (λ c κs. let states = c .before .before .before .before .before .before .pre .0 .walkable .states .states in (states .shaped, states .in-table))
+    (λ c κs. let states = c .before .before .before .before .before .before .pre .0 .walkable .states .states in
+    (states .shaped, states .in-table))
     loop-holds
     (λ c. let inv = c .before .loop .inv in omega (arith, inv .3 .at .inside, inv .0 .walkable .states .states .few))
     (λ c. let inv = c .before .before .loop .inv in omega (arith, inv .3 .at .inside, inv .0 .walkable .states .states .in-table))

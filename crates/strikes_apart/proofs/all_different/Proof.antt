@@ -18,10 +18,12 @@ abbrev μ-loop : tie.MeasureT-loop
 
 loop-again : tie.Need-loop-again Inv-loop μ-loop
 loop-again c =
-    subst (Window _ _) (c .before .next .given .1) (c .before .before .before .window .ensures) .1 (c .before .before .before .before .before .loop .inv)
+    subst (Window _ _) (c .before .next .given .1) (c .before .before .before .window .ensures) .1
+    (c .before .before .before .before .before .loop .inv)
 
 returns-2 : tie.Need-returns-2 Inv-loop μ-loop
-returns-2 c = λ e. subst (Window _ _) (c .enum-told2 .given .1) (c .before .before .window .ensures) (c .before .before .before .before .loop .inv)
+returns-2 c = λ e. subst (Window _ _) (c .enum-told2 .given .1) (c .before .before .window .ensures)
+    (c .before .before .before .before .loop .inv)
 
 pub all-different-spec : {M : Type 1} → statement M
 all-different-spec =

@@ -1,5 +1,5 @@
--- `strikes_entries::entries_right` meets its contract. The loop's invariant: the first i entries show what they must, `near` and `far` have not gone too far,
--- and there are places for classes. Assumes nothing.
+-- `strikes_entries::entries_right` meets its contract. The loop's invariant: the first i entries show what they must, `near` and `far` have
+-- not gone too far, and there are places for classes. Assumes nothing.
 use mathlib.Core.Path.{_≡_, refl, sym, _∙_}
 use Prim.Native.Nat.{_-_, _<_}
 use lib.ListN.{length}
@@ -24,8 +24,14 @@ abbrev μ-loop : tie.MeasureT-loop
 μ-loop book sb sn wb wn distinct states near₀ far₀ earlier₀ luck₀ last₀ i₀ near far earlier luck last i = states - i
 
 -- as many words as states
-within : (c : tie.In-loop Inv-loop μ-loop) → let a = c .before .before .before .before .before .before .before .before .args in c .before .loop .i < length (wordsOf (a .wb .now) (a .wn .now))
-within c = omega (arith, c .before .loop .inv .0 .entered .counted, c .loop-test .taken, c .before .before .before .before .before .before .before .before .pre .as-many)
+within : (c : tie.In-loop Inv-loop μ-loop) → let a = c .before .before .before .before .before .before .before .before .args in
+    c .before .loop .i < length (wordsOf (a .wb .now) (a .wn .now))
+within c = omega (
+  arith,
+  c .before .loop .inv .0 .entered .counted,
+  c .loop-test .taken,
+  c .before .before .before .before .before .before .before .before .pre .as-many,
+)
 
 -- the turn, once the word and the places of smaller words are known
 turn : (c : tie.After-reach2 Inv-loop μ-loop)
@@ -48,8 +54,10 @@ turn c =
 right : (c : tie.After-entry-right Inv-loop μ-loop)
     → let at-loop = c .before .before .before .before .before .before .before .before .before .before .before in
     let a = at-loop .before .before .before .before .before .before .before .args in
-    Says (EntryOk (bookSystem (a .book .now)) (statesOf (a .sb .now) (a .sn .now)) (wordsOf (a .wb .now) (a .wn .now)) (at-loop .loop .i)) (c .entry-right .result)
-right c = let placed = c .before .before .before .before .before in entry-says (turn (placed .before)) (placed .places .ensures) (c .entry-right .ensures)
+    Says (EntryOk (bookSystem (a .book .now)) (statesOf (a .sb .now) (a .sn .now)) (wordsOf (a .wb .now) (a .wn .now)) (at-loop .loop .i))
+    (c .entry-right .result)
+right c = let placed = c .before .before .before .before .before in entry-says (turn (placed .before)) (placed .places .ensures)
+    (c .entry-right .ensures)
 
 likely-requires : tie.Need-likely-requires Inv-loop μ-loop
 likely-requires c κs =
@@ -61,7 +69,8 @@ entry-right-requires c κs =
     let placed = c .before .before .before .before in
     let here = turn (placed .before) in
     entry-asks here (placed .places .ensures) (λ k.
-    follows-within here (placed .places .ensures) (placed .before .before .before .before .before .before .loop .inv .0 .entered .passed) (c .follows .ensures k))
+    follows-within here (placed .places .ensures) (placed .before .before .before .before .before .before .loop .inv .0 .entered .passed)
+    (c .follows .ensures k))
 
 returns : tie.Need-returns Inv-loop μ-loop
 returns c =
@@ -72,15 +81,19 @@ loop-again : tie.Need-loop-again Inv-loop μ-loop
 loop-again c =
     let here = c .before .before .before .before .before .before .before .before in
     let in-loop = here .before .before .before .before in
-    let ok = right (c .before .before) .yes (not-false _ (c .before .if1 .left)) in
-    (entered-more (turn here) (in-loop .before .loop .inv .0) (in-loop .loop-test .taken) ok, c .before .before .before .before .before .likely .ensures ∙ in-loop .before .loop .inv .1)
+    let ok = right (c .before .before) .yes (not-false _ (c .before .if1 .left)) in (
+      entered-more (turn here) (in-loop .before .loop .inv .0) (in-loop .loop-test .taken) ok,
+      c .before .before .before .before .before .likely .ensures ∙ in-loop .before .loop .inv .1,
+    )
 
 loop-again-2 : tie.Need-loop-again-2 Inv-loop μ-loop
 loop-again-2 c =
     let here = c .before .before .before .before .before .before .before .before in
     let in-loop = here .before .before .before .before in
-    let ok = right (c .before .before) .yes (not-false _ (c .before .if1 .left)) in
-    (entered-more (turn here) (in-loop .before .loop .inv .0) (in-loop .loop-test .taken) ok, c .before .before .before .before .before .likely .ensures ∙ in-loop .before .loop .inv .1)
+    let ok = right (c .before .before) .yes (not-false _ (c .before .if1 .left)) in (
+      entered-more (turn here) (in-loop .before .loop .inv .0) (in-loop .loop-test .taken) ok,
+      c .before .before .before .before .before .likely .ensures ∙ in-loop .before .loop .inv .1,
+    )
 
 pub entries-right-spec : {M : Type 1} → statement M
 entries-right-spec =

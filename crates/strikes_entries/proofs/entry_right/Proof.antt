@@ -1,4 +1,5 @@
--- `strikes_entries::entry_right` meets its contract: a kept promise is wrong, else the next states decide, known or counted. Assumes nothing.
+-- `strikes_entries::entry_right` meets its contract: a kept promise is wrong, else the next states decide, known or counted. Assumes
+-- nothing.
 use Rattle.ground.proofs.Saying.{says-yes, says-no, says-as}
 use Rattle.strikes_entries.proofs.entry_right.Statement.{statement}
 use Rattle.strikes_entries.proofs.entry_right.Tie as tie

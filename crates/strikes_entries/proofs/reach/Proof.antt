@@ -18,8 +18,11 @@ abbrev μ-loop : tie.MeasureT-loop
 
 loop-again : tie.Need-loop-again Inv-loop μ-loop
 loop-again c =
-    let inv = c .before .before .before .loop .inv in
-    (inv .0, under-more (inv .1) (omega (arith, inv .0, c .before .before .loop-test .taken)) (omega (arith, c .before .word-at .ensures, c .if1 .left)))
+    let inv = c .before .before .before .loop .inv in (
+      inv .0,
+      under-more (inv .1) (omega (arith, inv .0, c .before .before .loop-test .taken))
+          (omega (arith, c .before .word-at .ensures, c .if1 .left)),
+    )
 
 pub reach-spec : {M : Type 1} → statement M
 reach-spec =

@@ -7,7 +7,8 @@ use Rattle.strikes_entries.proofs.shown_by.Statement.{statement}
 use Rattle.strikes_entries.proofs.shown_by.Tie as tie
 
 returns : tie.Need-returns
-returns c = λ e. follows-at (c .before .before .before .if1 .taken) (c .before .before .state-at .ensures) (c .before .state-at2 .ensures) (c .freer .ensures e)
+returns c = λ e. follows-at (c .before .before .before .if1 .taken) (c .before .before .state-at .ensures) (c .before .state-at2 .ensures)
+    (c .freer .ensures e)
 
 pub shown-by-spec : {M : Type 1} → statement M
 shown-by-spec =

@@ -23,7 +23,8 @@ loop-again c =
 loop-again-2 : tie.Need-loop-again-2 Inv-loop μ-loop
 loop-again-2 c =
     let l = c .before .before .before in
-    beginning-more (l .before .loop .inv) _ (l .loop-test .taken) (λ e. absurd (no-both e (sym (c .before .kept .ensures) ∙ c .if1 .left))) (λ _. refl)
+    beginning-more (l .before .loop .inv) _ (l .loop-test .taken)
+    (λ e. absurd (no-both e (sym (c .before .kept .ensures) ∙ c .if1 .left))) (λ _. refl)
 
 pub begin-spec : {M : Type 1} → statement M
 begin-spec =
@@ -33,7 +34,12 @@ begin-spec =
     μ-loop
     (λ c. beginning-none _ _ _ _)
     (λ c. search needs)
-    (λ c. let l = c .before in omega (arith, l .loop-test .taken, l .before .loop .inv .long, l .before .before .before .before .before .pre .2))
+    (λ c. let l = c .before in omega (
+      arith,
+      l .loop-test .taken,
+      l .before .loop .inv .long,
+      l .before .before .before .before .before .pre .2,
+    ))
     (λ c κs. search needs)
     (λ c. search needs)
     (λ c. c .before .before .before .loop-test .taken)

@@ -26,7 +26,8 @@ loop-again c = let l = c .before .before in let so = c .before .is-so .ensures .
 loop-again-2 : tie.Need-loop-again-2 Inv-loop μ-loop
 loop-again-2 c = let l = c .before .before in (
   omega (arith, l .loop-test .taken),
-  alone-past (l .before .before .before .before .before .pre .0) (l .before .loop .inv .1) (c .before .is-so .ensures .never (c .if1 .left)),
+  alone-past (l .before .before .before .before .before .pre .0) (l .before .loop .inv .1)
+      (c .before .is-so .ensures .never (c .if1 .left)),
 )
 
 pub list-alone-spec : {M : Type 1} → statement M
@@ -38,9 +39,19 @@ list-alone-spec =
     (λ c. (omega arith, alone-none _ _ _ _))
     (λ c κs. (omega (arith, c .loop-test .taken, c .before .before .before .before .before .pre .0 .log-is .in-words), c .loop-test .taken))
     (λ c. omega (arith, c .before .before .loop-test .taken, c .before .before .before .before .before .before .before .pre .0 .few))
-    (λ c. omega (arith, room c, c .before .before .before .loop .inv .1 .log-long, c .before .before .before .before .before .before .before .pre .1))
+    (λ c. omega (
+      arith,
+      room c,
+      c .before .before .before .loop .inv .1 .log-long,
+      c .before .before .before .before .before .before .before .pre .1,
+    ))
     (λ c. room c)
-    (λ c. omega (arith, room c, c .before .before .before .loop .inv .1 .log-long, c .before .before .before .before .before .before .before .pre .1))
+    (λ c. omega (
+      arith,
+      room c,
+      c .before .before .before .loop .inv .1 .log-long,
+      c .before .before .before .before .before .before .before .pre .1,
+    ))
     (λ c. omega (arith, c .before .before .loop-test .taken, c .before .before .before .before .before .before .before .pre .0 .few))
     (λ c. omega (arith, c .before .before .loop-test .taken))
     loop-again

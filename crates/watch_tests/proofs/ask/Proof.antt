@@ -20,7 +20,8 @@ start c = c .before .before .before .before .before .before .before
 
 -- at the loop: the moves can be tested;
 tests : (c : tie.At-loop Inv-loop μ-loop)
-    → Testable (start c .args .book .now) (start c .args .table .now) (start c .args .words .now) (c .loop .row) (start c .args .signs .now) (c .loop .line)
+    → Testable (start c .args .book .now) (start c .args .table .now) (start c .args .words .now) (c .loop .row)
+    (start c .args .signs .now) (c .loop .line)
     (start c .args .k)
 tests c = testable-same (start c .pre .0) (c .loop .inv .hangs .long) (c .loop .inv .line-long)
 
@@ -64,7 +65,8 @@ ask-spec =
     (tie.spec
     Inv-loop
     μ-loop
-    (λ c. asked-on-none (c .before .before .before .before .before .before .pre .1) (c .before .before .before .before .before .before .pre .2))
+    (λ c. asked-on-none (c .before .before .before .before .before .before .pre .1)
+    (c .before .before .before .before .before .before .pre .2))
     (λ c. omega (arith, room c .1))
     (λ c. room (c .before) .0)
     (λ c. omega (arith, place (c .before) .0, place (c .before) .1))

@@ -18,7 +18,8 @@ abbrev start : tie.At-loop Inv-loop μ-loop → tie.Start Inv-loop μ-loop
 start c = c .before .before .before .before
 
 -- within the loop: i is a place,
-inside : (c : tie.In-loop Inv-loop μ-loop) → (c .before .loop .i < length (start (c .before) .args .row .now)) × (c .before .loop .i < mostStates)
+inside : (c : tie.In-loop Inv-loop μ-loop) → (c .before .loop .i < length (start (c .before) .args .row .now))
+    × (c .before .loop .i < mostStates)
 inside c =
     let long = c .before .loop .inv .1 .long in
     (omega (arith, c .loop-test .taken, long), omega (arith, c .loop-test .taken, long, start (c .before) .pre .few))

@@ -26,11 +26,13 @@ of-helped c = c .before .before .before .before
 
 -- within the loop: the line has room for the place, and all numbers are small;
 front : (c : tie.In-loop Inv-loop μ-loop)
-    → (c .before .loop .helped < length (c .before .loop .line)) × (c .before .loop .helped < mostStates) × (c .before .loop .i < mostStates)
+    → (c .before .loop .helped < length (c .before .loop .line)) × (c .before .loop .helped < mostStates)
+    × (c .before .loop .i < mostStates)
 front c = let pre = start (c .before) .pre in dividing-front (pre .0) (c .before .loop .inv) (pre .2) (c .loop-test .taken)
 
 -- and where it stands alone, the log has room for it
-room : (c : tie.Then2 Inv-loop μ-loop) → (of-lone c .before .loop .tail < length (of-lone c .before .loop .log)) × (of-lone c .before .loop .tail < mostStates)
+room : (c : tie.Then2 Inv-loop μ-loop) → (of-lone c .before .loop .tail < length (of-lone c .before .loop .log))
+    × (of-lone c .before .loop .tail < mostStates)
 room c =
     let l = of-lone c in
     let pre = start (l .before) .pre in

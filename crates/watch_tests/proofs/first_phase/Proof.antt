@@ -70,6 +70,7 @@ first-phase-spec =
     fall-requires
     (λ c. c .before .before .before .before .fall .ensures .long)
     (λ c. spread (c .before .before .before .before) .spread .ensures .0 .long)
-    (λ c. let f = c .before .before .before .before in f .fall .ensures .log-long ∙ divided (copied (spread f)) .divide .ensures .0 .log-long)
+    (λ c. let f = c .before .before .before .before in f .fall .ensures .log-long
+    ∙ divided (copied (spread f)) .divide .ensures .0 .log-long)
     line-long
     returns)

@@ -15,6 +15,7 @@ is-cut-spec =
     (λ c κs. search needs)
     (λ c κs. search needs)
     (λ c. cut-helped (c .before .before .before .wide .ensures) (c .before .is-helped .ensures) (c .if3 .taken))
-    (λ c. cut-lost (c .before .before .before .wide .ensures) (c .before .before .before .before .before .if1 .taken) (c .before .before .if2 .taken))
+    (λ c. cut-lost (c .before .before .before .wide .ensures) (c .before .before .before .before .before .if1 .taken)
+    (c .before .before .if2 .taken))
     (λ c. cut-alone (c .before .wide .ensures) (c .if2 .left))
     (λ c. cut-struck (c .if1 .left)))

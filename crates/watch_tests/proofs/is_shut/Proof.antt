@@ -7,7 +7,8 @@ use Rattle.watch_tests.proofs.is_shut.Statement.{statement}
 use Rattle.watch_tests.proofs.is_shut.Tie as tie
 
 returns-2 : tie.Need-returns-2
-returns-2 c = λ e words S. seen-shut _ _ _ _ (c .before .before .before .before .before .slot .ensures) (c .before .before .before .wide .ensures)
+returns-2 c = λ e words S. seen-shut _ _ _ _ (c .before .before .before .before .before .slot .ensures)
+    (c .before .before .before .wide .ensures)
     (c .before .before .if2 .taken) refl (c .before .if3 .taken) (c .stricter .ensures e) S
 
 pub is-shut-spec : {M : Type 1} → statement M

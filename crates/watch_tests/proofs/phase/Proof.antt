@@ -49,8 +49,10 @@ returns-2 : tie.Need-returns-2
 returns-2 c =
     let f = c .before .before .before .before in
     let h = rehung f in
-    let pre = start (cut h) .pre in
-    (phase-watched (pre .before) (cut h .loosen .ensures) (pre .some) (h .rehang-lost .ensures .0) (f .fall .ensures), h .rehang-lost .ensures .1)
+    let pre = start (cut h) .pre in (
+      phase-watched (pre .before) (cut h .loosen .ensures) (pre .some) (h .rehang-lost .ensures .0) (f .fall .ensures),
+      h .rehang-lost .ensures .1,
+    )
 
 pub phase-spec : {M : Type 1} → statement M
 phase-spec =

@@ -1,4 +1,5 @@
--- `watch_tests::sift` meets its contract. The loop's invariant: the line's places behind its first n, before g, do not join. Assumes nothing.
+-- `watch_tests::sift` meets its contract. The loop's invariant: the line's places behind its first n, before g, do not join. Assumes
+-- nothing.
 use Prim.Native.Nat.{_-_, _≤_, _<_}
 use native.Mathlib.Omega.{arith}
 use lib.ListN.{length, getD}
@@ -10,7 +11,8 @@ use Rattle.watch_tests.proofs.sift.Statement.{statement}
 use Rattle.watch_tests.proofs.sift.Tie as tie
 
 abbrev Inv-loop : tie.InvT-loop
-Inv-loop book table words row₀ signs line₀ head from k t place n₀ g₀ row line n g = SiftedTo words row₀ row (To book table) line₀ line head from n g k
+Inv-loop book table words row₀ signs line₀ head from k t place n₀ g₀ row line n g = SiftedTo words row₀ row (To book table) line₀ line
+    head from n g k
 
 abbrev μ-loop : tie.MeasureT-loop
 μ-loop book table words row₀ signs line₀ head from k t place n₀ g₀ row line n g = k - g
@@ -34,7 +36,8 @@ first c =
 
 -- at the loop: the moves can be tested;
 tests : (c : tie.At-loop Inv-loop μ-loop)
-    → Testable (start c .args .book .now) (start c .args .table .now) (start c .args .words .now) (c .loop .row) (start c .args .signs .now) (c .loop .line)
+    → Testable (start c .args .book .now) (start c .args .table .now) (start c .args .words .now) (c .loop .row)
+    (start c .args .signs .now) (c .loop .line)
     (start c .args .k)
 tests c = testable-same (start c .pre .0) (c .loop .inv .spreading .hangs .long) (c .loop .inv .line-long)
 
@@ -74,7 +77,8 @@ loop-again-2 : tie.Need-loop-again-2 Inv-loop μ-loop
 loop-again-2 c =
     let l = c .before .before .before .before in
     let free = l .before .loop .inv .spreading .ranked .places _ (l .loop-test .taken) .1 in
-    sifted-past (l .before .loop .inv) (start (l .before) .pre .2) (l .loop-test .taken) (c .before .joins .ensures .never (c .if1 .left) free)
+    sifted-past (l .before .loop .inv) (start (l .before) .pre .2) (l .loop-test .taken)
+    (c .before .joins .ensures .never (c .if1 .left) free)
 
 returns : tie.Need-returns Inv-loop μ-loop
 returns c =

@@ -1,5 +1,5 @@
--- `watch_tests::spread_noting` meets its contract. The loop's invariant: the line's first `head` places were spread from, or need not be, and what is
--- noted is so. Assumes nothing.
+-- `watch_tests::spread_noting` meets its contract. The loop's invariant: the line's first `head` places were spread from, or need not be,
+-- and what is noted is so. Assumes nothing.
 use mathlib.Core.Path.{_≡_, _∙_, refl}
 use Prim.Native.Nat.{_-_, _≤_, _<_}
 use native.Mathlib.Omega.{arith}
@@ -7,7 +7,8 @@ use lib.ListN.{length, getD}
 use Rattle.meaning.specs.Promises.{mostStates}
 use Rattle.rules.specs.Table.{To}
 use Rattle.watch_tests.specs.Tests.{Spreading, Seen, Testable}
-use Rattle.watch_tests.proofs.Sifting.{spreading-self, spreading-next, spreading-sifted, spreading-done, spreading-all, seen-kept, seen-noted, testable-same}
+use Rattle.watch_tests.proofs.Sifting.{spreading-self, spreading-next, spreading-sifted, spreading-done, spreading-all, seen-kept}
+use Rattle.watch_tests.proofs.Sifting.{seen-noted, testable-same}
 use Rattle.watch_tests.proofs.spread_noting.Statement.{statement}
 use Rattle.watch_tests.proofs.spread_noting.Tie as tie
 
@@ -34,7 +35,8 @@ noted c = c .before .before .before
 
 -- at the loop: the moves can be tested, and there is a slot;
 tests : (c : tie.At-loop Inv-loop μ-loop)
-    → Testable (start c .args .book .now) (start c .args .table .now) (start c .args .words .now) (c .loop .row) (start c .args .signs .now) (c .loop .line)
+    → Testable (start c .args .book .now) (start c .args .table .now) (start c .args .words .now) (c .loop .row)
+    (start c .args .signs .now) (c .loop .line)
     (start c .args .k)
 tests c = testable-same (start c .pre .0) (c .loop .inv .0 .hangs .long) (c .loop .inv .1)
 
@@ -91,7 +93,8 @@ loop-again-2 c =
     let N = c .before .before .note .ensures in (
       spreading-sifted (inv .0) (E .0) (E .1) (E .2),
       E .4 ∙ inv .1,
-      seen-noted {t = getD (sifted (noted c) .before .loop .line) (sifted (noted c) .before .loop .head) 0} (seen-kept (E .0 .hangs) (inv .2)) (E .1) N,
+      seen-noted {t = getD (sifted (noted c) .before .loop .line) (sifted (noted c) .before .loop .head) 0}
+          (seen-kept (E .0 .hangs) (inv .2)) (E .1) N,
       N .long ∙ inv .3,
     )
 

@@ -16,8 +16,11 @@ abbrev μ-loop : tie.MeasureT-loop
 
 loop-again : tie.Need-loop-again Inv-loop μ-loop
 loop-again c =
-    let turn = c .before .before in
-    (omega (arith, turn .before .loop .inv .0), standing-next (turn .before .loop .inv .0) (turn .loop-test .taken) (turn .before .loop .inv .1) (c .if1 .left))
+    let turn = c .before .before in (
+      omega (arith, turn .before .loop .inv .0),
+      standing-next (turn .before .loop .inv .0) (turn .loop-test .taken)
+          (turn .before .loop .inv .1) (c .if1 .left),
+    )
 
 pub standing-spec : {M : Type 1} → statement M
 standing-spec =

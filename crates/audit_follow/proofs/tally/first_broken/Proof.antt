@@ -23,7 +23,11 @@ unfolding bookBroke
 returns c =
     let turn = c .before .before in
     let start = turn .before .before .before .before in
-    let within : turn .before .loop .i < stepsOf (start .args .book .now) = omega (arith, turn .before .before .steps .ensures, turn .loop-test .taken) in
+    let within : turn .before .loop .i < stepsOf (start .args .book .now) = omega (
+      arith,
+      turn .before .before .steps .ensures,
+      turn .loop-test .taken,
+    ) in
     let one : turn .before .loop .i + 1 ≡ suc (turn .before .loop .i) = omega arith in
     one ∙ first-is _ _ _ (turn .before .loop .inv .1) (sym (c .before .broken-by .ensures) ∙ c .if1 .taken) within
 
@@ -45,7 +49,12 @@ first-broken-spec =
     loop-holds
     (λ c κs. (c .before .before .before .before .pre, omega (arith, c .before .before .steps .ensures, c .loop-test .taken)))
     (λ c. omega arith)
-    (λ c. omega (arith, c .before .before .before .before .steps .ensures, c .before .before .loop-test .taken, c .before .before .before .before .before .before .pre .few-steps))
+    (λ c. omega (
+      arith,
+      c .before .before .before .before .steps .ensures,
+      c .before .before .loop-test .taken,
+      c .before .before .before .before .before .before .pre .few-steps,
+    ))
     returns
     (λ c. omega arith)
     (λ c. omega arith)

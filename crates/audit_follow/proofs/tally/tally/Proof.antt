@@ -8,7 +8,8 @@ use Rattle.audit_follow.proofs.tally.tally.Statement.{statement}
 use Rattle.audit_follow.proofs.tally.tally.Tie as tie
 
 abbrev Inv-loop : tie.InvT-loop
-Inv-loop book s t times kept₀ broken₀ count some₀ i₀ kept broken some i = (i ≤ count) × Tallied book s t times i kept₀ broken₀ kept broken some
+Inv-loop book s t times kept₀ broken₀ count some₀ i₀ kept broken some i = (i ≤ count) × Tallied book s t times i kept₀ broken₀ kept broken
+    some
 
 abbrev μ-loop : tie.MeasureT-loop
 μ-loop book s t times kept₀ broken₀ count some₀ i₀ kept broken some i = count - i
@@ -17,7 +18,12 @@ tally-rule-requires : tie.Need-tally-rule-requires Inv-loop μ-loop
 tally-rule-requires c κs =
     let head = c .before .before .before in
     let start = head .before .before .before in
-    let few : head .loop .i < 255 = omega (arith, head .before .steps .ensures, c .before .before .loop-test .taken, start .pre .0 .few-steps) in
+    let few : head .loop .i < 255 = omega (
+      arith,
+      head .before .steps .ensures,
+      c .before .before .loop-test .taken,
+      start .pre .0 .few-steps,
+    ) in
     let fits = place-fits _ _ _ _ _ _ _ _ _ _ (start .pre .1) (start .pre .2) (start .pre .3) (head .loop .inv .1) few in
     (start .pre .0, omega (arith, head .before .steps .ensures, c .before .before .loop-test .taken), fits .0, fits .1)
 

@@ -13,13 +13,19 @@ add-kept c =
 
 add-broken : tie.Need-add-broken
 add-broken c =
-    let breaks = c .before .before .before .before .before .step-asks .result && not (c .before .before .before .before .step-allows .result) in
-    omega (arith, counted-fits breaks _ _ _ _ (c .before .counted2 .ensures) (c .before .before .before .before .before .before .before .pre .3))
+    let breaks = c .before .before .before .before .before .step-asks .result && not
+    (c .before .before .before .before .step-allows .result) in
+    omega (
+      arith,
+      counted-fits breaks _ _ _ _ (c .before .counted2 .ensures)
+          (c .before .before .before .before .before .before .before .pre .3),
+    )
 
 returns : tie.Need-returns
 returns c =
     let tested = c .before .before .before .before in
-    rule-tallied _ _ _ _ _ _ _ _ _ _ _ (tested .before .step-asks .ensures) (tested .step-allows .ensures) (c .before .before .before .counted .ensures)
+    rule-tallied _ _ _ _ _ _ _ _ _ _ _ (tested .before .step-asks .ensures) (tested .step-allows .ensures)
+    (c .before .before .before .counted .ensures)
     (c .before .counted2 .ensures)
 
 pub tally-rule-spec : {M : Type 1} → statement M

@@ -36,8 +36,11 @@ array-write-marks c =
 loop-again : tie.Need-loop-again Inv-loop μ-loop
 loop-again c =
     let l = c .before .before .loop in
-    let numbers = c .before .before .before .args .rules .now in
-    (omega arith, ap (λ (m : List ℕ). set m (getD numbers (l .i - 1) 0 - 1) 1) (l .inv .1) ∙ marks-more numbers (l .i) (omega arith) (l .inv .0))
+    let numbers = c .before .before .before .args .rules .now in (
+      omega arith,
+      ap (λ (m : List ℕ). set m (getD numbers (l .i - 1) 0 - 1) 1) (l .inv .1) ∙ marks-more numbers (l .i) (omega arith)
+          (l .inv .0),
+    )
 
 returns : tie.Need-returns Inv-loop μ-loop
 returns c =

@@ -24,7 +24,8 @@ wrote c after next k = RowWritten (kindOf k) (c .args .sheet .now) (c .args .at)
 asked : (start : tie.Start) {k : Kind} → start .args .kind ≡ k → asks start k
 asked start e = subst (asks start) e (start .pre)
 
-written : (start : tie.Start) (after : List ℕ) (next : ℕ) {k : Kind} → start .args .kind ≡ k → wrote start after next k → wrote start after next (start .args .kind)
+written : (start : tie.Start) (after : List ℕ) (next : ℕ) {k : Kind} → start .args .kind ≡ k → wrote start after next k
+    → wrote start after next (start .args .kind)
 written start after next e w = subst (wrote start after next) (sym e) w
 
 pub compile-spec : {M : Type 1} → statement M
@@ -50,4 +51,5 @@ compile-spec =
     written (told .before .before .before .before) _ _ (told .enum-told3 .given .1) (c .before .before .step .ensures))
     (λ c. search needs)
     (λ c. let told = c .before .before .before .before in
-    written (told .before .before .before .before) _ _ (told .enum-told4 .given .1) (promise-written _ _ _ _ _ _ (c .before .before .list2 .ensures))))
+    written (told .before .before .before .before) _ _ (told .enum-told4 .given .1)
+    (promise-written _ _ _ _ _ _ (c .before .before .list2 .ensures))))

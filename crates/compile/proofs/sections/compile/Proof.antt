@@ -63,7 +63,12 @@ section-requires-4 : tie.Need-section-requires-4
 unfolding byte promisesAt
 section-requires-4 c κs =
     let t = c .before .before .before .before in
-    record { good = asks (from-counts (counted (limits (firsts t)))) .0; long = steps-long t; all = refl; begins = t .section3 .ensures .there }
+    record {
+      good = asks (from-counts (counted (limits (firsts t)))) .0;
+      long = steps-long t;
+      all = refl;
+      begins = t .section3 .ensures .there;
+    }
 
 returns : tie.Need-returns
 unfolding byte

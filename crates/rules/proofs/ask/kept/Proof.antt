@@ -11,7 +11,8 @@ returns : tie.Need-returns
 unfolding bookKept
 returns c =
     let a = c .before .before .before .args in
-    past-last (a .k) (promisesOf (a .book .now)) _ (someAt (a .book .now) (promiseAt (a .k)) (a .s)) (c .before .promises .ensures) (c .if1 .taken)
+    past-last (a .k) (promisesOf (a .book .now)) _ (someAt (a .book .now) (promiseAt (a .k)) (a .s)) (c .before .promises .ensures)
+    (c .if1 .taken)
 
 returns-2 : tie.Need-returns-2
 unfolding bookKept

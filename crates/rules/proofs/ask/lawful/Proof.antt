@@ -17,7 +17,8 @@ unfolding bookLawful
 returns-2 c =
     let a = c .before .before .before .before .args in
     c .limits-ok .ensures
-    ∙ is-below (a .s) (lettersOf (a .book .now)) _ (limitsOk (a .book .now) (a .s)) (c .before .before .letters .ensures) (c .before .if1 .left)
+    ∙ is-below (a .s) (lettersOf (a .book .now)) _ (limitsOk (a .book .now) (a .s)) (c .before .before .letters .ensures)
+    (c .before .if1 .left)
 
 pub lawful-spec : {M : Type 1} → statement M
 lawful-spec = tie.close (tie.spec (λ c κs. search needs) (λ c. search needs) returns (λ c κs. search needs) returns-2)

@@ -24,7 +24,8 @@ loop-again c =
     let firsts = turn .before .before in
     let start = firsts .before .before .before in
     let l = turn .before .loop in
-    let w = subst₂ (λ (from to : ℕ). Copied (start .args .book .now) from (l .clauses) to (copied .copy .last .1 .1 .0)) (from .first-at .ensures)
+    let w = subst₂ (λ (from to : ℕ). Copied (start .args .book .now) from (l .clauses) to (copied .copy .last .1 .1 .0))
+    (from .first-at .ensures)
     (to .gathered-at .ensures) (copied .copy .ensures) in
     let h = turn .loop-test .taken in
     let e = firsts .firsts .ensures in

@@ -32,7 +32,8 @@ loop-again : tie.Need-loop-again Inv-loop μ-loop
 loop-again c = let turn = c .before .before in listed-more (start (turn .before) .pre .0 .shaped) (turn .before .loop .inv) (rule turn)
 
 loop-again-2 : tie.Need-loop-again-2 Inv-loop μ-loop
-loop-again-2 c = let turn = c .before .before in listed-past (turn .before .loop .inv) (rule turn) (c .before .asks-somewhere .ensures (c .if1 .left))
+loop-again-2 c = let turn = c .before .before in listed-past (turn .before .loop .inv) (rule turn)
+    (c .before .asks-somewhere .ensures (c .if1 .left))
 
 pub list-live-spec : {M : Type 1} → statement M
 list-live-spec =
@@ -54,4 +55,5 @@ list-live-spec =
     (λ c. omega (arith, c .before .before .loop-test .taken))
     loop-again-2
     (λ c. c .before .loop .inv .long ∙ sym (start (c .before) .pre .1))
-    (λ c. listed-all (start (c .before) .pre .0 .shaped) (c .before .loop .inv) (omega (arith, c .loop-test .left, c .before .before .steps .ensures))))
+    (λ c. listed-all (start (c .before) .pre .0 .shaped) (c .before .loop .inv)
+    (omega (arith, c .loop-test .left, c .before .before .steps .ensures))))

@@ -1,4 +1,5 @@
--- `words::write` meets its contract. The loop's invariant: the first k words are written, and what stands before them is kept. Assumes nothing.
+-- `words::write` meets its contract. The loop's invariant: the first k words are written, and what stands before them is kept. Assumes
+-- nothing.
 use Prim.Native.Nat.{_+_, _-_, _<_}
 use native.Mathlib.Omega.{arith}
 use lib.ListN.{length}
@@ -21,7 +22,10 @@ start c = c .before .before .before .before
 
 -- within the loop: the word's place stands in the list, and near
 far : (c : tie.In-loop Inv-loop μ-loop) → (c .before .loop .k < 4) × (start (c .before) .args .at + c .before .loop .k < 262148)
-far c = let window = start (c .before) .pre .1 in (omega (arith, c .loop-test .taken, window .narrow), word-inside window (c .loop-test .taken) .1)
+far c = let window = start (c .before) .pre .1 in (
+  omega (arith, c .loop-test .taken, window .narrow),
+  word-inside window (c .loop-test .taken) .1,
+)
 
 inside : (c : tie.In-loop Inv-loop μ-loop) → start (c .before) .args .at + c .before .loop .k < length (c .before .loop .signs)
 inside c = omega (arith, word-inside (start (c .before) .pre .1) (c .loop-test .taken) .0, c .before .loop .inv .1 .long)
