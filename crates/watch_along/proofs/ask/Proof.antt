@@ -14,41 +14,49 @@ Inv-loop words row₀ forth log m tail line₀ n₀ g₀ row line n g = AskedTo 
 abbrev μ-loop : tie.MeasureT-loop
 μ-loop words row₀ forth log m tail line₀ n₀ g₀ row line n g = tail - g
 
+-- where the function began
+abbrev start : tie.In-loop Inv-loop μ-loop → tie.Start Inv-loop μ-loop
+start c = c .before .before .before .before .before .before .before
+
+-- the loop's turn
+abbrev this-turn : tie.Then1 Inv-loop μ-loop → tie.In-loop Inv-loop μ-loop
+this-turn c = c .before .before .before .before
+
 -- within the loop's body: what is known of the log's next place,
 place : (c : tie.In-loop Inv-loop μ-loop)
-    → (getD (c .before .before .before .before .before .before .before .args .log .now)
-    (c .before .loop .g) 0 < length (c .before .before .before .before .before .before .before .args .row .now))
-    × (getD (c .before .before .before .before .before .before .before .args .log .now) (c .before .loop .g) 0 < length (c .before .loop .row))
-    × (getD (c .before .before .before .before .before .before .before .args .log .now) (c .before .loop .g) 0 < mostStates)
-    × (c .before .loop .g < length (c .before .before .before .before .before .before .before .args .log .now))
+    → (getD (start c .args .log .now)
+    (c .before .loop .g) 0 < length (start c .args .row .now))
+    × (getD (start c .args .log .now) (c .before .loop .g) 0 < length (c .before .loop .row))
+    × (getD (start c .args .log .now) (c .before .loop .g) 0 < mostStates)
+    × (c .before .loop .g < length (start c .args .log .now))
     × (c .before .loop .g < mostStates)
-place c = ask-place _ _ _ _ _ _ _ (c .before .before .before .before .before .before .before .pre) _ _ _ _ (c .before .loop .inv) (c .loop-test .taken) _ refl
+place c = ask-place _ _ _ _ _ _ _ (start c .pre) _ _ _ _ (c .before .loop .inv) (c .loop-test .taken) _ refl
 
 -- and of its helper, and of the line
 room : (c : tie.Then1 Inv-loop μ-loop) → (c .before .helper .result < mostStates)
-    × (c .before .before .before .before .before .loop .n < length (c .before .before .before .before .before .loop .line))
-    × (c .before .before .before .before .before .loop .n < mostStates)
+    × (this-turn c .before .loop .n < length (this-turn c .before .loop .line))
+    × (this-turn c .before .loop .n < mostStates)
 room c =
     let turn = c .before .before .before .before in
-    ask-room _ _ _ _ _ _ _ (turn .before .before .before .before .before .before .before .pre) _ _ _ _ (turn .before .loop .inv)
+    ask-room _ _ _ _ _ _ _ (start turn .pre) _ _ _ _ (turn .before .loop .inv)
     (turn .loop-test .taken) _ refl _ (c .before .helper .ensures) (c .if1 .taken)
 
 helper-requires : tie.Need-helper-requires Inv-loop μ-loop
 helper-requires c κs =
     let turn = c .before .before in
-    ask-sought _ _ _ _ _ _ _ (turn .before .before .before .before .before .before .before .pre) _ _ _ _ (turn .before .loop .inv)
+    ask-sought _ _ _ _ _ _ _ (start turn .pre) _ _ _ _ (turn .before .loop .inv)
     (turn .loop-test .taken) _ refl
 
 loop-again : tie.Need-loop-again Inv-loop μ-loop
 loop-again c =
     let turn = c .before .before .before .before in
-    ask-more _ _ _ _ _ _ _ (turn .before .before .before .before .before .before .before .pre) _ _ _ _ (turn .before .loop .inv)
+    ask-more _ _ _ _ _ _ _ (start turn .pre) _ _ _ _ (turn .before .loop .inv)
     (turn .loop-test .taken) _ refl _ (c .before .helper .ensures) (c .if1 .taken)
 
 loop-again-2 : tie.Need-loop-again-2 Inv-loop μ-loop
 loop-again-2 c =
     let turn = c .before .before .before .before in
-    ask-past _ _ _ _ _ _ _ (turn .before .before .before .before .before .before .before .pre) _ _ _ _ (turn .before .loop .inv)
+    ask-past _ _ _ _ _ _ _ (start turn .pre) _ _ _ _ (turn .before .loop .inv)
     (turn .loop-test .taken) _ refl _ (c .before .helper .ensures) (omega (arith, c .if1 .left))
 
 returns : tie.Need-returns Inv-loop μ-loop

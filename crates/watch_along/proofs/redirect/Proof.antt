@@ -12,6 +12,10 @@ Inv-loop words row₀ back t was to line₀ n end tail₀ e₀ row line tail e =
 abbrev μ-loop : tie.MeasureT-loop
 μ-loop words row₀ back t was to line₀ n end tail₀ e₀ row line tail e = end - e
 
+-- where the function began
+abbrev start : tie.After-row-end Inv-loop μ-loop → tie.Start Inv-loop μ-loop
+start c = c .before .before .before .before .before
+
 -- the entry, seen from the loop; the cell, seen from where its chain is redirected
 abbrev entry : tie.At-loop Inv-loop μ-loop → tie.Start Inv-loop μ-loop
 entry l = l .before .before .before .before .before .before .before
@@ -44,7 +48,8 @@ loop-again c =
 returns : tie.Need-returns Inv-loop μ-loop
 returns c =
     let l = c .before in
-    row-done _ _ _ _ _ _ _ _ (entry l .pre) _ _ _ _ (l .loop .inv) (omega (arith, c .loop-test .left, l .before .before .row-end .ensures .0))
+    row-done _ _ _ _ _ _ _ _ (entry l .pre) _ _ _ _ (l .loop .inv)
+    (omega (arith, c .loop-test .left, l .before .before .row-end .ensures .0))
 
 pub redirect-spec : {M : Type 1} → statement M
 redirect-spec =
@@ -53,8 +58,8 @@ redirect-spec =
     Inv-loop
     μ-loop
     (λ c κs. let row = c .before .before .before .before .pre .has-row in (row .long, row .place))
-    (λ c κs. let row = c .before .before .before .before .before .pre .has-row in (row .long, row .place))
-    (λ c. row-none _ _ _ _ _ _ _ _ (c .before .before .before .before .before .before .pre) _ (c .row-start .ensures))
+    (λ c κs. let row = start c .pre .has-row in (row .long, row .place))
+    (λ c. row-none _ _ _ _ _ _ _ _ (start (c .before) .pre) _ (c .row-start .ensures))
     (λ c κs. (entry (c .before) .pre .has-row .long, inside c .1))
     redirect-chain-requires
     (λ c. omega (arith, inside (cell (c .before .before .before .before) .before) .1))

@@ -13,21 +13,25 @@ Inv-loop words row forth i end e₀ e = Passed words row forth i e
 abbrev μ-loop : tie.MeasureT-loop
 μ-loop words row forth i end e₀ e = end - e
 
+-- where the function began
+abbrev start : tie.At-loop Inv-loop μ-loop → tie.Start Inv-loop μ-loop
+start c = c .before .before .before .before .before .before
+
 -- within the loop's body: e is a cell of the row,
 inside : (c : tie.In-loop Inv-loop μ-loop)
-    → c .before .loop .e < endAt (c .before .before .before .before .before .before .before .args .forth .now)
-    (c .before .before .before .before .before .before .before .args .i)
+    → c .before .loop .e < endAt (start (c .before) .args .forth .now)
+    (start (c .before) .args .i)
 inside c = omega (arith, c .loop-test .taken, c .before .before .before .row-end .ensures .0)
 
 -- and holds a place
-place : (c : tie.After-cell Inv-loop μ-loop) → c .cell .result < length (c .before .before .before .before .before .before .before .before .args .row .now)
+place : (c : tie.After-cell Inv-loop μ-loop) → c .cell .result < length (start (c .before .before) .args .row .now)
 place c =
     let at-loop = c .before .before in
-    passed-place _ _ _ _ (at-loop .before .before .before .before .before .before .pre) _ (at-loop .loop .inv) (inside (c .before)) _ (c .cell .ensures)
+    passed-place _ _ _ _ (start at-loop .pre) _ (at-loop .loop .inv) (inside (c .before)) _ (c .cell .ensures)
 
 cell-requires : tie.Need-cell-requires Inv-loop μ-loop
 cell-requires c κs =
-    let pre = c .before .before .before .before .before .before .before .pre in
+    let pre = start (c .before) .pre in
     let row = pre .0 .row _ (pre .1) in
     (row .long, omega (arith, inside c, row .within))
 
@@ -35,27 +39,27 @@ returns : tie.Need-returns Inv-loop μ-loop
 returns c =
     let at-cell = c .before .before in
     let at-loop = at-cell .before .before in
-    passed-found _ _ _ _ (at-loop .before .before .before .before .before .before .pre) _ (at-loop .loop .inv) (inside (at-cell .before)) _
+    passed-found _ _ _ _ (start at-loop .pre) _ (at-loop .loop .inv) (inside (at-cell .before)) _
     (at-cell .cell .ensures)
     (c .before .is-helped .ensures) (c .if1 .taken)
 
 add-e : tie.Need-add-e Inv-loop μ-loop
 add-e c =
-    let pre = c .before .before .before .before .before .before .before .before .before .before .pre in
+    let pre = start (c .before .before .before .before) .pre in
     omega (arith, inside (c .before .before .before), pre .0 .row _ (pre .1) .within)
 
 loop-again : tie.Need-loop-again Inv-loop μ-loop
 loop-again c =
     let at-cell = c .before .before in
     let at-loop = at-cell .before .before in
-    passed-more _ _ _ _ (at-loop .before .before .before .before .before .before .pre) _ (at-loop .loop .inv) (inside (at-cell .before)) _
+    passed-more _ _ _ _ (start at-loop .pre) _ (at-loop .loop .inv) (inside (at-cell .before)) _
     (at-cell .cell .ensures)
     (c .before .is-helped .ensures) (c .if1 .left)
 
 returns-2 : tie.Need-returns-2 Inv-loop μ-loop
 returns-2 c =
     let at-loop = c .before in
-    passed-all _ _ _ _ (at-loop .before .before .before .before .before .before .pre) _ (at-loop .loop .inv)
+    passed-all _ _ _ _ (start at-loop .pre) _ (at-loop .loop .inv)
     (omega (arith, c .loop-test .left, at-loop .before .before .row-end .ensures .0))
 
 pub seek-helper-spec : {M : Type 1} → statement M
@@ -68,7 +72,7 @@ seek-helper-spec =
     (λ c κs. let pre = c .before .before .before .before .pre in let row = pre .0 .row _ (pre .1) in (row .long, row .place))
     (λ c. passed-none _ _ _ _ _ (c .row-start .ensures))
     cell-requires
-    (λ c κs. (omega (arith, place c, c .before .before .before .before .before .before .before .before .pre .2), place c))
+    (λ c κs. (omega (arith, place c, start (c .before .before) .pre .2), place c))
     returns
     add-e
     (λ c. omega arith)

@@ -12,22 +12,29 @@ Inv-loop words row₀ forth log m tail r g₀ row g = (m ≤ g) × Looking words
 abbrev μ-loop : tie.MeasureT-loop
 μ-loop words row₀ forth log m tail r g₀ row g = tail - g
 
+-- where the function began
+abbrev start : tie.At-loop Inv-loop μ-loop → tie.Start Inv-loop μ-loop
+start c = c .before .before .before .before .before
+
 -- within the loop: the place that is read
 place : (c : tie.In-loop Inv-loop μ-loop)
-    → getD (c .before .before .before .before .before .before .args .log .now)
-    (c .before .loop .g) 0 < length (c .before .before .before .before .before .before .args .row .now)
-place c = c .before .before .before .before .before .before .pre .places _ (c .before .loop .inv .0) (c .loop-test .taken)
+    → getD (start (c .before) .args .log .now)
+    (c .before .loop .g) 0 < length (start (c .before) .args .row .now)
+place c = start (c .before) .pre .places _ (c .before .loop .inv .0) (c .loop-test .taken)
 
 loop-again : tie.Need-loop-again Inv-loop μ-loop
 loop-again c = let l = c .before .before .before in (
   omega (arith, l .before .loop .inv .0),
-  looking-more (l .before .loop .inv .1) (l .before .before .before .before .before .before .pre .few) (place l) (c .if1 .taken)
+  looking-more (l .before .loop .inv .1) (start (l .before) .pre .few) (place l) (c .if1 .taken)
       (c .before .way-on .ensures),
 )
 
 loop-again-2 : tie.Need-loop-again-2 Inv-loop μ-loop
-loop-again-2 c = let l = c .before .before .before in
-    (omega (arith, l .before .loop .inv .0), looking-past (l .before .loop .inv .1) (omega (arith, c .if1 .left)) (c .before .way-on .ensures))
+loop-again-2 c = let l = c .before .before .before in (
+  omega (arith, l .before .loop .inv .0),
+  looking-past (l .before .loop .inv .1) (omega (arith, c .if1 .left))
+      (c .before .way-on .ensures),
+)
 
 pub look-spec : {M : Type 1} → statement M
 look-spec =
@@ -36,18 +43,18 @@ look-spec =
     Inv-loop
     μ-loop
     (λ c. (omega arith, looking-none _ _ _ _ _))
-    (λ c. let p = c .before .before .before .before .before .before .pre in omega (arith, c .loop-test .taken, p .in-log, p .log-few))
-    (λ c. let l = c .before in let p = l .before .before .before .before .before .before .pre in omega (arith, l .loop-test .taken, p .in-log))
-    (λ c. let l = c .before in omega (arith, place l, l .before .before .before .before .before .before .pre .few))
-    (λ c κs. let l = c .before in let p = l .before .before .before .before .before .before .pre in (p .onward, place l, p .in-words))
-    (λ c. let l = c .before .before .before in omega (arith, c .if1 .taken, l .before .before .before .before .before .before .pre .few))
-    (λ c. let l = c .before .before .before in omega (arith, place l, l .before .before .before .before .before .before .pre .few))
+    (λ c. let p = start (c .before) .pre in omega (arith, c .loop-test .taken, p .in-log, p .log-few))
+    (λ c. let l = c .before in let p = start (l .before) .pre in omega (arith, l .loop-test .taken, p .in-log))
+    (λ c. let l = c .before in omega (arith, place l, start (l .before) .pre .few))
+    (λ c κs. let l = c .before in let p = start (l .before) .pre in (p .onward, place l, p .in-words))
+    (λ c. let l = c .before .before .before in omega (arith, c .if1 .taken, start (l .before) .pre .few))
+    (λ c. let l = c .before .before .before in omega (arith, place l, start (l .before) .pre .few))
     (λ c. let l = c .before .before .before in omega (arith, place l, l .before .loop .inv .1 .long))
-    (λ c. let l = c .before .before .before in let p = l .before .before .before .before .before .before .pre in
+    (λ c. let l = c .before .before .before in let p = start (l .before) .pre in
     omega (arith, l .loop-test .taken, p .in-log, p .log-few))
     (λ c. let l = c .before .before .before in omega (arith, l .loop-test .taken))
     loop-again
-    (λ c. let l = c .before .before .before in let p = l .before .before .before .before .before .before .pre in
+    (λ c. let l = c .before .before .before in let p = start (l .before) .pre in
     omega (arith, l .loop-test .taken, p .in-log, p .log-few))
     (λ c. let l = c .before .before .before in omega (arith, l .loop-test .taken))
     loop-again-2
