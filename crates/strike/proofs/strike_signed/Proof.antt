@@ -10,7 +10,7 @@ strike-rounds-requires : tie.Need-strike-rounds-requires
 strike-rounds-requires c κs =
     let wiped = c .before .before .before .before .before .before in
     let pre = wiped .before .before .before .before .before .before .pre in
-    let told = wiped .wipe-front .ensures in
+    let told = wiped .wipe-words-front .ensures in
     tests-ready tinyStates (wiped-strikable (pre .0) (told .long)) (told .zeros) (pre .1) (pre .2) (omega arith)
 
 pub strike-signed-spec : {M : Type 1} → statement M
