@@ -1,6 +1,6 @@
 // The audit of a log: a monitor's recorded states held against a sheet, piece by piece. What an account tells of a whole log is said in
-// crates/audit_account/specs/Account.antt, what the call promises in Carry.antt there, and that cutting a log does not show in crates/audit_account/proofs. It
-// stands on the sheet reader and the compiled rules alone.
+// crates/audit_account/specs/Account.antt, what the call promises in Carry.antt there, and that cutting a log does not show in
+// crates/audit_account/proofs. It stands on the sheet reader and the compiled rules alone.
 use answers::DONE;
 use answers::PAST_THE_MOST_MOMENTS;
 use ground::State;
@@ -22,8 +22,8 @@ pub use audit_follow::TALLIES;
 // The most moments that an account may count.
 pub const MOMENTS: u32 = 1000000;
 
-// The account of a log so far: how many moments; the last state; what the first breach was (0 none, 1 unlawful, 2 first rule, 3 step rule), its
-// moment and its step rule; and for each step rule how often its left side led to a kept move and how often to a broken one.
+// The account of a log so far: how many moments; the last state; what the first breach was (0 none, 1 unlawful, 2 first rule, 3 step rule),
+// its moment and its step rule; and for each step rule how often its left side led to a kept move and how often to a broken one.
 pub struct Account {
     pub count: u32,
     pub last: State,
@@ -99,7 +99,8 @@ fn past(account: Account, more: usize) -> bool
 // Carries the account on under a good sheet.
 fn audit_good(sheet: &[u8], account: Account, states: &[State]) -> Report
     requires { ⌜ firstFault (now sheet) ≡ none ⌝ }
-    ensures { λ r. ⌜ Audited (now (sheet .entry)) (accountOf account) (now (states .entry)) (r .answer) (r .place) (accountOf (r .account)) ⌝ }
+    ensures { λ r. ⌜ Audited (now (sheet .entry)) (accountOf account) (now (states .entry)) (r .answer) (r .place)
+        (accountOf (r .account)) ⌝ }
 {
     if past(account, states.len()) {
         return Report {
@@ -118,11 +119,12 @@ fn audit_good(sheet: &[u8], account: Account, states: &[State]) -> Report
     }
 }
 
-// Audits a piece of a log: holds these states, which come behind those that the account has counted, against the sheet. Any account may be handed
-// in. 0 and the account carried on; a bad sheet's 1 to 10 and the place of its fault; 15 where the account or the piece passes 1,000,000
-// moments. A refusal hands the account back as it was.
+// Audits a piece of a log: holds these states, which come behind those that the account has counted, against the sheet. Any account may be
+// handed in. 0 and the account carried on; a bad sheet's 1 to 10 and the place of its fault; 15 where the account or the piece passes
+// 1,000,000 moments. A refusal hands the account back as it was.
 pub fn audit(sheet: &[u8], account: Account, states: &[State]) -> Report
-    ensures { λ r. ⌜ Audited (now (sheet .entry)) (accountOf account) (now (states .entry)) (r .answer) (r .place) (accountOf (r .account)) ⌝ }
+    ensures { λ r. ⌜ Audited (now (sheet .entry)) (accountOf account) (now (states .entry)) (r .answer) (r .place)
+        (accountOf (r .account)) ⌝ }
 {
     match reader::read_in_numbers(sheet) {
         InNumbers::Good => audit_good(sheet, account, states),

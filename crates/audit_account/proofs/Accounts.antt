@@ -1,7 +1,7 @@
--- What an account tells. A log has one account (account-unique). Kept plus broken of a rule is the number of moves whose earlier state made its
--- left side true (kept-and-broken), so no tally is above the count (tally-within). No breach is told exactly if every recorded state is
--- lawful, the first makes every first rule true and every move is a move of the sheet (clean-exactly), as the states of
--- any run are (run-clean, accepted-clean). Assumes nothing.
+-- What an account tells. A log has one account (account-unique). Kept plus broken of a rule is the number of moves whose earlier state made
+-- its left side true (kept-and-broken), so no tally is above the count (tally-within). No breach is told exactly if every recorded state is
+-- lawful, the first makes every first rule true and every move is a move of the sheet (clean-exactly), as the states of any run are
+-- (run-clean, accepted-clean). Assumes nothing.
 use mathlib.Core.Path.{_≡_, refl, sym, _∙_, ap, subst}
 use mathlib.Core.Logic.{_⊎_, inl, inr, _↔_}
 use mathlib.Core.Bool.{Bool, true, false, cond, not, _&&_}
@@ -61,10 +61,12 @@ same-parts a b count last what moment rule kept broken = λ i. record {
 }
 
 -- A log has one account.
-pub account-unique : (sheet : Sheet) (log : List ℕ) {account other : Account} → AccountOf sheet log account → AccountOf sheet log other → account ≡ other
+pub account-unique : (sheet : Sheet) (log : List ℕ) {account other : Account} → AccountOf sheet log account → AccountOf sheet log other
+    → account ≡ other
 account-unique sheet log {account} {other} a b =
     let (what, moment, rule) = breach-unique sheet log (a .breach-is) (b .breach-is) in
-    same-parts account other (a .count-is ∙ sym (b .count-is)) (a .last-is ∙ sym (b .last-is)) what moment rule (a .kept-is ∙ sym (b .kept-is))
+    same-parts account other (a .count-is ∙ sym (b .count-is)) (a .last-is ∙ sym (b .last-is)) what moment rule (a .kept-is
+    ∙ sym (b .kept-is))
     (a .broken-is ∙ sym (b .broken-is))
 
 -- ---- tallies
@@ -73,7 +75,8 @@ account-unique sheet log {account} {other} a b =
 pub kept-and-broken : (log : List ℕ) (rule : StepRule) → tallyOf keeps log rule + tallyOf breaks log rule ≡ tallyOf asks log rule
 unfolding tallyOf keeps breaks
 kept-and-broken log rule =
-    sym (split-count (asks rule log) (keeps rule log) (breaks rule log) (movesOf log) (λ i. split (asks rule log i) (someTrue (stateAt log (suc i)) (rule .right))))
+    sym (split-count (asks rule log) (keeps rule log) (breaks rule log) (movesOf log)
+    (λ i. split (asks rule log i) (someTrue (stateAt log (suc i)) (rule .right))))
   where
     split : (a b : Bool) → cond a 1 0 ≡ cond (a && b) 1 0 + cond (a && not b) 1 0
     split true true = refl
@@ -92,7 +95,8 @@ zeros-at (suc n) zero = refl
 zeros-at (suc n) (suc i) = zeros-at n i
 
 -- So it is with every place of the tallies.
-pub tallies-within : (test : StepRule → List ℕ → ℕ → Bool) (sheet : Sheet) (log : List ℕ) (i : ℕ) → getD (talliesOf test sheet log) i 0 ≤ length log
+pub tallies-within : (test : StepRule → List ℕ → ℕ → Bool) (sheet : Sheet) (log : List ℕ) (i : ℕ)
+    → getD (talliesOf test sheet log) i 0 ≤ length log
 unfolding talliesOf
 tallies-within test sheet log i = each (sheet .steps) (mostTallies - length (sheet .steps)) i
   where
@@ -148,7 +152,8 @@ next-fine sheet s t = by (lawful sheet t) (ℕ-discrete (firstBroken s t 1 (shee
     by false d rules = (λ e. absurd (omega arith), λ h. absurd (h .0))
 
 -- A move is from a lawful state to a lawful state, and every step rule holds of it.
-move-parts : (sheet : Sheet) (s t : ℕ) → T (moves sheet s t) ↔ (T (lawful sheet s) × T (lawful sheet t) × T (every (stepHolds s t) (sheet .steps)))
+move-parts : (sheet : Sheet) (s t : ℕ) → T (moves sheet s t) ↔ (T (lawful sheet s) × T (lawful sheet t)
+    × T (every (stepHolds s t) (sheet .steps)))
 unfolding moves
 move-parts sheet s t = by (lawful sheet s) (lawful sheet t) (every (stepHolds s t) (sheet .steps))
   where
@@ -193,16 +198,22 @@ nothing-wrong sheet log = (to, from)
         next-fine sheet (stateAt log i) (stateAt log (suc i)) .1 (all .1, all .2)
 
 -- "No breach is told exactly if .."
-pub clean-exactly : (sheet : Sheet) (log : List ℕ) {account : Account} → AccountOf sheet log account → (account .what ≡ nothing) ↔ Clean sheet log
+pub clean-exactly : (sheet : Sheet) (log : List ℕ) {account : Account} → AccountOf sheet log account
+    → (account .what ≡ nothing) ↔ Clean sheet log
 clean-exactly sheet log {account} a = by (a .breach-is)
   where
-    by : Breach sheet log (account .what) (account .moment) (account .rule) ⊎ NoBreach sheet log (account .what) (account .moment) (account .rule)
+    by : Breach sheet log (account .what) (account .moment) (account .rule) ⊎ NoBreach sheet log (account .what) (account .moment)
+        (account .rule)
         → (account .what ≡ nothing) ↔ Clean sheet log
-    by (inl b) = (λ z. absurd (b .some-breach z), λ clean. absurd (b .some-breach (b .what-is ∙ nothing-wrong sheet log .1 clean _ (b .within))))
+    by (inl b) = (
+      λ z. absurd (b .some-breach z),
+      λ clean. absurd (b .some-breach (b .what-is ∙ nothing-wrong sheet log .1 clean _ (b .within))),
+    )
     by (inr n) = (λ z. nothing-wrong sheet log .0 (n .clean), λ clean. n .no-what)
 
 -- A log whose states are those of a run, from its first moment on, is clean.
-pub run-clean : (sheet : Sheet) (log : List ℕ) (f : ℕ → ℕ) → Run (systemOf sheet) f → ((i : ℕ) → i < length log → stateAt log i ≡ f i) → Clean sheet log
+pub run-clean : (sheet : Sheet) (log : List ℕ) (f : ℕ → ℕ) → Run (systemOf sheet) f → ((i : ℕ) → i < length log → stateAt log i ≡ f i)
+    → Clean sheet log
 unfolding systemOf
 run-clean sheet log f run same = record { all-lawful = law; starts = start; goes = go }
   where
@@ -220,4 +231,5 @@ run-clean sheet log f run same = record { all-lawful = law; starts = start; goes
 -- A run paper that is accepted, as the judge's is, read on as far as a log goes: no breach.
 pub accepted-clean : (sheet : Sheet) (states : List ℕ) (a : ℕ) (log : List ℕ) → RunAccepted (systemOf sheet) states a
     → ((i : ℕ) → i < length log → stateAt log i ≡ reading states a i) → Clean sheet log
-accepted-clean sheet states a log ok same = run-clean sheet log (reading states a) (run-accepted-exactly (systemOf sheet) states a .0 ok .1 .run) same
+accepted-clean sheet states a log ok same = run-clean sheet log (reading states a)
+    (run-accepted-exactly (systemOf sheet) states a .0 ok .1 .run) same

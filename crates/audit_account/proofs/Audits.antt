@@ -16,7 +16,8 @@ use Rattle.meaning.proofs.Promised.{same-fault, bad-not-good}
 use Rattle.meaning.proofs.Demands.{fault-number}
 use Rattle.meaning.proofs.Search.{either?, any-below}
 use Rattle.audit_account.specs.Account.{Account, AccountOf, mostTallies, keeps, breaks}
-use Rattle.audit_account.specs.Carry.{carried, empty, mostMoments, SomePast, Past, Audited, faulty, past, done, readAccount, writeAccount}
+use Rattle.audit_account.specs.Carry.{carried, empty, mostMoments, SomePast, Past, Audited, faulty, past, done, readAccount}
+use Rattle.audit_account.specs.Carry.{writeAccount}
 use Rattle.audit_account.specs.Carry.{AuditedOut}
 use Rattle.audit_account.proofs.Carrying.{carried-join, whole-account}
 use Rattle.audit_account.proofs.Accounts.{tallies-within}
@@ -89,7 +90,8 @@ joined [] = []
 joined (piece ∷ pieces) = piece ++ joined pieces
 
 -- A call that is answered 0 was not past the bound, and carried the account on.
-pub zero-call : {sheet : List ℕ} {account : Account} {piece : List ℕ} {place : ℕ} {back : Account} → Audited sheet account piece 0 place back
+pub zero-call : {sheet : List ℕ} {account : Account} {piece : List ℕ} {place : ℕ} {back : Account}
+    → Audited sheet account piece 0 place back
     → (Past account piece → ⊥) × (back ≡ carried (decode sheet) account piece)
 zero-call (faulty f e n p b) = absurd (omega (arith, n, fault-number (f .why)))
 zero-call (past e over n p b) = absurd (omega (arith, n))
@@ -109,15 +111,18 @@ calls-carry sheet account (piece ∷ pieces) last (back, call, rest) =
 pub calls-account : (sheet : List ℕ) (pieces : List (List ℕ)) (last : Account) → length (decode sheet .steps) ≤ mostTallies
     → Calls sheet empty pieces last → AccountOf (decode sheet) (joined pieces) last
 calls-account sheet pieces last few calls =
-    subst (AccountOf (decode sheet) (joined pieces)) (sym (calls-carry sheet empty pieces last calls)) (whole-account (decode sheet) (joined pieces) few)
+    subst (AccountOf (decode sheet) (joined pieces)) (sym (calls-carry sheet empty pieces last calls))
+    (whole-account (decode sheet) (joined pieces) few)
 
 -- "Cutting the log otherwise must not show": any two cuttings of one log that no call refuses end in the same account.
-pub cutting-does-not-show : (sheet : List ℕ) (account : Account) (pieces others : List (List ℕ)) {last last′ : Account} → joined pieces ≡ joined others
+pub cutting-does-not-show : (sheet : List ℕ) (account : Account) (pieces others : List (List ℕ)) {last last′ : Account}
+    → joined pieces ≡ joined others
     → Calls sheet account pieces last → Calls sheet account others last′ → last ≡ last′
 cutting-does-not-show sheet account pieces others same p q =
     calls-carry sheet account pieces _ p ∙ ap (carried (decode sheet) account) same ∙ sym (calls-carry sheet account others _ q)
 
--- An account of a log is refused only where its moments and the piece together pass the bound: never for a tally, never for its count alone.
+-- An account of a log is refused only where its moments and the piece together pass the bound: never for a tally, never for its count
+-- alone.
 pub refused-by-length-only : (sheet : Sheet) (log : List ℕ) (account : Account) (piece : List ℕ) → AccountOf sheet log account
     → Past account piece ↔ (mostMoments < length (log ++ piece))
 refused-by-length-only sheet log account piece a = (to, λ h. inl (inr (omega (arith, length-append log piece, a .count-is))))
@@ -129,6 +134,8 @@ refused-by-length-only sheet log account piece a = (to, λ h. inl (inr (omega (a
     to (inl (inl h)) = omega (arith, length-append log piece, a .count-is)
     to (inl (inr h)) = omega (arith, length-append log piece, a .count-is)
     to (inr (inl p)) =
-        within (account .kept) (λ i. subst (λ (l : List ℕ). getD l i 0 ≤ length log) (sym (a .kept-is)) (tallies-within keeps sheet log i)) p
+        within (account .kept) (λ i. subst (λ (l : List ℕ). getD l i 0 ≤ length log) (sym (a .kept-is))
+        (tallies-within keeps sheet log i)) p
     to (inr (inr p)) =
-        within (account .broken) (λ i. subst (λ (l : List ℕ). getD l i 0 ≤ length log) (sym (a .broken-is)) (tallies-within breaks sheet log i)) p
+        within (account .broken) (λ i. subst (λ (l : List ℕ). getD l i 0 ≤ length log) (sym (a .broken-is))
+        (tallies-within breaks sheet log i)) p

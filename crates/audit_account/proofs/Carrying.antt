@@ -1,6 +1,6 @@
--- Cutting a log does not show. Carrying an account on by two pieces is carrying it on by both joined (carried-join); an account of a log, carried
--- on by a piece, is the account of the log with the piece behind it (carried-account), and so the empty account carried on by any log is that
--- log's (whole-account). A log has one account (account-unique). Assumes nothing.
+-- Cutting a log does not show. Carrying an account on by two pieces is carrying it on by both joined (carried-join); an account of a log,
+-- carried on by a piece, is the account of the log with the piece behind it (carried-account), and so the empty account carried on by any
+-- log is that log's (whole-account). A log has one account (account-unique). Assumes nothing.
 use mathlib.Core.Path.{_≡_, refl, sym, _∙_, ap, ap₂, subst}
 use mathlib.Core.Logic.{_⊎_, inl, inr}
 use mathlib.Core.Bool.{Bool, true, false, cond, not, _&&_}
@@ -17,7 +17,8 @@ use Rattle.meaning.specs.Sheet.{Sheet, StepRule}
 use Rattle.meaning.specs.Rules.{allTrue, someTrue}
 use Rattle.rules.specs.Book.{howMany}
 use Rattle.rules.proofs.Counting.{same-count}
-use Rattle.audit_account.specs.Account.{Account, AccountOf, Breach, NoBreach, nothing, firstIs, nextIs, ruleIs, stateAt, whatAt, ruleAt}
+use Rattle.audit_account.specs.Account.{Account, AccountOf, Breach, NoBreach, nothing, firstIs, nextIs, ruleIs, stateAt, whatAt}
+use Rattle.audit_account.specs.Account.{ruleAt}
 use Rattle.audit_account.specs.Account.{asks, keeps, breaks, movesOf, tallyOf, talliesOf, lastOf, mostTallies}
 use Rattle.audit_account.specs.Carry.{isNext, breaksNext, isBreach, oneMore, keepsNext, breaksRule, noted, carried, empty}
 
@@ -114,7 +115,8 @@ more-each f g test each [] rest = refl
 more-each f g test each (rule ∷ rules) rest = ap₂ _∷_ (each rule) (more-each f g test each rules rest)
 
 tallies-new : (g : Moving) (sheet : Sheet) (log : List ℕ) (t n : ℕ) → length log ≡ n
-    → talliesOf (along g) sheet (log ++ t ∷ []) ≡ oneMore (λ rule. not (eqb n 0) && g rule (lastOf log) t) (sheet .steps) (talliesOf (along g) sheet log)
+    → talliesOf (along g) sheet (log ++ t ∷ []) ≡ oneMore (λ rule. not (eqb n 0) && g rule (lastOf log) t) (sheet .steps)
+    (talliesOf (along g) sheet log)
 unfolding talliesOf
 tallies-new g sheet log t n e =
     more-each (tallyOf (along g) (log ++ t ∷ [])) (tallyOf (along g) log) (λ rule. not (eqb n 0) && g rule (lastOf log) t)
@@ -164,7 +166,8 @@ module _ (sheet : Sheet) (log : List ℕ) (t : ℕ) where
 
 -- What `noted` tells of the breach, where the account's count and last state are the log's.
 noted-breach : (sheet : Sheet) (log : List ℕ) (account : Account) (t : ℕ) → account .count ≡ length log → account .last ≡ lastOf log
-    → Breach sheet log (account .what) (account .moment) (account .rule) ⊎ NoBreach sheet log (account .what) (account .moment) (account .rule)
+    → Breach sheet log (account .what) (account .moment) (account .rule) ⊎ NoBreach sheet log (account .what) (account .moment)
+    (account .rule)
     → Breach sheet (log ++ t ∷ []) (noted sheet account t .what) (noted sheet account t .moment) (noted sheet account t .rule)
     ⊎ NoBreach sheet (log ++ t ∷ []) (noted sheet account t .what) (noted sheet account t .moment) (noted sheet account t .rule)
 unfolding noted isNext breaksNext isBreach
@@ -195,7 +198,8 @@ noted-breach sheet log account t count-is last-is told = by told (ℕ-discrete (
         (cond x (breaksNext sheet account t) (account .rule)))
         (sym e)
 
-    by : Breach sheet log (account .what) (account .moment) (account .rule) ⊎ NoBreach sheet log (account .what) (account .moment) (account .rule)
+    by : Breach sheet log (account .what) (account .moment) (account .rule) ⊎ NoBreach sheet log (account .what) (account .moment)
+        (account .rule)
         → Dec (whatAt sheet new (length log) ≡ nothing)
         → Told (noted sheet account t .what) (noted sheet account t .moment) (noted sheet account t .rule)
     by (inl b) d =
@@ -211,7 +215,8 @@ noted-breach sheet log account t count-is last-is told = by told (ℕ-discrete (
         chosen true (ap₂ (λ (x y : Bool). x && not y) w n)
         (inl (subst (λ (r : ℕ). Breach sheet new (isNext sheet account t) (account .count) r) (sym breaks-next)
         (subst (λ (c : ℕ). Breach sheet new (isNext sheet account t) c (ruleAt sheet new (length log))) (sym count-is)
-        (subst (λ (w : ℕ). Breach sheet new w (length log) (ruleAt sheet new (length log))) (sym is-next) (breach-new sheet log t nb wrong)))))
+        (subst (λ (w : ℕ). Breach sheet new w (length log) (ruleAt sheet new (length log))) (sym is-next)
+        (breach-new sheet log t nb wrong)))))
 
 -- The account of a log, with one state noted, is the account of the log with that state behind it.
 pub noted-account : (sheet : Sheet) (log : List ℕ) (account : Account) (t : ℕ) → AccountOf sheet log account
@@ -226,7 +231,8 @@ noted-account sheet log account t a = record {
 }
   where
     counted : (g : Moving) (tallies : List ℕ) → tallies ≡ talliesOf (along g) sheet log
-        → oneMore (λ rule. not (eqb (account .count) 0) && g rule (account .last) t) (sheet .steps) tallies ≡ talliesOf (along g) sheet (log ++ t ∷ [])
+        → oneMore (λ rule. not (eqb (account .count) 0) && g rule (account .last) t) (sheet .steps) tallies ≡ talliesOf (along g) sheet
+        (log ++ t ∷ [])
     counted g tallies is =
         ap₂ (λ (c l : ℕ). oneMore (λ rule. not (eqb c 0) && g rule l t) (sheet .steps) tallies) (a .count-is) (a .last-is)
         ∙ ap (oneMore (λ rule. not (eqb (length log) 0) && g rule (lastOf log) t) (sheet .steps)) is

@@ -1,5 +1,5 @@
--- Carrying an account on by a sheet's own book is carrying it on by the sheet (book-carried). The rules counted by number are the rules of the
--- list in their order (first-by-number, more-by-number). Assumes nothing.
+-- Carrying an account on by a sheet's own book is carrying it on by the sheet (book-carried). The rules counted by number are the rules of
+-- the list in their order (first-by-number, more-by-number). Assumes nothing.
 use mathlib.Core.Path.{_≡_, refl, sym, _∙_, ap, ap₂}
 use mathlib.Core.Bool.{Bool, true, false, cond, not, _&&_, _||_}
 use mathlib.Core.List.{List, [], _∷_}
@@ -66,12 +66,14 @@ unfolding firstBroken firstOf
 first-by-number s t i [] f same = refl
 first-by-number s t i (rule ∷ rules) f same =
     let front = first-front f (length rules) in
-    by (stepHolds s t rule) (f 0) (same 0 (omega arith)) (first-by-number s t (suc i) rules (λ k. f (suc k)) (λ k h. same (suc k) (omega arith)))
+    by (stepHolds s t rule) (f 0) (same 0 (omega arith)) (first-by-number s t (suc i) rules (λ k. f (suc k))
+    (λ k h. same (suc k) (omega arith)))
     ∙ sym (ap (shift i) front)
   where
     by : (holds broke : Bool) → broke ≡ not holds
         → firstBroken s t (suc (suc i)) rules ≡ shift (suc i) (firstOf (λ k. f (suc k)) (length rules))
-        → cond holds (firstBroken s t (suc (suc i)) rules) (suc i) ≡ shift i (cond broke 1 (shift 1 (firstOf (λ k. f (suc k)) (length rules))))
+        → cond holds (firstBroken s t (suc (suc i)) rules) (suc i) ≡ shift i
+        (cond broke 1 (shift 1 (firstOf (λ k. f (suc k)) (length rules))))
     by true broke e rest =
         rest ∙ shift-twice i (firstOf (λ k. f (suc k)) (length rules))
         ∙ sym (ap (λ (b : Bool). shift i (cond b 1 (shift 1 (firstOf (λ k. f (suc k)) (length rules))))) e)
@@ -83,7 +85,8 @@ first-by-number s t i (rule ∷ rules) f same =
 
 -- One more for each number whose rule passes is one more for each rule that passes.
 more-by-number : (rules : List StepRule) (f : ℕ → Bool) (test : StepRule → Bool)
-    → ((k : ℕ) → k < length rules → f k ≡ test (getD rules k (stepOf []))) → (l : List ℕ) → bumped 1 f (length rules) l ≡ oneMore test rules l
+    → ((k : ℕ) → k < length rules → f k ≡ test (getD rules k (stepOf []))) → (l : List ℕ) → bumped 1 f (length rules) l
+    ≡ oneMore test rules l
 unfolding bumped oneMore
 more-by-number [] f test same l = refl
 more-by-number (rule ∷ rules) f test same [] = bumped-nothing 1 f (suc (length rules))
@@ -122,7 +125,8 @@ module _ {sheet : Sheet} {book : List ℕ} (of : BookOf sheet book) where
   unfolding bookBroke
   first-broken-is s t =
       ap (firstOf (brokenBy book s t)) (of .steps-is)
-      ∙ sym (first-by-number s t 0 (sheet .steps) (brokenBy book s t) (broken-fails s t) ∙ zero-shift (firstOf (brokenBy book s t) (length (sheet .steps))))
+      ∙ sym (first-by-number s t 0 (sheet .steps) (brokenBy book s t) (broken-fails s t)
+      ∙ zero-shift (firstOf (brokenBy book s t) (length (sheet .steps))))
     where
       zero-shift : (r : ℕ) → shift 0 r ≡ r
       zero-shift r = by (ℕ-discrete r 0)
@@ -141,7 +145,8 @@ module _ {sheet : Sheet} {book : List ℕ} (of : BookOf sheet book) where
     where
       is : (l f : Bool) → ℕ → ℕ
       is l f b =
-          cond l (cond (eqb (account .count) 0) (cond f nothing brokeFirst) (cond (not (eqb (account .count) 0) && not (eqb b 0)) brokeStep nothing))
+          cond l (cond (eqb (account .count) 0) (cond f nothing brokeFirst)
+          (cond (not (eqb (account .count) 0) && not (eqb b 0)) brokeStep nothing))
           unlawful
 
       b′ : ℕ
@@ -160,7 +165,8 @@ module _ {sheet : Sheet} {book : List ℕ} (of : BookOf sheet book) where
       by false false = refl
 
   rule-told-is : (account : Account) (t : ℕ)
-      → ruleTold (bookIs book (account .count) (bookBreaks book account t) t) (bookBroke book (account .last) t) ≡ breaksNext sheet account t
+      → ruleTold (bookIs book (account .count) (bookBreaks book account t) t) (bookBroke book (account .last) t) ≡ breaksNext sheet
+      account t
   unfolding ruleTold breaksNext ruleIs isNext firstIs
   rule-told-is account t =
       ap₂ (λ (x b : ℕ). cond (eqb x brokeStep) b 0) (is-next-is account t) (first-broken-is (account .last) t)
@@ -187,7 +193,8 @@ module _ {sheet : Sheet} {book : List ℕ} (of : BookOf sheet book) where
       nobody (rule ∷ rules) [] = refl
       nobody (rule ∷ rules) (x ∷ l) = ap₂ _∷_ (let e : x + 0 ≡ x = omega arith in e) (nobody rules l)
 
-      by : (n : Bool) → cond n l (bumped 1 (f (account .last) t) (stepsOf book) l) ≡ oneMore (λ rule. not n && g rule (account .last) t) (sheet .steps) l
+      by : (n : Bool) → cond n l (bumped 1 (f (account .last) t) (stepsOf book) l) ≡ oneMore (λ rule. not n && g rule (account .last) t)
+          (sheet .steps) l
       by true = sym (nobody (sheet .steps) l)
       by false =
           ap (λ (m : ℕ). bumped 1 (f (account .last) t) m l) (of .steps-is)
@@ -200,8 +207,10 @@ module _ {sheet : Sheet} {book : List ℕ} (of : BookOf sheet book) where
       let one : account .count + 1 ≡ suc (account .count) = omega arith in
       let is = is-next-is account t in
       let rule = rule-told-is account t in
-      let kept = tallies-are account t (λ rule s u. allTrue s (rule .left) && someTrue u (rule .right)) (keptBy book) kept-is-rule (account .kept) in
-      let broken = tallies-are account t (λ rule s u. allTrue s (rule .left) && not (someTrue u (rule .right))) (brokenBy book) broken-is-rule
+      let kept = tallies-are account t (λ rule s u. allTrue s (rule .left) && someTrue u (rule .right)) (keptBy book) kept-is-rule
+      (account .kept) in
+      let broken = tallies-are account t (λ rule s u. allTrue s (rule .left) && not (someTrue u (rule .right)))
+      (brokenBy book) broken-is-rule
       (account .broken) in
       λ i. record {
         count = one i;

@@ -1,6 +1,6 @@
--- What an account tells of a log, in the order's own sentences. Place i of the tallies is step rule i + 1's, and kept plus broken there is the
--- number of moves whose earlier state made its left side true (rule-tallies); places past the sheet's rules are 0 (no-rule-tallies). The
--- rule told is the first in the sheet that the move breaks (rule-told-first). Bits above n count nowhere in the tallies and step rules
+-- What an account tells of a log, in the order's own sentences. Place i of the tallies is step rule i + 1's, and kept plus broken there is
+-- the number of moves whose earlier state made its left side true (rule-tallies); places past the sheet's rules are 0 (no-rule-tallies).
+-- The rule told is the first in the sheet that the move breaks (rule-told-first). Bits above n count nowhere in the tallies and step rules
 -- (high-bits-ignored). From the empty account on, calls are all answered 0 exactly if the joined log has at most 1,000,000 moments
 -- (calls-exactly), so no cutting shows by a refusal. In a sample run written out by the judge no breach is told (judged-run-no-breach).
 -- Assumes nothing.
@@ -50,15 +50,17 @@ no-tally-at f [] n i h = zeros-at n i
 no-tally-at f (rule ∷ rules) n zero h = absurd (omega arith)
 no-tally-at f (rule ∷ rules) n (suc i) h = no-tally-at f rules n i (omega arith)
 
--- "how often its left side led to a kept move and how often to a broken one; kept plus broken equals the moves whose earlier state made that
--- left side true": of every step rule, at its own place.
+-- "how often its left side led to a kept move and how often to a broken one; kept plus broken equals the moves whose earlier state made
+-- that left side true": of every step rule, at its own place.
 pub rule-tallies : {sheet : Sheet} {log : List ℕ} {account : Account} → AccountOf sheet log account → (i : ℕ) → i < length (sheet .steps)
     → (getD (account .kept) i 0 ≡ tallyOf keeps log (ruleOf sheet i)) × (getD (account .broken) i 0 ≡ tallyOf breaks log (ruleOf sheet i))
     × (getD (account .kept) i 0 + getD (account .broken) i 0 ≡ tallyOf asks log (ruleOf sheet i))
 unfolding talliesOf
 rule-tallies {sheet} {log} {account} a i h =
-    let kept = ap (λ (l : List ℕ). getD l i 0) (a .kept-is) ∙ tally-at (tallyOf keeps log) (sheet .steps) (replicate (mostTallies - length (sheet .steps)) 0) i h in
-    let broken = ap (λ (l : List ℕ). getD l i 0) (a .broken-is) ∙ tally-at (tallyOf breaks log) (sheet .steps) (replicate (mostTallies - length (sheet .steps)) 0) i h in
+    let kept = ap (λ (l : List ℕ). getD l i 0) (a .kept-is) ∙ tally-at (tallyOf keeps log) (sheet .steps)
+    (replicate (mostTallies - length (sheet .steps)) 0) i h in
+    let broken = ap (λ (l : List ℕ). getD l i 0) (a .broken-is) ∙ tally-at (tallyOf breaks log) (sheet .steps)
+    (replicate (mostTallies - length (sheet .steps)) 0) i h in
     (kept, broken, ap₂ _+_ kept broken ∙ kept-and-broken log (ruleOf sheet i))
 
 -- A rule that the sheet does not have has no tally.
@@ -67,7 +69,8 @@ pub no-rule-tallies : {sheet : Sheet} {log : List ℕ} {account : Account} → A
 unfolding talliesOf
 no-rule-tallies {sheet} {log} {account} a i h = (
   ap (λ (l : List ℕ). getD l i 0) (a .kept-is) ∙ no-tally-at (tallyOf keeps log) (sheet .steps) (mostTallies - length (sheet .steps)) i h,
-  ap (λ (l : List ℕ). getD l i 0) (a .broken-is) ∙ no-tally-at (tallyOf breaks log) (sheet .steps) (mostTallies - length (sheet .steps)) i h,
+  ap (λ (l : List ℕ). getD l i 0) (a .broken-is) ∙ no-tally-at (tallyOf breaks log) (sheet .steps) (mostTallies - length (sheet .steps)) i
+      h,
 )
 
 -- ---- the rule that is told
@@ -93,7 +96,8 @@ told-above s t i (rule ∷ rules) = by (stepHolds s t rule) (told-above s t (suc
 pub rule-told-first : (s t i : ℕ) (rules : List StepRule) (k : ℕ) → firstBroken s t (suc i) rules ≡ suc (i + k) → FirstAt s t rules k
 unfolding firstBroken
 rule-told-first s t i [] k e = absurd (omega (arith, e))
-rule-told-first s t i (rule ∷ rules) k e = by (stepHolds s t rule) refl k e (told-above s t (suc i) rules) (λ m q. rule-told-first s t (suc i) rules m q)
+rule-told-first s t i (rule ∷ rules) k e = by (stepHolds s t rule) refl k e (told-above s t (suc i) rules)
+    (λ m q. rule-told-first s t (suc i) rules m q)
   where
     by : (b : Bool) → stepHolds s t rule ≡ b → (k : ℕ) → cond b (firstBroken s t (suc (suc i)) rules) (suc i) ≡ suc (i + k)
         → (firstBroken s t (suc (suc i)) rules ≡ 0) ⊎ (suc (suc i) ≤ firstBroken s t (suc (suc i)) rules)
@@ -176,31 +180,36 @@ length-low n (s ∷ log) = ap suc (length-low n log)
 -- The step rules asked of a move are asked of the low bits.
 step-low : (n s t : ℕ) (rule : StepRule) → SidesNamed n rule → stepHolds (s % 2 ^ n) (t % 2 ^ n) rule ≡ stepHolds s t rule
 unfolding stepHolds
-step-low n s t rule named = ap₂ (λ (a b : Bool). not a || b) (all-low n s (rule .left) (named .left)) (some-low n t (rule .right) (named .right))
+step-low n s t rule named = ap₂ (λ (a b : Bool). not a || b) (all-low n s (rule .left) (named .left))
+    (some-low n t (rule .right) (named .right))
 
 broken-low : (n s t i : ℕ) (rules : List StepRule) → ((k : ℕ) → k < length rules → SidesNamed n (getD rules k (stepOf [])))
     → firstBroken (s % 2 ^ n) (t % 2 ^ n) i rules ≡ firstBroken s t i rules
 unfolding firstBroken
 broken-low n s t i [] named = refl
 broken-low n s t i (rule ∷ rules) named =
-    ap₂ (λ (b : Bool) (r : ℕ). cond b r i) (step-low n s t rule (named 0 (omega arith))) (broken-low n s t (suc i) rules (λ k h. named (suc k) (omega arith)))
+    ap₂ (λ (b : Bool) (r : ℕ). cond b r i) (step-low n s t rule (named 0 (omega arith)))
+    (broken-low n s t (suc i) rules (λ k h. named (suc k) (omega arith)))
 
 -- a test of moves that looks at low bits alone counts the same
-tally-low : (n : ℕ) (g : StepRule → ℕ → ℕ → Bool) (rule : StepRule) (log : List ℕ) → ((s t : ℕ) → g rule (s % 2 ^ n) (t % 2 ^ n) ≡ g rule s t)
-    → tallyOf (λ r l i. g r (stateAt l i) (stateAt l (suc i))) (lowBits n log) rule ≡ tallyOf (λ r l i. g r (stateAt l i) (stateAt l (suc i))) log rule
+tally-low : (n : ℕ) (g : StepRule → ℕ → ℕ → Bool) (rule : StepRule) (log : List ℕ)
+    → ((s t : ℕ) → g rule (s % 2 ^ n) (t % 2 ^ n) ≡ g rule s t)
+    → tallyOf (λ r l i. g r (stateAt l i) (stateAt l (suc i))) (lowBits n log) rule ≡ tallyOf
+    (λ r l i. g r (stateAt l i) (stateAt l (suc i))) log rule
 unfolding tallyOf movesOf
 tally-low n g rule log low =
     ap (λ (m : ℕ). howMany (λ i. g rule (stateAt (lowBits n log) i) (stateAt (lowBits n log) (suc i))) (m - 1)) (length-low n log)
     ∙ same-count (length log - 1)
     (λ i h. ap₂ (g rule) (state-low n log i) (state-low n log (suc i)) ∙ low (stateAt log i) (stateAt log (suc i)))
 
-same-map : (f g : StepRule → ℕ) (rules : List StepRule) → ((k : ℕ) → k < length rules → f (getD rules k (stepOf [])) ≡ g (getD rules k (stepOf [])))
+same-map : (f g : StepRule → ℕ) (rules : List StepRule)
+    → ((k : ℕ) → k < length rules → f (getD rules k (stepOf [])) ≡ g (getD rules k (stepOf [])))
     → map f rules ≡ map g rules
 same-map f g [] same = refl
 same-map f g (rule ∷ rules) same = ap₂ _∷_ (same 0 (omega arith)) (same-map f g rules (λ k h. same (suc k) (omega arith)))
 
--- "Bits above n are ignored in the tallies", and in the step rules: of a good sheet, the tallies of a log are those of its low bits, and a move
--- breaks the same rule first.
+-- "Bits above n are ignored in the tallies", and in the step rules: of a good sheet, the tallies of a log are those of its low bits, and a
+-- move breaks the same rule first.
 pub high-bits-ignored : (s : List ℕ) → firstFault s ≡ none → (log : List ℕ)
     → (talliesOf keeps (decode s) (lowBits (lettersIn s) log) ≡ talliesOf keeps (decode s) log)
     × (talliesOf breaks (decode s) (lowBits (lettersIn s) log) ≡ talliesOf breaks (decode s) log)
@@ -217,24 +226,31 @@ high-bits-ignored s good log = (
     n : ℕ
     n = lettersIn s
 
-    left : (k : ℕ) → k < length (decode s .steps) → (a : ℕ) → allTrue (a % 2 ^ n) (ruleOf (decode s) k .left) ≡ allTrue a (ruleOf (decode s) k .left)
+    left : (k : ℕ) → k < length (decode s .steps) → (a : ℕ) → allTrue (a % 2 ^ n) (ruleOf (decode s) k .left) ≡ allTrue a
+        (ruleOf (decode s) k .left)
     left k h a = all-low n a (ruleOf (decode s) k .left) (good-sides s good k h .left)
 
-    right : (k : ℕ) → k < length (decode s .steps) → (t : ℕ) → someTrue (t % 2 ^ n) (ruleOf (decode s) k .right) ≡ someTrue t (ruleOf (decode s) k .right)
+    right : (k : ℕ) → k < length (decode s .steps) → (t : ℕ) → someTrue (t % 2 ^ n) (ruleOf (decode s) k .right) ≡ someTrue t
+        (ruleOf (decode s) k .right)
     right k h t = some-low n t (ruleOf (decode s) k .right) (good-sides s good k h .right)
 
     all : (g : StepRule → ℕ → ℕ → Bool)
-        → ((k : ℕ) → k < length (decode s .steps) → (a t : ℕ) → g (ruleOf (decode s) k) (a % 2 ^ n) (t % 2 ^ n) ≡ g (ruleOf (decode s) k) a t)
-        → map (tallyOf (λ r l i. g r (stateAt l i) (stateAt l (suc i))) (lowBits n log)) (decode s .steps) ++ replicate (mostTallies - length (decode s .steps)) 0
-        ≡ map (tallyOf (λ r l i. g r (stateAt l i) (stateAt l (suc i))) log) (decode s .steps) ++ replicate (mostTallies - length (decode s .steps)) 0
+        → ((k : ℕ) → k < length (decode s .steps) → (a t : ℕ) → g (ruleOf (decode s) k) (a % 2 ^ n) (t % 2 ^ n) ≡ g (ruleOf (decode s) k)
+        a t)
+        → map (tallyOf (λ r l i. g r (stateAt l i) (stateAt l (suc i))) (lowBits n log)) (decode s .steps) ++ replicate
+        (mostTallies - length (decode s .steps)) 0
+        ≡ map (tallyOf (λ r l i. g r (stateAt l i) (stateAt l (suc i))) log) (decode s .steps) ++ replicate
+        (mostTallies - length (decode s .steps)) 0
     all g low =
         ap (λ (l : List ℕ). l ++ replicate (mostTallies - length (decode s .steps)) 0)
-        (same-map (tallyOf (λ r l i. g r (stateAt l i) (stateAt l (suc i))) (lowBits n log)) (tallyOf (λ r l i. g r (stateAt l i) (stateAt l (suc i))) log)
+        (same-map (tallyOf (λ r l i. g r (stateAt l i) (stateAt l (suc i))) (lowBits n log))
+        (tallyOf (λ r l i. g r (stateAt l i) (stateAt l (suc i))) log)
         (decode s .steps) (λ k h. tally-low n g (ruleOf (decode s) k) log (low k h)))
 
 -- ---- a cutting does not show by a refusal
 
-calls-from : (sheet : List ℕ) → firstFault sheet ≡ none → (log : List ℕ) (account : Account) (pieces : List (List ℕ)) → AccountOf (decode sheet) log account
+calls-from : (sheet : List ℕ) → firstFault sheet ≡ none → (log : List ℕ) (account : Account) (pieces : List (List ℕ))
+    → AccountOf (decode sheet) log account
     → length log ≤ mostMoments → ((last : Account) × Calls sheet account pieces last) ↔ (length (log ++ joined pieces) ≤ mostMoments)
 calls-from sheet good log account [] a few =
     (λ c. subst (λ (l : List ℕ). length l ≤ mostMoments) (sym (append-nil log)) few, λ h. (account, refl))
@@ -246,7 +262,8 @@ calls-from sheet good log account (piece ∷ pieces) a few =
   where
     Rest : Type 0
     Rest = (length (log ++ piece) ≤ mostMoments)
-        → ((last : Account) × Calls sheet (carried (decode sheet) account piece) pieces last) ↔ (length ((log ++ piece) ++ joined pieces) ≤ mostMoments)
+        → ((last : Account) × Calls sheet (carried (decode sheet) account piece) pieces last) ↔
+        (length ((log ++ piece) ++ joined pieces) ≤ mostMoments)
 
     bound : Past account piece ↔ (mostMoments < length (log ++ piece))
     bound = refused-by-length-only (decode sheet) log account piece a
@@ -270,8 +287,8 @@ calls-from sheet good log account (piece ∷ pieces) a few =
         let (last, calls) = rest fits .1 all in
         (last, (carried (decode sheet) account piece, done good (λ p. absurd (omega (arith, bound .0 p))) refl refl refl, calls))
 
--- From the empty account on, the calls of a cutting are all answered 0 exactly if the whole log has at most 1,000,000 moments: what decides is the
--- log and not how it is cut. (A byte counts the step rules, so no sheet of bytes has more than 255.)
+-- From the empty account on, the calls of a cutting are all answered 0 exactly if the whole log has at most 1,000,000 moments: what decides
+-- is the log and not how it is cut. (A byte counts the step rules, so no sheet of bytes has more than 255.)
 pub calls-exactly : (sheet : List ℕ) → firstFault sheet ≡ none → stepsIn sheet ≤ 255 → (pieces : List (List ℕ))
     → ((last : Account) × Calls sheet empty pieces last) ↔ (length (joined pieces) ≤ mostMoments)
 calls-exactly sheet good few pieces =

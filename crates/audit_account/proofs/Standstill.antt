@@ -13,7 +13,8 @@ use lib.ListN.{length, getD, drop}
 use lib.Seq.{drop-cons}
 use Rattle.rules.specs.Book.{bookLawful, bookFirst, stepsOf}
 use Rattle.audit_account.specs.Account.{Account, nothing, unlawful, brokeFirst, brokeStep}
-use Rattle.audit_account.specs.Book.{keptBy, brokenBy, bumped, bookIs, bookBroke, bookBreaks, bookTallies, isFirst, ruleTold, bookNoted}
+use Rattle.audit_account.specs.Book.{keptBy, brokenBy, bumped, bookIs, bookBroke, bookBreaks, bookTallies, isFirst, ruleTold}
+use Rattle.audit_account.specs.Book.{bookNoted}
 use Rattle.audit_account.specs.Book.{bookCarried, Standing, SameMoves}
 use Rattle.audit_account.proofs.Tallies.{bumped-twice}
 
@@ -39,7 +40,8 @@ after account count is rule first kept broken = record {
 abbrev stillNoted : List ℕ → Account → ℕ → Account
 stillNoted book account times =
     after account (account .count + times) (stillIs book (account .last))
-    (ruleTold (stillIs book (account .last)) (bookBroke book (account .last) (account .last))) (isFirst (account .what) (stillIs book (account .last)))
+    (ruleTold (stillIs book (account .last)) (bookBroke book (account .last) (account .last)))
+    (isFirst (account .what) (stillIs book (account .last)))
     (bumped times (keptBy book (account .last) (account .last)) (stepsOf book) (account .kept))
     (bumped times (brokenBy book (account .last) (account .last)) (stepsOf book) (account .broken))
 
@@ -99,11 +101,14 @@ carried-one book states account i t h here =
     ∙ sym (ap (bookCarried book account) (drop-cons states i 0 h))
 
 -- So do as many as the log stands still.
-carried-still : (book states : List ℕ) (account : Account) (i more : ℕ) → (account .count ≡ 0 → ⊥) → Standing states i (account .last) (more + 1)
-    → bookCarried book (bookNoted book account (account .last) (more + 1)) (drop (i + (more + 1)) states) ≡ bookCarried book account (drop i states)
+carried-still : (book states : List ℕ) (account : Account) (i more : ℕ) → (account .count ≡ 0 → ⊥) → Standing states i (account .last)
+    (more + 1)
+    → bookCarried book (bookNoted book account (account .last) (more + 1)) (drop (i + (more + 1)) states) ≡ bookCarried book account
+    (drop i states)
 carried-still book states account i zero some stands =
     let at : i + 0 ≡ i = omega arith in
-    carried-one book states account i (account .last) (omega (arith, stands .within)) (ap (λ (k : ℕ). getD states k 0) (sym at) ∙ stands .same 0 (omega arith))
+    carried-one book states account i (account .last) (omega (arith, stands .within)) (ap (λ (k : ℕ). getD states k 0) (sym at)
+    ∙ stands .same 0 (omega arith))
 carried-still book states account i (suc more) some stands =
     let fewer : Standing states i (account .last) (more + 1) =
     record { within = omega (arith, stands .within); same = λ j h. stands .same j (omega arith) } in
@@ -111,7 +116,8 @@ carried-still book states account i (suc more) some stands =
     let place : i + (suc more + 1) ≡ i + (more + 1) + 1 = omega arith in
     ap₂ (λ (n k : ℕ). bookCarried book (bookNoted book account (account .last) n) (drop k states)) count place
     ∙ sym (ap (λ (a : Account). bookCarried book a (drop (i + (more + 1) + 1) states)) (noted-again book account (more + 1) some))
-    ∙ carried-one book states (bookNoted book account (account .last) (more + 1)) (i + (more + 1)) (account .last) (omega (arith, stands .within))
+    ∙ carried-one book states (bookNoted book account (account .last) (more + 1)) (i + (more + 1)) (account .last)
+    (omega (arith, stands .within))
     (stands .same (more + 1) (omega arith))
     ∙ carried-still book states account i more some fewer
 
@@ -121,7 +127,8 @@ pub carried-same : (book states : List ℕ) (account : Account) (i times : ℕ) 
 carried-same book states account i times same = by (same .alike)
   where
     by : (times ≡ 1) ⊎ ((account .count ≡ 0 → ⊥) × Standing states i (account .last) times)
-        → bookCarried book (bookNoted book account (getD states i 0) times) (drop (i + times) states) ≡ bookCarried book account (drop i states)
+        → bookCarried book (bookNoted book account (getD states i 0) times) (drop (i + times) states) ≡ bookCarried book account
+        (drop i states)
     by (inl one) =
         ap (λ (n : ℕ). bookCarried book (bookNoted book account (getD states i 0) n) (drop (i + n) states)) one
         ∙ carried-one book states account i (getD states i 0) (omega (arith, same .within, same .some)) refl
@@ -142,7 +149,8 @@ carried-same book states account i times same = by (same .alike)
 pub standing-none : (states : List ℕ) (from s i : ℕ) → from ≤ length states → i ≡ from → Standing states from s (i - from)
 standing-none states from s i few e = record { within = omega arith; same = λ j h. absurd (omega arith) }
 
-pub standing-next : {states : List ℕ} {from s i : ℕ} → from ≤ i → i < length states → Standing states from s (i - from) → getD states i 0 ≡ s
+pub standing-next : {states : List ℕ} {from s i : ℕ} → from ≤ i → i < length states → Standing states from s (i - from)
+    → getD states i 0 ≡ s
     → Standing states from s (i + 1 - from)
 standing-next {states} {from} {s} {i} up h before here = record { within = omega arith; same = λ j k. by j (decLt j (i - from)) k }
   where
@@ -154,5 +162,6 @@ standing-next {states} {from} {s} {i} up h before here = record { within = omega
 pub one-move : (states : List ℕ) (i count last : ℕ) → i < length states → SameMoves states i count last 1
 one-move states i count last h = record { some = omega arith; within = omega arith; alike = inl refl }
 
-pub still-moves : {states : List ℕ} {i count last n : ℕ} → (count ≡ 0 → ⊥) → (n ≡ 0 → ⊥) → Standing states i last n → SameMoves states i count last n
+pub still-moves : {states : List ℕ} {i count last n : ℕ} → (count ≡ 0 → ⊥) → (n ≡ 0 → ⊥) → Standing states i last n
+    → SameMoves states i count last n
 still-moves {n = n} some there stands = record { some = omega arith; within = stands .within; alike = inr (some, stands) }

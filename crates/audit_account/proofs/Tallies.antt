@@ -1,7 +1,7 @@
--- The tallies of one and the same move, made `times` times, rule by rule: what one rule adds (rule-tallied), what the next rule adds to those
--- before it (tallied-none, tallied-next), that places not reached yet are as they were (bumped-above), that no tally grows by more than `times`
--- (bumped-within, moved-within), and that moves counted one after the other are the moves counted at once (bumped-twice). The first rule
--- broken is found by looking for it (first-is). Assumes nothing.
+-- The tallies of one and the same move, made `times` times, rule by rule: what one rule adds (rule-tallied), what the next rule adds to
+-- those before it (tallied-none, tallied-next), that places not reached yet are as they were (bumped-above), that no tally grows by more
+-- than `times` (bumped-within, moved-within), and that moves counted one after the other are the moves counted at once (bumped-twice). The
+-- first rule broken is found by looking for it (first-is). Assumes nothing.
 use mathlib.Core.Path.{_≡_, refl, sym, _∙_, ap, ap₂, subst}
 use mathlib.Core.Bool.{Bool, true, false, cond, not, _&&_, _||_}
 use mathlib.Core.List.{List, [], _∷_}
@@ -15,14 +15,16 @@ use lib.Seq.{getD-set-same, getD-set-other, set-out}
 use Rattle.rules.specs.Book.{allAt, someAt, stepAt, rightAt, stepsOf}
 use Rattle.audit_account.specs.Account.{Account, mostTallies}
 use Rattle.audit_account.specs.Carry.{mostMoments}
-use Rattle.audit_account.specs.Book.{keptBy, brokenBy, bump, bumped, firstOf, bookBroke, bookBreaks, bookTallies, Within, Ruled, Tallied}
+use Rattle.audit_account.specs.Book.{keptBy, brokenBy, bump, bumped, firstOf, bookBroke, bookBreaks, bookTallies, Within, Ruled}
+use Rattle.audit_account.specs.Book.{Tallied}
 use Rattle.audit_account.specs.Book.{mostTally, Moved}
 
 -- What one rule adds: to the kept moves, to the broken ones, or nothing.
 pub rule-tallied : (book : List ℕ) (s t times i : ℕ) (kept broken : List ℕ) (asks allows : Bool) (more-kept more-broken : ℕ)
     → asks ≡ allAt book (stepAt i) s → allows ≡ someAt book (rightAt i) t → more-kept ≡ cond (asks && allows) times 0
     → more-broken ≡ cond (asks && not allows) times 0
-    → Ruled book s t times i kept broken (set kept i (getD kept i 0 + more-kept)) (set broken i (getD broken i 0 + more-broken)) (asks && not allows)
+    → Ruled book s t times i kept broken (set kept i (getD kept i 0 + more-kept)) (set broken i (getD broken i 0 + more-broken))
+    (asks && not allows)
 unfolding keptBy brokenBy bump
 rule-tallied book s t times i kept broken asks allows more-kept more-broken a b m x =
     let keeps : asks && allows ≡ keptBy book s t i = ap₂ (λ (x y : Bool). x && y) a b in
@@ -94,7 +96,8 @@ pub bumped-twice : (many more : ℕ) (f : ℕ → Bool) (n : ℕ) (l : List ℕ)
 unfolding bumped
 bumped-twice many more f zero l = refl
 bumped-twice many more f (suc n) [] =
-    ap (bumped more f (suc n)) (bumped-nothing many f (suc n)) ∙ bumped-nothing more f (suc n) ∙ sym (bumped-nothing (many + more) f (suc n))
+    ap (bumped more f (suc n)) (bumped-nothing many f (suc n)) ∙ bumped-nothing more f (suc n)
+    ∙ sym (bumped-nothing (many + more) f (suc n))
 bumped-twice many more f (suc n) (x ∷ l) =
     ap (bumped more f (suc n)) (bumped-front many f n x l)
     ∙ bumped-front more f n (x + cond (f 0) many 0) (bumped many (λ i. f (suc i)) n l)
@@ -164,7 +167,8 @@ tallied-all {book} {s} {t} {times} {m} {n} {kept} {broken} {kept′} {broken′}
 
 -- The place of the next rule has not been counted at yet, and `times` more fit.
 pub place-fits : (book : List ℕ) (s t times n : ℕ) (kept broken kept′ broken′ : List ℕ) (some : Bool) → times ≤ mostMoments
-    → Within (mostMoments + mostMoments) kept → Within (mostMoments + mostMoments) broken → Tallied book s t times n kept broken kept′ broken′ some
+    → Within (mostMoments + mostMoments) kept → Within (mostMoments + mostMoments) broken
+    → Tallied book s t times n kept broken kept′ broken′ some
     → n < mostTallies → (getD kept′ n 0 + times ≤ mostTally) × (getD broken′ n 0 + times ≤ mostTally)
 place-fits book s t times n kept broken kept′ broken′ some few-times k b before few =
     (one kept kept′ (keptBy book s t) k (before .keeps), one broken broken′ (brokenBy book s t) b (before .breaks))
@@ -186,24 +190,29 @@ moved-by : (book : List ℕ) (account : Account) (t times : ℕ) (kept broken : 
 unfolding bookBreaks bookTallies
 moved-by book account t times kept broken broke none e says keeps breaks = record {
   says = says ∙ sym (ap (λ (b : Bool). not b && not (eqb (bookBroke book (account .last) t) 0)) e);
-  keeps = keeps ∙ sym (ap (λ (b : Bool). cond b (account .kept) (bumped times (keptBy book (account .last) t) (stepsOf book) (account .kept))) e);
-  breaks = breaks ∙ sym (ap (λ (b : Bool). cond b (account .broken) (bumped times (brokenBy book (account .last) t) (stepsOf book) (account .broken))) e);
+  keeps = keeps ∙ sym (ap (λ (b : Bool). cond b (account .kept) (bumped times (keptBy book (account .last) t) (stepsOf book)
+      (account .kept))) e);
+  breaks = breaks ∙ sym (ap (λ (b : Bool). cond b (account .broken) (bumped times (brokenBy book (account .last) t) (stepsOf book)
+      (account .broken))) e);
 }
 
 -- A log's first state is no move.
-pub moved-first : (book : List ℕ) (account : Account) (t times : ℕ) → account .count ≡ 0 → Moved book account t times (account .kept) (account .broken) false
+pub moved-first : (book : List ℕ) (account : Account) (t times : ℕ) → account .count ≡ 0 → Moved book account t times (account .kept)
+    (account .broken) false
 moved-first book account t times none =
     moved-by book account t times (account .kept) (account .broken) false true (eq-eqb (account .count) 0 none) refl refl refl
 
 -- Any other is counted for every rule.
 pub moved-on : (book : List ℕ) (account : Account) (t times : ℕ) (kept broken : List ℕ) (some : Bool) → (account .count ≡ 0 → ⊥)
-    → Tallied book (account .last) t times (stepsOf book) (account .kept) (account .broken) kept broken some → Moved book account t times kept broken some
+    → Tallied book (account .last) t times (stepsOf book) (account .kept) (account .broken) kept broken some
+    → Moved book account t times kept broken some
 unfolding bookBroke
 moved-on book account t times kept broken some later all =
     moved-by book account t times kept broken some false (ne-eqb (account .count) 0 later) (all .says) (all .keeps) (all .breaks)
 
 -- Tallies within b are within b + times after such moves.
-pub moved-within : (book : List ℕ) (account : Account) (t times b : ℕ) (kept broken : List ℕ) (broke : Bool) → Moved book account t times kept broken broke
+pub moved-within : (book : List ℕ) (account : Account) (t times b : ℕ) (kept broken : List ℕ) (broke : Bool)
+    → Moved book account t times kept broken broke
     → Within b (account .kept) → Within b (account .broken) → Within (b + times) kept × Within (b + times) broken
 unfolding bookTallies
 moved-within book account t times b kept broken broke m k x =

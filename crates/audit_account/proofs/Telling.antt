@@ -1,4 +1,5 @@
--- What one state is and what is told of it: the ladders of tests (tests), what a state is (is-by), the rule told (told-step, told-other). Assumes nothing.
+-- What one state is and what is told of it: the ladders of tests (tests), what a state is (is-by), the rule told (told-step, told-other).
+-- Assumes nothing.
 use mathlib.Core.Path.{_≡_, sym, _∙_, ap}
 use mathlib.Core.Logic.{inl, inr, _↔_}
 use mathlib.Core.Bool.{Bool, cond}
@@ -22,7 +23,8 @@ pub ruleset tests = (lt-ltb, le-ltb, le-leb, lt-leb, eq-eqb, ne-eqb)
 -- ---- what a state is
 
 -- By the tests, whichever way they come out.
-pub is-by : (book : List ℕ) (count : ℕ) (broke : Bool) (t : ℕ) {a b f z : Bool} → bookLawful book t ≡ a → eqb count 0 ≡ b → bookFirst book t ≡ f → broke ≡ z
+pub is-by : (book : List ℕ) (count : ℕ) (broke : Bool) (t : ℕ) {a b f z : Bool} → bookLawful book t ≡ a → eqb count 0 ≡ b
+    → bookFirst book t ≡ f → broke ≡ z
     → bookIs book count broke t ≡ cond a (cond b (cond f nothing brokeFirst) (cond z brokeStep nothing)) unlawful
 unfolding bookIs
 is-by book count broke t p q r s =
@@ -73,7 +75,12 @@ past-by-broken account more count kept says = says-as (λ p. inr (inr p)) back s
 pub carriable : (account : Account) (more : ℕ) → (PastBy account more → ⊥) → Carriable account more
 carriable account more fits =
     let few : mostMoments < account .count + more → ⊥ = λ p. fits (inl (inr p)) in
-    record { few = omega (arith, few); kept = within (account .kept) (λ p. fits (inr (inl p))); broken = within (account .broken) (λ p. fits (inr (inr p))) }
+    record {
+      few = omega (arith, few);
+      kept = within (account .kept) (λ p. fits (inr (inl p)));
+      broken = within (account .broken)
+          (λ p. fits (inr (inr p)));
+    }
   where
     within : (tallies : List ℕ) → (SomePast tallies → ⊥) → Within mostMoments tallies
     within tallies none = record { within = λ i h. at i h (λ p. none (record { at = i; within = h; past = p })) }

@@ -145,13 +145,15 @@ pub refused-unchanged : {sheet before piece after : List ℕ} {n : ℕ} → leng
     → (n ≡ 0 → ⊥) → after ≡ before
 refused-unchanged {before = before} {after = after} {n = n} long out refused = out .written ∙ by (out .promise)
   where
-    by : {sheet piece : List ℕ} {place : ℕ} {back : Account} → Audited sheet (readAccount before) piece n place back → writeAccount back ≡ before
+    by : {sheet piece : List ℕ} {place : ℕ} {back : Account} → Audited sheet (readAccount before) piece n place back
+        → writeAccount back ≡ before
     by (faulty f e m p b) = ap writeAccount b ∙ write-read before long
     by (past e over m p b) = ap writeAccount b ∙ write-read before long
     by (done e within m p b) = absurd (refused m)
 
 -- The five numbers stored, and then the tallies copied to their places, are the account written out.
-pub numbers-written : (account : Account) (before kept all : List ℕ) → length before ≡ 515 → getD before 0 0 ≡ account .count → getD before 1 0 ≡ account .last
+pub numbers-written : (account : Account) (before kept all : List ℕ) → length before ≡ 515 → getD before 0 0 ≡ account .count
+    → getD before 1 0 ≡ account .last
     → getD before 2 0 ≡ account .what → getD before 3 0 ≡ account .moment → getD before 4 0 ≡ account .rule
     → Copied mostTallies (account .kept) 0 before 5 kept → Copied mostTallies (account .broken) 0 kept 260 all → all ≡ writeAccount account
 numbers-written account before kept all long e0 e1 e2 e3 e4 k b = holds-written all account (record {

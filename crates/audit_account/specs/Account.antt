@@ -1,6 +1,6 @@
--- The account of a log: what document 02's order 2 reports of the whole of a monitor's recorded states held against a sheet. Nothing here knows
--- of pieces. "Moments are numbered by order of arrival and never by the clock": the state at moment i is the log's i-th, from 0. Promises are
--- not judged on a log. Assumes nothing.
+-- The account of a log: what document 02's order 2 reports of the whole of a monitor's recorded states held against a sheet. Nothing here
+-- knows of pieces. "Moments are numbered by order of arrival and never by the clock": the state at moment i is the log's i-th, from 0.
+-- Promises are not judged on a log. Assumes nothing.
 use mathlib.Core.Path.{_≡_}
 use mathlib.Core.Logic.{_⊎_}
 use mathlib.Core.Bool.{Bool, cond, not, _&&_}
@@ -42,9 +42,9 @@ pub record Account : Type 0 where
 
 -- ---- one state
 
--- The first step rule that the step from s to t breaks, the first of `rules` being rule i; 0 if it breaks none. Rules are numbered from 1. The
--- letters of s and t decide, also where one of them is unlawful: "a move out of or into an unlawful state is judged on its letters all the
--- same", and "bits above n are ignored", for no literal names them.
+-- The first step rule that the step from s to t breaks, the first of `rules` being rule i; 0 if it breaks none. Rules are numbered from 1.
+-- The letters of s and t decide, also where one of them is unlawful: "a move out of or into an unlawful state is judged on its letters all
+-- the same", and "bits above n are ignored", for no literal names them.
 unfoldable pub firstBroken : (s t i : ℕ) → List StepRule → ℕ
 firstBroken s t i [] = 0
 firstBroken s t i (rule ∷ rules) = cond (stepHolds s t rule) (firstBroken s t (suc i) rules) i

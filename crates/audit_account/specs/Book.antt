@@ -1,6 +1,6 @@
--- The same account carried on by a compiled sheet, as the code does it: the tallies rule by rule from the first, what a state is by the book's
--- tests, and states that come by one and the same move all at once. proofs/Compiled.antt shows that for a sheet's own book this, one state at a
--- time, is what Carry.antt says of the sheet; proofs/Standstill.antt that all at once is the same. Assumes nothing.
+-- The same account carried on by a compiled sheet, as the code does it: the tallies rule by rule from the first, what a state is by the
+-- book's tests, and states that come by one and the same move all at once. proofs/Compiled.antt shows that for a sheet's own book this, one
+-- state at a time, is what Carry.antt says of the sheet; proofs/Standstill.antt that all at once is the same. Assumes nothing.
 use mathlib.Core.Path.{_≡_}
 use mathlib.Core.Logic.{_⊎_}
 use mathlib.Core.Bool.{Bool, cond, not, _&&_}

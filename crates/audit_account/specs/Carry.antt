@@ -1,7 +1,8 @@
--- What the audit's call promises. A log is "handed over some at a time": the call carries an account on by one piece. Any numbers may be handed
--- in as an account, also such as no audit made, and each has one outcome. proofs/ show that carrying on from the empty account, however the
--- log is cut, gives the account of the whole log (Account.antt). Of an account that no audit made a cut can show, by a refusal: one whose tally
--- stands at 1,000,000 while it counts fewer moments may be carried on by a piece whose halves would be refused. Assumes nothing.
+-- What the audit's call promises. A log is "handed over some at a time": the call carries an account on by one piece. Any numbers may be
+-- handed in as an account, also such as no audit made, and each has one outcome. proofs/ show that carrying on from the empty account,
+-- however the log is cut, gives the account of the whole log (Account.antt). Of an account that no audit made a cut can show, by a refusal:
+-- one whose tally stands at 1,000,000 while it counts fewer moments may be carried on by a piece whose halves would be refused. Assumes
+-- nothing.
 use mathlib.Core.Path.{_≡_}
 use mathlib.Core.Logic.{_⊎_}
 use mathlib.Core.Bool.{Bool, cond, not, _&&_}
@@ -97,8 +98,8 @@ PastBy account more = PastCount (account .count) more ⊎ (SomePast (account .ke
 abbrev pub Past : Account → List ℕ → Type 0
 Past account piece = PastBy account (length piece)
 
--- The call's promise: its number, its place, and the account handed back. A bad sheet's 1 to 10 come first; a refusal hands the account back
--- unchanged.
+-- The call's promise: its number, its place, and the account handed back. A bad sheet's 1 to 10 come first; a refusal hands the account
+-- back unchanged.
 pub data Audited (sheet : List ℕ) (account : Account) (piece : List ℕ) (n place : ℕ) (back : Account) : Type 0 where
   faulty : (f : Fault) → firstFault sheet ≡ some f → n ≡ numberOf (f .why) → place ≡ f .at → back ≡ account
       → Audited sheet account piece n place back

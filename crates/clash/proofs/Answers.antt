@@ -80,7 +80,8 @@ each-needed (spare never j c A e) is = absurd (omega arith)
 each-needed (needed all e) is = all
 
 -- Where all of them give 12, the pass says 12, or 11.
-each-of-fight : {sheet marks : List ℕ} {lent : Lent} {n : ℕ} → EachTried sheet lent marks n → Fighting sheet lent marks → (n ≡ 11 → ⊥) → n ≡ 12
+each-of-fight : {sheet marks : List ℕ} {lent : Lent} {n : ℕ} → EachTried sheet lent marks n → Fighting sheet lent marks → (n ≡ 11 → ⊥)
+    → n ≡ 12
 each-of-fight (more j c A e) F apart = absurd (apart e)
 each-of-fight (spare never j c A e) F apart = absurd (answered-apart A (λ x. omega arith) (F .one-less j c))
 each-of-fight (needed all e) F apart = e
@@ -180,41 +181,42 @@ module _ {sheet marks : List ℕ} {lent later : Lent} {n : ℕ} (all : marks ≡
   works-kept marks′ e = record { finds = P.kept (answered-is e whole-answered) refl; lengths = T .lengths }
 
   -- 13 for it: dropping goes on from all rules
-  module _ {marks′ : List ℕ} {after : Lent} {r : Bool} (e : n ≡ 13) (D : Drops sheet later (getD sheet stepsByte 0) marks r marks′ after) where
-    works-reduced : Reduced sheet lent (endOf r marks′)
-    works-reduced = record {
-      whole = answered-is e whole-answered;
-      dropping = subst (λ (k : ℕ). Dropping sheet lent k (firstMarks k) (endOf r marks′)) (count-is sheet)
-          (subst (λ (m : List ℕ). Dropping sheet lent (getD sheet stepsByte 0) m (endOf r marks′)) all
-          (dropping-later sheet (T .lengths) (getD sheet stepsByte 0) marks (endOf r marks′) (D .dropping)));
-    }
-
-    reduced-to : {x : Bool} → r ≡ x → Reduced sheet lent (endOf x marks′)
-    reduced-to e = subst (λ (x : Bool). Reduced sheet lent (endOf x marks′)) e works-reduced
-
-    -- 11 while dropping: 17.
-    pub works-dropping : r ≡ false → Works sheet lent 17 marks′ after
-    works-dropping e =
-        record { finds = P.more (C.dropping (reduced-to e)) refl; lengths = lengths-then (T .lengths) (D .lengths) }
-
-    -- the last pass, with each rule of the choice left out
-    module _ {marks″ : List ℕ} {end : Lent} {k : ℕ} (fits : r ≡ true) (E : EachLeftOut sheet after marks′ k marks″ end) where
-      long : Lengths lent after
-      long = lengths-then (T .lengths) (D .lengths)
-
-      -- 11 in it: 17.
-      pub works-at-last : k ≡ 11 → Works sheet lent 17 marks″ end
-      works-at-last eleven =
-          let (i, chosen, A) = each-crowded (each-later long (E .tried)) eleven in
-          record { finds = P.more (C.at-last marks′ (reduced-to fits) i chosen A) refl; lengths = lengths-then long (E .lengths) }
-
-      -- Else the choice is found.
-      pub works-found : (k ≡ 11 → ⊥) → Works sheet lent 0 marks″ end
-      works-found never = record {
-        finds = subst (λ (m : List ℕ). Finds sheet lent 0 m) (sym (E .unmoved))
-            (P.found (record { reduced = reduced-to fits; roomy = each-roomy (each-later long (E .tried)) never }) refl);
-        lengths = lengths-then long (E .lengths);
+  module _ {marks′ : List ℕ} {after : Lent} {r : Bool} (e : n ≡ 13) (D : Drops sheet later (getD sheet stepsByte 0) marks r marks′ after)
+    where
+      works-reduced : Reduced sheet lent (endOf r marks′)
+      works-reduced = record {
+        whole = answered-is e whole-answered;
+        dropping = subst (λ (k : ℕ). Dropping sheet lent k (firstMarks k) (endOf r marks′)) (count-is sheet)
+            (subst (λ (m : List ℕ). Dropping sheet lent (getD sheet stepsByte 0) m (endOf r marks′)) all
+            (dropping-later sheet (T .lengths) (getD sheet stepsByte 0) marks (endOf r marks′) (D .dropping)));
       }
+
+      reduced-to : {x : Bool} → r ≡ x → Reduced sheet lent (endOf x marks′)
+      reduced-to e = subst (λ (x : Bool). Reduced sheet lent (endOf x marks′)) e works-reduced
+
+      -- 11 while dropping: 17.
+      pub works-dropping : r ≡ false → Works sheet lent 17 marks′ after
+      works-dropping e =
+          record { finds = P.more (C.dropping (reduced-to e)) refl; lengths = lengths-then (T .lengths) (D .lengths) }
+
+      -- the last pass, with each rule of the choice left out
+      module _ {marks″ : List ℕ} {end : Lent} {k : ℕ} (fits : r ≡ true) (E : EachLeftOut sheet after marks′ k marks″ end) where
+        long : Lengths lent after
+        long = lengths-then (T .lengths) (D .lengths)
+
+        -- 11 in it: 17.
+        pub works-at-last : k ≡ 11 → Works sheet lent 17 marks″ end
+        works-at-last eleven =
+            let (i, chosen, A) = each-crowded (each-later long (E .tried)) eleven in
+            record { finds = P.more (C.at-last marks′ (reduced-to fits) i chosen A) refl; lengths = lengths-then long (E .lengths) }
+
+        -- Else the choice is found.
+        pub works-found : (k ≡ 11 → ⊥) → Works sheet lent 0 marks″ end
+        works-found never = record {
+          finds = subst (λ (m : List ℕ). Finds sheet lent 0 m) (sym (E .unmoved))
+              (P.found (record { reduced = reduced-to fits; roomy = each-roomy (each-later long (E .tried)) never }) refl);
+          lengths = lengths-then long (E .lengths);
+        }
 
 -- ---- the planner's answers
 

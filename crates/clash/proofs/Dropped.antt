@@ -1,5 +1,5 @@
--- What dropping keeps: which rules its choice is among, which marks it leaves alone, that 13 stays, and that a rule it kept can be spared from no
--- later choice. Assumes nothing.
+-- What dropping keeps: which rules its choice is among, which marks it leaves alone, that 13 stays, and that a rule it kept can be spared
+-- from no later choice. Assumes nothing.
 use mathlib.Core.Path.{_≡_, refl, sym, _∙_, ap, subst}
 use mathlib.Core.Option.{none, some}
 use mathlib.Core.List.{List, [], _++_}
@@ -72,7 +72,8 @@ module _ (sheet : List ℕ) (lent : Lent) where
   dropping-among (suc i) marks end (drops p next) j m = dropping-among i (leftOut i marks) end next j (left-out-among i marks j m)
   dropping-among (suc i) marks end (keeps p next) j m = dropping-among i marks end next j m
 
-  pub dropping-above : (i : ℕ) (marks end : List ℕ) → Dropping sheet lent i marks (some end) → (j : ℕ) → i ≤ j → getD end j 0 ≡ getD marks j 0
+  pub dropping-above : (i : ℕ) (marks end : List ℕ) → Dropping sheet lent i marks (some end) → (j : ℕ) → i ≤ j
+      → getD end j 0 ≡ getD marks j 0
   unfolding Dropping
   dropping-above zero marks end e j h = ap (λ (l : List ℕ). getD l j 0) (same-some e)
   dropping-above (suc i) marks end (ends p e) j h = absurd (some-not-none (sym e))
@@ -87,7 +88,8 @@ module _ (sheet : List ℕ) (lent : Lent) where
   dropping-plain (suc i) marks end (drops p next) plain j = dropping-plain i (leftOut i marks) end next (left-out-plain marks i plain) j
   dropping-plain (suc i) marks end (keeps p next) plain j = dropping-plain i marks end next plain j
 
-  pub dropping-13 : (i : ℕ) (marks end : List ℕ) → Dropping sheet lent i marks (some end) → Answered sheet lent marks 13 → Answered sheet lent end 13
+  pub dropping-13 : (i : ℕ) (marks end : List ℕ) → Dropping sheet lent i marks (some end) → Answered sheet lent marks 13
+      → Answered sheet lent end 13
   unfolding Dropping
   dropping-13 zero marks end e p = subst (λ (l : List ℕ). Answered sheet lent l 13) (sym (same-some e)) p
   dropping-13 (suc i) marks end (ends q e) p = absurd (some-not-none (sym e))

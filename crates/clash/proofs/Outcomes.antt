@@ -1,5 +1,5 @@
--- The check and the planner leave one outcome each (`clash-checked-unique`, `planned-unique`), in the numbers, the marks and every lent slice, and
--- every input has one (`clash-checked-met`, `planned-met`). Assumes nothing.
+-- The check and the planner leave one outcome each (`clash-checked-unique`, `planned-unique`), in the numbers, the marks and every lent
+-- slice, and every input has one (`clash-checked-met`, `planned-met`). Assumes nothing.
 use mathlib.Core.Path.{_≡_, refl, sym, _∙_, ap, subst}
 use mathlib.Core.Logic.{_⊎_, inl, inr}
 use mathlib.Core.Option.{Option, none, some}
@@ -43,8 +43,12 @@ weighed-unique (refused no-crowd no-fight p) (refused no-crowd′ no-fight′ q)
 -- The check's promise leaves one number, one place and one content of each slice.
 pub clash-checked-unique : {sheet numbers : List ℕ} {before : Lent} {m p n q : ℕ} {x y : Lent}
     → ClashChecked sheet numbers before m p x → ClashChecked sheet numbers before n q y → (m ≡ n) × (p ≡ q) × (x ≡ y)
-clash-checked-unique (faulty f e a b c) (faulty g e′ a′ b′ c′) =
-    (a ∙ ap (λ (x : Fault). numberOf (x .why)) (same-fault e e′) ∙ sym a′, b ∙ ap (λ (x : Fault). x .at) (same-fault e e′) ∙ sym b′, c ∙ sym c′)
+clash-checked-unique (faulty f e a b c) (faulty g e′ a′ b′ c′) = (
+  a ∙ ap (λ (x : Fault). numberOf (x .why)) (same-fault e e′) ∙ sym a′,
+  b ∙ ap (λ (x : Fault). x .at) (same-fault e e′) ∙ sym b′,
+  c
+      ∙ sym c′,
+)
 clash-checked-unique (faulty f e a b c) (misnumbered e′ wrong a′ b′ c′) = absurd (bad-not-good e e′)
 clash-checked-unique (faulty f e a b c) (weighed e′ p w b′ c′) = absurd (bad-not-good e e′)
 clash-checked-unique (misnumbered e wrong a b c) (faulty g e′ a′ b′ c′) = absurd (bad-not-good e′ e)
@@ -181,7 +185,8 @@ module _ (sheet : List ℕ) (lent : Lent) (good : firstFault sheet ≡ none) (no
       twelves : (i : ℕ) → Answered sheet lent (leftOut i marks) 12 ⊎ (Answered sheet lent (leftOut i marks) 12 → ⊥)
       twelves i = at (verdict good no-run (leftOut i marks))
         where
-          at : Verdict sheet lent (leftOut i marks) → Answered sheet lent (leftOut i marks) 12 ⊎ (Answered sheet lent (leftOut i marks) 12 → ⊥)
+          at : Verdict sheet lent (leftOut i marks) → Answered sheet lent (leftOut i marks) 12 ⊎ (Answered sheet lent (leftOut i marks) 12
+              → ⊥)
           at (is-11 p) = inr (λ q. answered-apart p (λ e. omega (arith, e)) q)
           at (is-12 p k) = inl p
           at (is-13 p never) = inr (λ q. answered-apart p (λ e. omega (arith, e)) q)
@@ -198,7 +203,8 @@ module _ (sheet : List ℕ) (lent : Lent) (good : firstFault sheet ≡ none) (no
       fight p roomy (inr w) =
           (14, refused (no-crowd (λ q. answered-apart p (λ e. omega (arith, e)) q) roomy) (λ f. w .2 (f .one-less (w .0) (w .1))) refl)
 
-      by : Verdict sheet lent marks → ((i : ℕ) → Chosen i marks → Roomy i) ⊎ ((i : ℕ) × Chosen i marks × Answered sheet lent (leftOut i marks) 11)
+      by : Verdict sheet lent marks → ((i : ℕ) → Chosen i marks → Roomy i)
+          ⊎ ((i : ℕ) × Chosen i marks × Answered sheet lent (leftOut i marks) 11)
           → (n : ℕ) × Weighed sheet lent marks n
       by v (inr w) = (17, crowded (one-less (w .0) (w .1) (w .2)) refl)
       by (is-11 p) (inl roomy) = (17, crowded (together p) refl)

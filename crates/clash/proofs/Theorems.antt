@@ -1,5 +1,6 @@
--- What the check's and the planner's promises mean. An accepted choice is a clash from which no rule can be taken away; the planner's choice is
--- accepted; with room for every state nobody says 17; a sheet that clashes without its step rules gets the empty choice. Assumes nothing.
+-- What the check's and the planner's promises mean. An accepted choice is a clash from which no rule can be taken away; the planner's
+-- choice is accepted; with room for every state nobody says 17; a sheet that clashes without its step rules gets the empty choice. Assumes
+-- nothing.
 use mathlib.Core.Path.{_≡_, refl, sym, _∙_, ap, subst}
 use mathlib.Core.Logic.{_⊎_, inl, inr, ⊎-elim, _↔_}
 use mathlib.Core.Option.{none, some}
@@ -26,7 +27,8 @@ use Rattle.clash_choice.proofs.Fewer.{among-kept}
 use Rattle.clash_choice.specs.Proposals.{mostRules, noMarks, firstMarks, marksOf, Chosen, leftOut, Proposal}
 use Rattle.clash_choice.proofs.Marks.{length-first}
 use Rattle.clash_trials.specs.Trials.{Answered, ends, drops, keeps, Dropping}
-use Rattle.clash.specs.Clash.{rulesIn, Fighting, together, one-less, crowded, accepted, refused, ClashChecked, faulty, misnumbered, weighed}
+use Rattle.clash.specs.Clash.{rulesIn, Fighting, together, one-less, crowded, accepted, refused, ClashChecked, faulty, misnumbered}
+use Rattle.clash.specs.Clash.{weighed}
 use Rattle.clash.specs.Clash.{at-once, dropping, at-last, Plan, more, kept, found, Planned, worked}
 use Rattle.clash_trials.proofs.Trials.{answered-apart, Verdict, is-11, is-12, is-13, verdict}
 use Rattle.clash_trials.proofs.Loops.{some-not-none, dropping-length}
@@ -51,13 +53,14 @@ meant : (sheet marks : List ℕ) → CanBeKept (systemIn (withChosen sheet marks
 unfolding systemIn
 meant sheet marks = ap (λ s. CanBeKept (systemOf s)) (chosen-decoded sheet marks)
 
--- With all its rules chosen it is the sheet itself, byte for byte. (Only the length's low byte is asked about, which is below 256 in every sheet
--- that can be handed in.)
+-- With all its rules chosen it is the sheet itself, byte for byte. (Only the length's low byte is asked about, which is below 256 in every
+-- sheet that can be handed in.)
 pub whole-sheet : (sheet : List ℕ) → firstFault sheet ≡ none → lowIn sheet < 256
     → withChosen sheet (firstMarks (rulesIn sheet)) ≡ sheet
 whole-sheet sheet good small =
     all-chosen sheet good small (firstMarks (rulesIn sheet))
-    (λ i h e. let one : getD (firstMarks (rulesIn sheet)) i 0 ≡ 1 = first-marked (rulesIn sheet) (mostRules - rulesIn sheet) i h in omega (arith, one, e))
+    (λ i h e. let one : getD (firstMarks (rulesIn sheet)) i 0 ≡ 1 = first-marked (rulesIn sheet) (mostRules - rulesIn sheet) i h in
+    omega (arith, one, e))
 
 -- A choice that fights is a clash.
 fighting-is-a-clash : {sheet : List ℕ} {lent : Lent} {marks : List ℕ} → firstFault sheet ≡ none → lent .run ≡ [] → Fighting sheet lent marks
@@ -108,7 +111,8 @@ plan-fights {sheet} {lent} {marks} good no-run plan = record {
 module _ {sheet : List ℕ} {lent : Lent} {marks : List ℕ} (few : rulesIn sheet ≤ mostRules) (plan : Plan sheet lent marks) where
   plan-length : length marks ≡ mostRules
   plan-length =
-      dropping-length sheet lent (rulesIn sheet) (firstMarks (rulesIn sheet)) marks (plan .reduced .dropping) ∙ length-first (rulesIn sheet) few
+      dropping-length sheet lent (rulesIn sheet) (firstMarks (rulesIn sheet)) marks (plan .reduced .dropping)
+      ∙ length-first (rulesIn sheet) few
 
   plan-back : marksOf (numbersOf marks) ≡ marks
   plan-back =
@@ -124,15 +128,16 @@ handed (worked e (more w a s) b c) = absurd (omega (arith, a))
 handed (worked e (kept k a s) b c) = absurd (omega (arith, a))
 handed (worked e (found plan a) b c) = (e, plan)
 
--- What the planner hands over with 0 the check accepts: the numbers of its marks are answered 0. (Byte 6 counts the step rules, so they are at
--- most 255 in every sheet that can be handed in.)
+-- What the planner hands over with 0 the check accepts: the numbers of its marks are answered 0. (Byte 6 counts the step rules, so they are
+-- at most 255 in every sheet that can be handed in.)
 pub plan-accepted : {sheet : List ℕ} {before after : Lent} {place : ℕ} {marks : List ℕ} → before .run ≡ [] → rulesIn sheet ≤ mostRules
     → Planned sheet before 0 place marks after
     → (marksOf (numbersOf marks) ≡ marks) × ClashChecked sheet (numbersOf marks) before 0 0 (cleared before)
 plan-accepted {sheet} {before} {marks = marks} no-run few p =
     let (good, plan) = handed p in
     let back = plan-back few plan in
-    let fights : Fighting sheet before (marksOf (numbersOf marks)) = subst (Fighting sheet before) (sym back) (plan-fights good no-run plan) in
+    let fights : Fighting sheet before (marksOf (numbersOf marks)) = subst (Fighting sheet before) (sym back)
+    (plan-fights good no-run plan) in
     (back, weighed good (numbers-proposed (rulesIn sheet) marks (plan-within plan)) (accepted fights refl) refl refl)
 
 -- So it is a clash from which no rule can be taken away.
@@ -160,7 +165,8 @@ pub record RoomFor (sheet : List ℕ) (lent : Lent) (marks : List ℕ) : Type 0 
   pub number : Number (Reachable (systemIn (withChosen sheet marks))) reached
   pub room : reached ≤ capacity lent
 
--- It is answered 12 exactly if there is that room and a run obeys the sheet with these rules, 13 exactly if there is that room and none does.
+-- It is answered 12 exactly if there is that room and a run obeys the sheet with these rules, 13 exactly if there is that room and none
+-- does.
 module _ {sheet : List ℕ} {lent : Lent} (good : firstFault sheet ≡ none) (no-run : lent .run ≡ []) (marks : List ℕ) where
   room-unless-11 : (Answered sheet lent marks 11 → ⊥) → RoomFor sheet lent marks
   room-unless-11 never =
@@ -247,7 +253,8 @@ unfolding Dropping
 all-dropped sheet lent never zero marks end e j h = absurd (omega arith)
 all-dropped sheet lent never (suc i) marks end (ends p e) j h = absurd (some-not-none (sym e))
 all-dropped sheet lent never (suc i) marks end (keeps p next) j h = absurd (never (leftOut i marks) p)
-all-dropped sheet lent never (suc i) marks end (drops p next) j h = by (ℕ-discrete j i) (all-dropped sheet lent never i (leftOut i marks) end next j)
+all-dropped sheet lent never (suc i) marks end (drops p next) j h = by (ℕ-discrete j i)
+    (all-dropped sheet lent never i (leftOut i marks) end next j)
   where
     by : Dec (j ≡ i) → (j < i → getD end j 0 ≡ 0) → getD end j 0 ≡ 0
     by (yes same) earlier =
@@ -263,7 +270,8 @@ bare-clash {sheet} {before} no-run few good bare = by
   where
     never : (marks : List ℕ) → Answered sheet before marks 12 → ⊥
     never marks p =
-        bare (subst (λ T. T) (meant sheet noMarks) (among-kept sheet noMarks marks (λ i e. unmarked i mostRules) (kept-at-12 good no-run p)))
+        bare (subst (λ T. T) (meant sheet noMarks) (among-kept sheet noMarks marks (λ i e. unmarked i mostRules)
+        (kept-at-12 good no-run p)))
 
     empty : (marks : List ℕ) → Plan sheet before marks → marks ≡ noMarks
     empty marks plan =
@@ -286,4 +294,5 @@ bare-clash {sheet} {before} no-run few good bare = by
 pub bare-clash-with-room : {sheet : List ℕ} {before after : Lent} {n place : ℕ} {marks : List ℕ} → before .run ≡ []
     → rulesIn sheet ≤ mostRules → firstFault sheet ≡ none → (Keepable sheet noMarks → ⊥) → 2 ^ lettersIn sheet ≤ capacity before
     → Planned sheet before n place marks after → (n ≡ 0) × (marks ≡ noMarks)
-bare-clash-with-room no-run few good bare room p = ⊎-elim (λ q. absurd (never-17-with-room room p q)) (λ q. q) (bare-clash no-run few good bare p)
+bare-clash-with-room no-run few good bare room p = ⊎-elim (λ q. absurd (never-17-with-room room p q)) (λ q. q)
+    (bare-clash no-run few good bare p)

@@ -1,5 +1,5 @@
--- What the judge says of a sheet with a choice of its rules, judged with no room for a run: every choice has an answer, and what 12 and 13 mean.
--- Assumes nothing.
+-- What the judge says of a sheet with a choice of its rules, judged with no room for a run: every choice has an answer, and what 12 and 13
+-- mean. Assumes nothing.
 use mathlib.Core.Path.{_≡_, refl}
 use mathlib.Core.Option.{none}
 use mathlib.Core.List.{List, []}

@@ -34,8 +34,8 @@ pub data Weighed (sheet : List ℕ) (lent : Lent) (marks : List ℕ) (n : ℕ) :
   accepted : Fighting sheet lent marks → n ≡ 0 → Weighed sheet lent marks n
   refused : (Crowded sheet lent marks → ⊥) → (Fighting sheet lent marks → ⊥) → n ≡ notAccepted → Weighed sheet lent marks n
 
--- The promise of the check. "A bad sheet keeps 1 to 10", with its place, and 14 for bad numbers comes before the sheets are judged: both "change
--- nothing". After all else "lent slices hold zeros".
+-- The promise of the check. "A bad sheet keeps 1 to 10", with its place, and 14 for bad numbers comes before the sheets are judged: both
+-- "change nothing". After all else "lent slices hold zeros".
 pub data ClashChecked (sheet numbers : List ℕ) (before : Lent) (n place : ℕ) (after : Lent) : Type 0 where
   faulty : (f : Fault) → firstFault sheet ≡ some f → n ≡ numberOf (f .why) → place ≡ f .at → after ≡ before
       → ClashChecked sheet numbers before n place after
@@ -51,8 +51,8 @@ pub record Reduced (sheet : List ℕ) (lent : Lent) (end : Option (List ℕ)) : 
   pub whole : Answered sheet lent (firstMarks (rulesIn sheet)) cannotBeKept
   pub dropping : Dropping sheet lent (rulesIn sheet) (firstMarks (rulesIn sheet)) end
 
--- "17 exactly when a sheet it tries, the whole one included, gives 11": at once, while dropping, or when it "then tries its choice with each rule
--- left out"
+-- "17 exactly when a sheet it tries, the whole one included, gives 11": at once, while dropping, or when it "then tries its choice with
+-- each rule left out"
 pub data MetMore (sheet : List ℕ) (lent : Lent) : Type 0 where
   at-once : Answered sheet lent (firstMarks (rulesIn sheet)) tooManyStates → MetMore sheet lent
   dropping : Reduced sheet lent none → MetMore sheet lent
@@ -74,4 +74,5 @@ pub data Worked (sheet : List ℕ) (lent : Lent) (n : ℕ) (marks : List ℕ) : 
 pub data Planned (sheet : List ℕ) (before : Lent) (n place : ℕ) (marks : List ℕ) (after : Lent) : Type 0 where
   faulty : (f : Fault) → firstFault sheet ≡ some f → n ≡ numberOf (f .why) → place ≡ f .at → marks ≡ noMarks → after ≡ before
       → Planned sheet before n place marks after
-  worked : firstFault sheet ≡ none → Worked sheet before n marks → place ≡ 0 → after ≡ cleared before → Planned sheet before n place marks after
+  worked : firstFault sheet ≡ none → Worked sheet before n marks → place ≡ 0 → after ≡ cleared before
+      → Planned sheet before n place marks after

@@ -1,5 +1,5 @@
-// The check of a proposal for a good sheet: the numbers are tested, the choice is tried whole and with each rule left out, and the slices are
-// cleared.
+// The check of a proposal for a good sheet: the numbers are tested, the choice is tried whole and with each rule left out, and the slices
+// are cleared.
 use super::slices::clear;
 use super::slices::no_room;
 use answers::DONE;

@@ -1,5 +1,5 @@
-// The planner for a good sheet: rules are dropped from the last to the first wherever the sheet still cannot be kept, the choice is tried with
-// each rule left out, and the slices are cleared.
+// The planner for a good sheet: rules are dropped from the last to the first wherever the sheet still cannot be kept, the choice is tried
+// with each rule left out, and the slices are cleared.
 use super::slices::clear;
 use super::slices::no_room;
 use answers::DONE;

@@ -42,7 +42,8 @@ module _ {sheet : List ℕ} {lent : Lent} {marks : List ℕ} where
   never-11 (one-spare never k c A e) j h chosen = never j h chosen
 
   -- A rule that is not chosen, or without which the sheet can be kept.
-  tried-12 : {i n : ℕ} → TriedUpTo sheet lent marks i n → (Chosen i marks → Needed sheet lent marks i) → TriedUpTo sheet lent marks (i + 1) n
+  tried-12 : {i n : ℕ} → TriedUpTo sheet lent marks i n → (Chosen i marks → Needed sheet lent marks i)
+      → TriedUpTo sheet lent marks (i + 1) n
   tried-12 {i} (all-needed all e) here = all-needed (one-further marks (Needed sheet lent marks) i all here) e
   tried-12 {i} (one-spare never k c A e) here =
       one-spare (one-further marks (Roomy sheet lent marks) i never (λ chosen. answered-apart (here chosen) (λ x. omega arith))) k c A e
@@ -102,7 +103,8 @@ module _ {sheet marks marks′ marks″ : List ℕ} {lent now later : Lent} {i n
       record { tried = tried; unmoved = T .1 ∙ E .unmoved; lengths = each-trial .lengths }
 
 -- The pass is over.
-pub each-all : {sheet marks marks′ : List ℕ} {lent now : Lent} {i n : ℕ} → EachSoFar sheet lent marks i n marks′ now → length marks ≡ mostRules
+pub each-all : {sheet marks marks′ : List ℕ} {lent now : Lent} {i n : ℕ} → EachSoFar sheet lent marks i n marks′ now
+    → length marks ≡ mostRules
     → mostRules ≤ i → EachLeftOut sheet lent marks n marks′ now
 each-all E long h = record { tried = tried-all (E .tried) (omega arith); unmoved = E .unmoved; lengths = E .lengths }
 
@@ -126,7 +128,8 @@ module _ {sheet start marks marks′ : List ℕ} {lent now later : Lent} {count 
   drop-trial = trial-later (D .lengths) (T .0)
 
   one-tried : (end : Option (List ℕ))
-      → OneTried sheet lent (i - 1) marks (λ (next : List ℕ). Dropping sheet lent (i - 1) next end) end → Dropping sheet lent count start end
+      → OneTried sheet lent (i - 1) marks (λ (next : List ℕ). Dropping sheet lent (i - 1) next end) end
+      → Dropping sheet lent count start end
   unfolding Dropping
   one-tried end t =
       let e : suc (i - 1) ≡ i = omega arith in

@@ -35,8 +35,8 @@ lengths-back L = record { table = sym (L .table); words = sym (L .words); scratc
 
 -- ---- the answer for a choice
 
--- What is answered with some slices is answered with all of the same lengths: so what a later trial answers, with the slices as an earlier one left
--- them, is the answer with the slices as lent.
+-- What is answered with some slices is answered with all of the same lengths: so what a later trial answers, with the slices as an earlier
+-- one left them, is the answer with the slices as lent.
 pub answered-same : {sheet marks : List ℕ} {x y : Lent} {n : ℕ} → Lengths x y → Answered sheet x marks n → Answered sheet y marks n
 answered-same {sheet} {marks} {x} {y} L A =
     let f : Finding = A .promise .finding in
@@ -56,8 +56,8 @@ answered-apart A apart B = apart (answered-unique A B)
 pub answered-is : {sheet marks : List ℕ} {x : Lent} {m n : ℕ} → m ≡ n → Answered sheet x marks m → Answered sheet x marks n
 answered-is {sheet} {marks} {x} e A = subst (Answered sheet x marks) e A
 
--- With no room for a run a good sheet is answered 11, 12 or 13, and the last two say whether an endless run obeys it. A sample run is never empty,
--- so 0 never comes.
+-- With no room for a run a good sheet is answered 11, 12 or 13, and the last two say whether an endless run obeys it. A sample run is never
+-- empty, so 0 never comes.
 pub data Verdict (sheet : List ℕ) (lent : Lent) (marks : List ℕ) : Type 0 where
   is-11 : Answered sheet lent marks 11 → Verdict sheet lent marks
   is-12 : Answered sheet lent marks 12 → CanBeKept (systemIn (withChosen sheet marks)) → Verdict sheet lent marks
@@ -70,7 +70,8 @@ verdict {sheet} {lent} good no-run marks =
     let says = ap (λ (x : Outcome). x .answer) (judged .returned) in
     by (judged .finding) (judged .found) (record { got = o; promise = judged; number = sym says })
   where
-    by : (x : Finding) → Found (withChosen sheet marks) lent x → Answered sheet lent marks (outcome lent x .answer) → Verdict sheet lent marks
+    by : (x : Finding) → Found (withChosen sheet marks) lent x → Answered sheet lent marks (outcome lent x .answer)
+        → Verdict sheet lent marks
     by (bad f) p A = absurd (bad-not-good p (chosen-good sheet good marks))
     by crowded p A = is-11 A
     by (short b) p A = is-12 A (p .1)

@@ -1,5 +1,5 @@
-// Trials of a sheet with a choice of its step rules (document 02, order 5): each is judged with no room for a run. One choice is tried, or a
-// choice with each of its rules left out by itself, or rules are dropped from the last to the first.
+// Trials of a sheet with a choice of its step rules (document 02, order 5): each is judged with no room for a run. One choice is tried, or
+// a choice with each of its rules left out by itself, or rules are dropped from the last to the first.
 use answers::SHORT_RUN;
 use answers::TOO_MANY_STATES;
 use clash_choice::RULES;

@@ -1,6 +1,6 @@
--- The class in one call: its promise leaves one outcome (`class-unique`), every input has one (`class-met`), each sheet's numbers stand at its
--- places (`class-numbers`), the places past them are as they were (`class-past`), and what a sheet gets does not depend on its neighbours
--- (`sheet-alone`). Assumes nothing.
+-- The class in one call: its promise leaves one outcome (`class-unique`), every input has one (`class-met`), each sheet's numbers stand at
+-- its places (`class-numbers`), the places past them are as they were (`class-past`), and what a sheet gets does not depend on its
+-- neighbours (`sheet-alone`). Assumes nothing.
 use mathlib.Core.Path.{_≡_, refl, sym, _∙_}
 use mathlib.Core.Logic.{_⊎_, inl, inr}
 use mathlib.Core.List.{List}
@@ -62,8 +62,8 @@ class-past {sheets} {ends} {before} {after} p j h = in-turn-past sheets ends bef
 stand-same : {numbers : List ℕ} {at : ℕ} {x y : Outcome} → SameNumbers x y → Stand numbers at x → Stand numbers at y
 stand-same e s = record { answer = s .answer ∙ e .answer; count = s .count ∙ e .count; a = s .a ∙ e .a; b = s .b ∙ e .b }
 
--- What a sheet gets does not depend on its neighbours: its numbers are those of judging it alone with slices of these lengths, whatever they
--- hold.
+-- What a sheet gets does not depend on its neighbours: its numbers are those of judging it alone with slices of these lengths, whatever
+-- they hold.
 pub sheet-alone : {sheets ends : List ℕ} {before after : Desk} → ClassJudged sheets ends before 0 after → (i : ℕ) → i < length ends
     → {lent : Lent} {alone : Outcome} → AsLong (before .lent) lent → Judged (sheetAt sheets ends i) lent alone
     → Stand (after .numbers) (i * numbersEach) alone

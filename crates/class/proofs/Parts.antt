@@ -42,16 +42,21 @@ turning-more {sheets} {ends} {before} {i} {start} {now} {after} T h one =
     (record { inside = omega arith; here = refl; turn = (now, T .turn, there) })
 
 -- The lengths on the way are those at the start.
-pub turning-room : {sheets ends : List ℕ} {before : Desk} {i start : ℕ} {now : Desk} → Turning sheets ends before i start now → SameRoom before now
+pub turning-room : {sheets ends : List ℕ} {before : Desk} {i start : ℕ} {now : Desk} → Turning sheets ends before i start now
+    → SameRoom before now
 turning-room {sheets} {ends} {before} {i} T = in-turn-room sheets ends before i (T .turn)
 
 -- In a fair class a sheet starts no later than it ends, and ends within the input.
 pub turning-cut : {sheets ends : List ℕ} {before : Desk} {i start size room : ℕ} {now : Desk} → Turning sheets ends before i start now
     → Fair size ends room → i < length ends → (start ≤ getD ends i 0) × (getD ends i 0 ≤ size)
-turning-cut {ends = ends} {i = i} T F h = (subst (λ (s : ℕ). s ≤ getD ends i 0) (sym (T .here)) (F .ends-fit .rise i h), F .ends-fit .within i h)
+turning-cut {ends = ends} {i = i} T F h = (
+  subst (λ (s : ℕ). s ≤ getD ends i 0) (sym (T .here)) (F .ends-fit .rise i h),
+  F .ends-fit .within i h,
+)
 
 -- When all are passed, all are judged.
-pub turning-all : {sheets ends : List ℕ} {before : Desk} {i start : ℕ} {now : Desk} → Turning sheets ends before i start now → length ends ≤ i
+pub turning-all : {sheets ends : List ℕ} {before : Desk} {i start : ℕ} {now : Desk} → Turning sheets ends before i start now
+    → length ends ≤ i
     → InTurn sheets ends before (length ends) now
 turning-all {sheets} {ends} {before} {i} {now = now} T all =
     let e : i ≡ length ends = omega (arith, T .inside) in

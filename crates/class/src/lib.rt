@@ -64,10 +64,10 @@ fn judge_all(
     }
 }
 
-// Judges up to 32 sheets, joined in `sheets`; sheet i ends where the i-th end says. The answer is 16, and nothing is changed, where the ends
-// fall, pass the input or leave some of it over, where the sheets are more than 32, or where `numbers` has no four places a sheet. Otherwise
-// it is 0, and `numbers` has answer, count, a and b of each sheet, in turn. They and the four slices are as if the judge had been called for
-// each sheet in turn with these slices.
+// Judges up to 32 sheets, joined in `sheets`; sheet i ends where the i-th end says. The answer is 16, and nothing is changed, where the
+// ends fall, pass the input or leave some of it over, where the sheets are more than 32, or where `numbers` has no four places a sheet.
+// Otherwise it is 0, and `numbers` has answer, count, a and b of each sheet, in turn. They and the four slices are as if the judge had been
+// called for each sheet in turn with these slices.
 pub fn judge_class(
     sheets: &[u8],
     ends: &[u32],

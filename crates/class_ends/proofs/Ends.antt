@@ -51,7 +51,8 @@ cut-falls {ends = ends} {i = zero} C h low room = absurd (omega (arith, C .here)
 cut-falls {ends = ends} {i = suc i} C h low room = falls i h (subst (λ (s : ℕ). getD ends (suc i) 0 < s) (C .here) low)
 
 -- When all ends are passed, they cut the input if the last is its length.
-pub cut-whole : {size : ℕ} {ends : List ℕ} {i start : ℕ} → EndsFitUpTo size ends i start → length ends ≤ i → start ≡ size → EndsFit size ends
+pub cut-whole : {size : ℕ} {ends : List ℕ} {i start : ℕ} → EndsFitUpTo size ends i start → length ends ≤ i → start ≡ size
+    → EndsFit size ends
 cut-whole {size} {ends} {i} {start} C all e =
     let m : i ≡ length ends = omega (arith, C .inside) in
     record {
@@ -68,7 +69,8 @@ cut-left-over {i = zero} C all e room = no-ends (omega arith) (omega (arith, C .
 cut-left-over {i = suc i} C all e room = unfinished i (omega (arith, C .inside)) (λ w. e (C .here ∙ w))
 
 -- What the test of the ends says when all of them are passed.
-pub cut-says : {size : ℕ} {ends : List ℕ} {i start : ℕ} → EndsFitUpTo size ends i start → length ends ≤ i → EndsFitSays size ends (eqb start size)
+pub cut-says : {size : ℕ} {ends : List ℕ} {i start : ℕ} → EndsFitUpTo size ends i start → length ends ≤ i
+    → EndsFitSays size ends (eqb start size)
 cut-says {size} {start = start} C all =
     record { yes = λ e. cut-whole C all (eqb-true start size e); never = λ e. cut-left-over C all (eqb-false start size e) }
 
@@ -79,7 +81,10 @@ cut-refused x = record { yes = λ e. let z : _≡_ {A = ℕ} 0 1 = cc in absurd 
 -- A test of the ends, said of the class.
 pub fair-says : {size : ℕ} {ends : List ℕ} {room : ℕ} {r : Bool} → length ends ≤ mostSheets → length ends * numbersEach ≤ room
     → EndsFitSays size ends r → FairSays size ends room r
-fair-says {room = room} few fits C = record { yes = λ e. record { ends-fit = C .yes e; few = few; fits = fits }; never = λ e. C .never e room }
+fair-says {room = room} few fits C = record {
+  yes = λ e. record { ends-fit = C .yes e; few = few; fits = fits };
+  never = λ e. C .never e room;
+}
 
 -- A class that is refused, said by the test.
 pub unfair-says : {size : ℕ} {ends : List ℕ} {room : ℕ} → Refused size ends room → FairSays size ends room false
@@ -98,7 +103,8 @@ fair-not-refused {size} {ends} F (no-ends e h) =
     omega (arith, z, h)
 
 -- Of the first i ends, all are in order or one is refused.
-cut-or-refused : (size : ℕ) (ends : List ℕ) (room i : ℕ) → i ≤ length ends → EndsFitUpTo size ends i (startOf ends i) ⊎ Refused size ends room
+cut-or-refused : (size : ℕ) (ends : List ℕ) (room i : ℕ) → i ≤ length ends → EndsFitUpTo size ends i (startOf ends i)
+    ⊎ Refused size ends room
 unfolding startOf
 cut-or-refused size ends room zero h = inl (cut-none size ends)
 cut-or-refused size ends room (suc i) h = by (cut-or-refused size ends room i (omega arith))
@@ -109,7 +115,8 @@ cut-or-refused size ends room (suc i) h = by (cut-or-refused size ends room i (o
     test C (no low) (yes past) = inr (passes i (omega arith) past)
     test C (no low) (no past) = inl (cut-more C (omega arith) (omega arith) (omega arith))
 
-    by : EndsFitUpTo size ends i (startOf ends i) ⊎ Refused size ends room → EndsFitUpTo size ends (suc i) (startOf ends (suc i)) ⊎ Refused size ends room
+    by : EndsFitUpTo size ends i (startOf ends i) ⊎ Refused size ends room → EndsFitUpTo size ends (suc i) (startOf ends (suc i))
+        ⊎ Refused size ends room
     by (inl C) = test C (decLt (getD ends i 0) (startOf ends i)) (decLt size (getD ends i 0))
     by (inr x) = inr x
 
@@ -124,7 +131,8 @@ fair-or-refused size ends room =
     last C few fits (no e) = inr (cut-left-over C (omega arith) e room)
 
     by : Dec (mostSheets < length ends) → Dec (room < length ends * numbersEach)
-        → EndsFitUpTo size ends (length ends) (startOf ends (length ends)) ⊎ Refused size ends room → Fair size ends room ⊎ Refused size ends room
+        → EndsFitUpTo size ends (length ends) (startOf ends (length ends)) ⊎ Refused size ends room → Fair size ends room
+        ⊎ Refused size ends room
     by (yes h) short x = inr (many h)
     by (no h) (yes s) x = inr (no-room s)
     by (no h) (no s) (inr x) = inr x

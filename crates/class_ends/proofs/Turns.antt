@@ -1,5 +1,5 @@
--- Sheets judged in turn: one outcome for every input, every input has one, no slice grows or shrinks, and each sheet's numbers stand where the
--- promise says. Assumes nothing.
+-- Sheets judged in turn: one outcome for every input, every input has one, no slice grows or shrinks, and each sheet's numbers stand where
+-- the promise says. Assumes nothing.
 use mathlib.Core.Path.{_≡_, refl, sym, ap, subst, _∙_}
 use mathlib.Core.List.{List}
 use Prim.Native.Nat.{ℕ, zero, suc, _+_, _*_, _≤_, _<_}
@@ -32,13 +32,21 @@ pub in-turn-unique : (sheets ends : List ℕ) (before : Desk) (i : ℕ) {x y : D
 unfolding InTurn
 in-turn-unique sheets ends before zero p q = p ∙ sym q
 in-turn-unique sheets ends before (suc i) {x} {y} (mid, p, one) (mid′, q, one′) =
-    one-unique (subst (λ (d : Desk). OneJudged (sheetAt sheets ends i) (i * numbersEach) d x) (in-turn-unique sheets ends before i p q) one) one′
+    one-unique (subst (λ (d : Desk). OneJudged (sheetAt sheets ends i) (i * numbersEach) d x) (in-turn-unique sheets ends before i p q)
+    one) one′
 
 -- One sheet can be judged from every desk.
 one-met : (sheet : List ℕ) (at : ℕ) (before : Desk) → (after : Desk) × OneJudged sheet at before after
 one-met sheet at before =
-    let (o, promise) = judged-met sheet (before .lent) in
-    (record { lent = o .leaves; numbers = noted at o (before .numbers) }, record { got = o; promise = promise; lent-left = refl; numbers-left = refl })
+    let (o, promise) = judged-met sheet (before .lent) in (
+      record { lent = o .leaves; numbers = noted at o (before .numbers) },
+      record {
+        got = o;
+        promise = promise;
+        lent-left = refl;
+        numbers-left = refl;
+      },
+    )
 
 -- So can the first i.
 pub in-turn-met : (sheets ends : List ℕ) (before : Desk) (i : ℕ) → (after : Desk) × InTurn sheets ends before i after
@@ -125,7 +133,8 @@ noted-apart at o l j apart =
     let l₂ : List ℕ = set l₁ (at + 1) (o .count) in
     let l₃ : List ℕ = set l₂ (at + 2) (o .a) in
     getD-set-other l₃ (at + 3) j (o .b) 0 (apart 3 (omega arith)) ∙ getD-set-other l₂ (at + 2) j (o .a) 0 (apart 2 (omega arith))
-    ∙ getD-set-other l₁ (at + 1) j (o .count) 0 (apart 1 (omega arith)) ∙ getD-set-other l at j (o .answer) 0 (λ e. apart 0 (omega arith) (omega arith))
+    ∙ getD-set-other l₁ (at + 1) j (o .count) 0 (apart 1 (omega arith)) ∙ getD-set-other l at j (o .answer) 0
+    (λ e. apart 0 (omega arith) (omega arith))
 
 -- what sheet i got: judged with slices as long as those lent, its four numbers at its places
 pub record Got (sheet : List ℕ) (at : ℕ) (before after : Desk) : Type 0 where
@@ -146,9 +155,11 @@ in-turn-got sheets ends before (suc n) {after} (mid, p, one) room i h = by (decL
     early = in-turn-room sheets ends before n p
 
     kept : (j : ℕ) → j < n * numbersEach → getD (after .numbers) j 0 ≡ getD (mid .numbers) j 0
-    kept j l = ap (λ (x : List ℕ). getD x j 0) (one .numbers-left) ∙ noted-apart (n * numbersEach) (one .got) (mid .numbers) j (λ k s e. omega arith)
+    kept j l = ap (λ (x : List ℕ). getD x j 0) (one .numbers-left) ∙ noted-apart (n * numbersEach) (one .got) (mid .numbers) j
+        (λ k s e. omega arith)
 
-    by : Dec (i < n) → (i < n → Got (sheetAt sheets ends i) (i * numbersEach) before mid) → Got (sheetAt sheets ends i) (i * numbersEach) before after
+    by : Dec (i < n) → (i < n → Got (sheetAt sheets ends i) (i * numbersEach) before mid) → Got (sheetAt sheets ends i)
+        (i * numbersEach) before after
     by (yes l) earlier =
         let g = earlier l in
         record {

@@ -1,6 +1,6 @@
--- The whole class in one call. Document 02, order 4: "A teacher hands over up to 32 sheets joined, with the place where each ends, and a slice
--- for four numbers a sheet: answer, count, a, b. The numbers, and the four lent slices at the end, are those of calling the judge on each
--- sheet in turn with the same slices." What the call refuses, what it promises otherwise. Assumes nothing.
+-- The whole class in one call. Document 02, order 4: "A teacher hands over up to 32 sheets joined, with the place where each ends, and a
+-- slice for four numbers a sheet: answer, count, a, b. The numbers, and the four lent slices at the end, are those of calling the judge on
+-- each sheet in turn with the same slices." What the call refuses, what it promises otherwise. Assumes nothing.
 use mathlib.Core.Path.{_≡_}
 use mathlib.Core.List.{List}
 use Prim.Native.Nat.{ℕ, zero, suc, _+_, _-_, _*_, _<_}
@@ -27,8 +27,8 @@ unfoldable pub sheetAt : (sheets ends : List ℕ) → ℕ → List ℕ
 unfolding startOf
 sheetAt sheets ends i = take (getD ends i 0 - startOf ends i) (drop (startOf ends i) sheets)
 
--- "Ends that fall or pass the input, a last end that isn't the input's length, over 32 sheets, or too short a slice for the numbers"; "no ends
--- with some input": all that is refused. The input has `size` bytes, the slice for the numbers `room` places.
+-- "Ends that fall or pass the input, a last end that isn't the input's length, over 32 sheets, or too short a slice for the numbers"; "no
+-- ends with some input": all that is refused. The input has `size` bytes, the slice for the numbers `room` places.
 pub data Refused (size : ℕ) (ends : List ℕ) (room : ℕ) : Type 0 where
   falls : (i : ℕ) → suc i < length ends → getD ends (suc i) 0 < getD ends i 0 → Refused size ends room
   passes : (i : ℕ) → i < length ends → size < getD ends i 0 → Refused size ends room
@@ -66,8 +66,8 @@ InTurn sheets ends before zero after = after ≡ before
 InTurn sheets ends before (suc i) after =
     (mid : Desk) × InTurn sheets ends before i mid × OneJudged (sheetAt sheets ends i) (i * numbersEach) mid after
 
--- The promise of the call. "16 before any sheet, nothing changed"; otherwise 0, and all sheets are judged in turn. With no ends and no input
--- that is no sheet, and nothing is changed.
+-- The promise of the call. "16 before any sheet, nothing changed"; otherwise 0, and all sheets are judged in turn. With no ends and no
+-- input that is no sheet, and nothing is changed.
 pub data ClassJudged (sheets ends : List ℕ) (before : Desk) (n : ℕ) (after : Desk) : Type 0 where
   turned-away : Refused (length sheets) ends (length (before .numbers)) → n ≡ classRefused → after ≡ before
       → ClassJudged sheets ends before n after

@@ -1,5 +1,5 @@
-// Sheets joined in one input: which classes are refused, before any sheet is judged, and how four numbers of a sheet are noted. What the whole
-// class promises stands in specs/Class.antt; the call that meets it is in crates/class.
+// Sheets joined in one input: which classes are refused, before any sheet is judged, and how four numbers of a sheet are noted. What the
+// whole class promises stands in specs/Class.antt; the call that meets it is in crates/class.
 ghost use mathlib.Core.Path.{_≡_};
 ghost use Prim.Native.Nat.{_≤_, _+_};
 ghost use lib.ListN.{length};

@@ -24,7 +24,8 @@ pub record Least (P : ℕ → Type 0) (x : ℕ) : Type 0 where
 sets-one : (old list : List ℕ) → length old ≡ 1 → 0 < length list → getD (sets old 0 list) 0 0 ≡ getD list 0 0
 sets-one old [] e h = absurd (omega arith)
 sets-one old (x ∷ list) e h =
-    ap (λ (l : List ℕ). getD l 0 0) (sets-past (set old 0 x) 1 list (omega (arith, length-set old 0 x, e))) ∙ getD-set-same old 0 x 0 (omega arith)
+    ap (λ (l : List ℕ). getD l 0 0) (sets-past (set old 0 x) 1 list (omega (arith, length-set old 0 x, e)))
+    ∙ getD-set-same old 0 x 0 (omega arith)
 
 told-none : (n k : ℕ) → n ≡ min k 2 → n ≡ 0 → k ≡ 0
 told-none n k e z = omega arith
@@ -69,4 +70,5 @@ module _ (book table words : List ℕ) (v r s lo : ℕ) where
     -- If it stands there and counts, it is found.
     pub least-found : StandsAt table r p x → Counts v (getD words p 0) → Sought book table words v r s lo (p + 1)
     least-found T c =
-        found p (add-one p) (T .inside) c (subst (λ (y : ℕ). bookSystem book .Move s y) (sym (T .there)) (L .one-of)) (least-passed .nothing)
+        found p (add-one p) (T .inside) c (subst (λ (y : ℕ). bookSystem book .Move s y) (sym (T .there)) (L .one-of))
+        (least-passed .nothing)

@@ -7,7 +7,8 @@ use mathlib.Core.List.{List}
 use Prim.Native.Nat.{ℕ, _≤_}
 use lib.ListN.{take}
 use Rattle.meaning.specs.Bytes.{bytesOf}
-use Rattle.meaning.specs.Promises.{stateBytes, wordBytes, accepted, RunChecked, StrikesChecked, RunBytesChecked, StrikesBytesChecked, Lent, Judged}
+use Rattle.meaning.specs.Promises.{stateBytes, wordBytes, accepted, RunChecked, StrikesChecked, RunBytesChecked, StrikesBytesChecked, Lent}
+use Rattle.meaning.specs.Promises.{Judged}
 use Rattle.meaning.proofs.Lasso.{run-accepted-exactly}
 use Rattle.meaning.proofs.Demands.{roomy-at-0, roomy-at-13}
 use Rattle.meaning.proofs.Sizes.{b-at-most}
@@ -38,7 +39,8 @@ module _ {sheet : List ℕ} {lent leaves : Lent} {r : Judgement} (judged : Judge
 
   -- As bytes, four to a number: the same of the firmware's strike-list check.
   pub strikes-left-checked-as-bytes : r .answer ≡ 13 → (n : ℕ)
-      → StrikesBytesChecked sheet (bytesOf stateBytes (take (r .count) (leaves .table))) (bytesOf wordBytes (take (r .count) (leaves .words))) n ↔ (n ≡ 0)
+      → StrikesBytesChecked sheet (bytesOf stateBytes (take (r .count) (leaves .table)))
+      (bytesOf wordBytes (take (r .count) (leaves .words))) n ↔ (n ≡ 0)
   unfolding StrikesBytesChecked
   strikes-left-checked-as-bytes thirteen n =
       let good = roomy-at-13 judged thirteen .good in
@@ -51,8 +53,10 @@ module _ {sheet : List ℕ} {lent leaves : Lent} {r : Judgement} (judged : Judge
   unfolding RunBytesChecked
   run-left-checked-as-bytes kept n =
       let good = roomy-at-0 judged kept .good in
-      let ok = run-paper-bytes sheet good (run-left-accepted judged kept) in
-      (λ c. run-bytes-obey-exactly sheet _ (r .a) n c .1 (good, ok .0, run-accepted-exactly _ _ _ .0 (ok .1)), λ zero. accepted good ok zero)
+      let ok = run-paper-bytes sheet good (run-left-accepted judged kept) in (
+        λ c. run-bytes-obey-exactly sheet _ (r .a) n c .1 (good, ok .0, run-accepted-exactly _ _ _ .0 (ok .1)),
+        λ zero. accepted good ok zero,
+      )
 
   -- b is never above 262,144.
   pub b-never-above : (r .answer ≡ 0) ⊎ (r .answer ≡ 12) → r .b ≤ 262144

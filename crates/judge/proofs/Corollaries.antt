@@ -1,6 +1,6 @@
--- What the judge's promise alone gives whoever calls it, said of the numbers that it returns and of the slices as it leaves them: demand 2 in
--- both directions; that the run checker's rule accepts the run and the strike checker's the strike list; demand 3; and that the
--- count is K or R and b the length of the sample run. Each holds of every outcome that meets the promise. Assumes nothing.
+-- What the judge's promise alone gives whoever calls it, said of the numbers that it returns and of the slices as it leaves them: demand 2
+-- in both directions; that the run checker's rule accepts the run and the strike checker's the strike list; demand 3; and that the count is
+-- K or R and b the length of the sample run. Each holds of every outcome that meets the promise. Assumes nothing.
 use mathlib.Core.Path.{_≡_, sym, ap, subst, subst₂}
 use mathlib.Core.Logic.{_↔_, _⊎_}
 use mathlib.Core.List.{List}
@@ -11,12 +11,14 @@ use Rattle.meaning.specs.Strike.{StrikeList}
 use Rattle.meaning.specs.Sample.{RunPaper}
 use Rattle.meaning.specs.Papers.{RunAccepted, StrikesAccepted}
 use Rattle.meaning.specs.Promises.{systemIn, Lent, Outcome, Roomy, outcome, Judged}
-use Rattle.meaning.proofs.Demands.{RunFits, KeepsInTime, kept-hands-over, kept-run-accepted, cannot-hands-over, demand-2, demand-3, short-run-leaves}
+use Rattle.meaning.proofs.Demands.{RunFits, KeepsInTime, kept-hands-over, kept-run-accepted, cannot-hands-over, demand-2, demand-3}
+use Rattle.meaning.proofs.Demands.{short-run-leaves}
 use Rattle.judge_answer.specs.declared.Judgement.{Judgement}
 use Rattle.judge_answer.specs.Judging.{outcomeOf}
 
 module _ {sheet : List ℕ} {lent leaves : Lent} {r : Judgement} (judged : Judged sheet lent (outcomeOf r leaves)) where
-  -- Demand 2: with room for the states and the run, 0 exactly if an endless run obeys the sheet, 13 exactly if none does, and one of the two.
+  -- Demand 2: with room for the states and the run, 0 exactly if an endless run obeys the sheet, 13 exactly if none does, and one of the
+  -- two.
   pub judge-says-whether : Roomy sheet lent → RunFits sheet lent
       → ((r .answer ≡ 0) ↔ CanBeKept (systemIn sheet)) × ((r .answer ≡ 13) ↔ (CanBeKept (systemIn sheet) → ⊥))
       × ((r .answer ≡ 0) ⊎ (r .answer ≡ 13))

@@ -3,7 +3,8 @@ use mathlib.Core.Path.{_≡_, refl, sym, subst}
 use mathlib.Core.List.{List}
 use Prim.Native.Nat.{ℕ, _≤_, _<_, _/_, min}
 use lib.ListN.{length}
-use Rattle.meaning.specs.Promises.{Lent, Outcome, mostStates, capacity, Finding, bad, crowded, short, can, cannot, Roomy, Found, outcome, Judged}
+use Rattle.meaning.specs.Promises.{Lent, Outcome, mostStates, capacity, Finding, bad, crowded, short, can, cannot, Roomy, Found, outcome}
+use Rattle.meaning.specs.Promises.{Judged}
 use Rattle.meaning.proofs.Promised.{judged-unique}
 use Rattle.meaning.proofs.Meetable.{AsLong}
 
@@ -48,7 +49,8 @@ outcome-numbers x y (can l states n) = record { answer = refl; count = refl; a =
 outcome-numbers x y (cannot states words) = record { answer = refl; count = refl; a = refl; b = refl; place = refl }
 
 -- The judge's numbers are the same with all slices of the same lengths.
-pub judged-same-numbers : {sheet : List ℕ} {x y : Lent} {o o′ : Outcome} → AsLong x y → Judged sheet x o → Judged sheet y o′ → SameNumbers o o′
+pub judged-same-numbers : {sheet : List ℕ} {x y : Lent} {o o′ : Outcome} → AsLong x y → Judged sheet x o → Judged sheet y o′
+    → SameNumbers o o′
 judged-same-numbers {sheet} {x} {y} {o} {o′} L p q =
     let again : Judged sheet y (outcome y (p .finding)) =
     record { finding = p .finding; found = found-same sheet L (p .finding) (p .found); returned = refl } in

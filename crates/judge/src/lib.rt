@@ -1,5 +1,5 @@
-// The judge: reads a sheet, compiles it into its book, and answers what `judge_book` finds over that, in the slices that it was lent. Its promise is
-// `Judged` of the meaning; it asks nothing.
+// The judge: reads a sheet, compiles it into its book, and answers what `judge_book` finds over that, in the slices that it was lent. Its
+// promise is `Judged` of the meaning; it asks nothing.
 pub use ground::State;
 pub use judge_answer::Judgement;
 use judge_answer::refusal;
@@ -29,11 +29,11 @@ fn judge_good(
     judge_book(&book, table, words, scratch, run)
 }
 
-// Judges a sheet: is there an endless run that obeys it? Any bytes and any slices may be handed in. There is room for C states, the least of
-// the table's length, the words' length, half the scratch length and 16,384. The answer is 0 (can be kept: the table lists the K livable
-// states, run has the sample run of b states, which goes back to place a), 13 (cannot be kept: table and words have the strike list of all R
-// states), 11 (R is above C), 12 (the run needs b places), or 1 to 10 (the sheet's first fault, and the place is its
-// byte; nothing lent is changed). What each slice then holds is `outcome` of the meaning.
+// Judges a sheet: is there an endless run that obeys it? Any bytes and any slices may be handed in. There is room for C states, the least
+// of the table's length, the words' length, half the scratch length and 16,384. The answer is 0 (can be kept: the table lists the K livable
+// states, run has the sample run of b states, which goes back to place a), 13 (cannot be kept: table and words have the strike list of all
+// R states), 11 (R is above C), 12 (the run needs b places), or 1 to 10 (the sheet's first fault, and the place is its byte; nothing lent
+// is changed). What each slice then holds is `outcome` of the meaning.
 pub fn judge(
     sheet: &[u8],
     table: &mut [State],

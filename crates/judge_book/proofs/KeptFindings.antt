@@ -16,7 +16,8 @@ use Rattle.judge_book.specs.Kept.{Kept, HandedOver, too-long, in-room, h
 use Rattle.judge_book.proofs.KeptSteps.{kept-in-table, kept-can}
 
 -- 12: it can be kept, but the run needs b places.
-short-judged : {S : System} {table words scratch run words₁ run₁ table′ words′ scratch′ : List ℕ} {a b : ℕ} {j : Judgement} → j ≡ refused 12 b 0
+short-judged : {S : System} {table words scratch run words₁ run₁ table′ words′ scratch′ : List ℕ} {a b : ℕ} {j : Judgement}
+    → j ≡ refused 12 b 0
     → RoomFor S (lentOf table words scratch run) → CanBeKept S → Steered S run run₁ a b → length words₁ ≡ length words → length run < b
     → LeftOver 0 0 table words₁ scratch table′ words′ scratch′
     → JudgedBy S (lentOf table words scratch run) (outcomeOf j (lentOf table′ words′ scratch′ run₁))
@@ -35,14 +36,22 @@ kept-judged : {S : System} {table words scratch run words₁ run₁ table′ wor
     → Steered S run run₁ a b → length words₁ ≡ length words → b ≤ length run → LeftOver k 0 table words₁ scratch table′ words′ scratch′
     → JudgedBy S (lentOf table words scratch run) (outcomeOf (handed k a b) (lentOf table′ words′ scratch′ run₁))
 unfolding outcome
-kept-judged {table = table} {words} {run = run} {words₁ = words₁} {words′ = words′} {k = k} room kept lists fits steered long enough L = record {
-  finding = can (take k table) (steered .states) (steered .back);
-  found = (room, kept, lists, steered .paper, subst (λ n. n ≤ length run) (sym (steered .long)) enough);
-  returned = λ i.
-      let none = wiped-whole words′ words₁ (L .words-is) ∙ zeros-same words₁ words long in
-      let leaves = lentOf (L .table-is i) (none i) (L .scratch-is i) (steered .fits enough .0 i) in
-      record { answer = 0; count = sym (length-take-le k table fits) i; a = steered .fits enough .1 i; b = sym (steered .long) i; place = 0; leaves = leaves };
-}
+kept-judged {table = table} {words} {run = run} {words₁ = words₁} {words′ = words′} {k = k} room kept lists fits steered long enough L =
+    record {
+      finding = can (take k table) (steered .states) (steered .back);
+      found = (room, kept, lists, steered .paper, subst (λ n. n ≤ length run) (sym (steered .long)) enough);
+      returned = λ i.
+          let none = wiped-whole words′ words₁ (L .words-is) ∙ zeros-same words₁ words long in
+          let leaves = lentOf (L .table-is i) (none i) (L .scratch-is i) (steered .fits enough .0 i) in
+          record {
+            answer = 0;
+            count = sym (length-take-le k table fits) i;
+            a = steered .fits enough .1 i;
+            b = sym (steered .long) i;
+            place = 0;
+            leaves = leaves;
+          };
+    }
 
 -- So whatever is handed over once steering is done is what the promise says.
 pub handed-judged : {book table words scratch run words₁ run₁ table′ words′ scratch′ : List ℕ} {k a b : ℕ} {j : Judgement}
@@ -51,6 +60,9 @@ pub handed-judged : {book table words scratch run words₁ run₁ table′ words
     → JudgedBy (bookSystem book) (lentOf table words scratch run) (outcomeOf j (lentOf table′ words′ scratch′ run₁))
 handed-judged {b = b} kept told same (too-long few is L) =
     short-judged is (kept .room) (kept-can kept) (told .steered) (told .long) (subst (λ n. n < b) same few) L
-handed-judged {book} {table} {words} {scratch} {run} {run₁ = run₁} {table′} {words′} {scratch′} {b = b} kept told same (in-room enough is L) =
-    subst (λ (j : Judgement). JudgedBy (bookSystem book) (lentOf table words scratch run) (outcomeOf j (lentOf table′ words′ scratch′ run₁))) (sym is)
-    (kept-judged (kept .room) (kept-can kept) (kept .lists) (kept-in-table kept) (told .steered) (told .long) (subst (λ n. b ≤ n) same enough) L)
+handed-judged {book} {table} {words} {scratch} {run} {run₁ = run₁} {table′} {words′} {scratch′} {b = b} kept told same
+    (in-room enough is L) =
+    subst (λ (j : Judgement). JudgedBy (bookSystem book) (lentOf table words scratch run)
+    (outcomeOf j (lentOf table′ words′ scratch′ run₁))) (sym is)
+    (kept-judged (kept .room) (kept-can kept) (kept .lists) (kept-in-table kept) (told .steered) (told .long)
+    (subst (λ n. b ≤ n) same enough) L)

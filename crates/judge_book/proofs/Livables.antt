@@ -1,5 +1,5 @@
--- What the words say once striking is over: where no word is 0 the ordered table is the strike list; where some word is 0 the states kept in
--- front are the livable ones. Assumes nothing.
+-- What the words say once striking is over: where no word is 0 the ordered table is the strike list; where some word is 0 the states kept
+-- in front are the livable ones. Assumes nothing.
 use mathlib.Core.Path.{_≡_, refl, sym, ap, subst, _∙_}
 use mathlib.Core.Bool.{Bool, true, false, cond}
 use mathlib.Core.Logic.{⊎-elim}
@@ -78,7 +78,8 @@ strikes-listed {S} table words table′ words′ r in-table in-words lists marke
   ordered = λ i h.
       let a : i < r = omega (arith, long-table) in
       let b : suc i < r = omega (arith, long-table) in
-      rw (getD-take r words′ i 0 a, getD-take r words′ (suc i) 0 b, getD-take r table′ i 0 a, getD-take r table′ (suc i) 0 b) (order .ordered i b);
+      rw (getD-take r words′ i 0 a, getD-take r words′ (suc i) 0 b, getD-take r table′ i 0 a, getD-take r table′ (suc i) 0 b)
+      (order .ordered i b);
   struck = λ i h.
       let a : i < r = omega (arith, long-table) in
       let (n, struck, word) = struck-at i a in
@@ -124,9 +125,14 @@ livables-listed table words table′ r left k in-table lists marked front =
     lists-same (unstruck-livable table words r left in-table lists marked) (front .front)
 
 -- Where none was struck all stand in front as they are.
-pub all-in-front : {S : System} (table words : List ℕ) (r : ℕ) → r ≤ length table → Lists (Reachable S) (take r table) → unstruck words r ≡ r
+pub all-in-front : {S : System} (table words : List ℕ) (r : ℕ) → r ≤ length table → Lists (Reachable S) (take r table)
+    → unstruck words r ≡ r
     → InFront table words r table r
-all-in-front {S} table words r in-table lists all = record { long = refl; few = omega arith; front = lists-same (λ s. (there s, back s)) lists }
+all-in-front {S} table words r in-table lists all = record {
+  long = refl;
+  few = omega arith;
+  front = lists-same (λ s. (there s, back s)) lists;
+}
   where
     there : (s : ℕ) → Reachable S s → Unstruck table words r s
     there s reached = let (j, h, state) = front-whole table r in-table lists s reached in (j, h, state, all-zero words r all j h)

@@ -34,7 +34,8 @@ pub returned-alike : {S : System} {cap r : ℕ} {table table′ scratch scratch�
 returned-alike words run t = record { table-long = t .table-long; words-long = refl; scratch-long = t .scratch-long; run-same = refl }
 
 -- Above cap states were found, so R is above C.
-pub returned-crowded : {S : System} {cap r : ℕ} {table table₁ table′ words words′ scratch scratch₁ scratch′ : List ℕ} {j : Judgement} (run : List ℕ)
+pub returned-crowded : {S : System} {cap r : ℕ} {table table₁ table′ words words′ scratch scratch₁ scratch′ : List ℕ} {j : Judgement}
+    (run : List ℕ)
     → j ≡ refused 11 0 0 → cap ≡ min (min (length table) (length words)) (min (length scratch / 2) mostStates)
     → Returned S cap table table₁ scratch scratch₁ r → cap < r → LeftOver 0 0 table₁ words scratch₁ table′ words′ scratch′
     → JudgedBy S (lentOf table words scratch run) (outcomeOf j (lentOf table′ words′ scratch′ run))

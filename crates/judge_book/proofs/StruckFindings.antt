@@ -30,15 +30,16 @@ pub cannot-judged : {S : System} {table words scratch words₁ table′ words′
     → length words₁ ≡ length words → StrikesWritten table words₁ scratch r table′ words′ scratch′ × (j ≡ allStruck r)
     → JudgedBy S (lentOf table words scratch run) (outcomeOf j (lentOf table′ words′ scratch′ run))
 unfolding outcome
-cannot-judged {S} {table} {words} {scratch} {words₁} {table′} {words′} {scratch′} {r} run room lists marked none words-long (W, is) = record {
-  finding = cannot (take r (W .states)) (take r (W .marks));
-  found = (listed-room (lentOf table words scratch run) r lists room, strike-list-no-run strikes, strikes);
-  returned = ap (λ (j : Judgement). outcomeOf j (lentOf table′ words′ scratch′ run)) is ∙ λ i.
-      let count = length-take-le r (W .states) (omega (arith, places .in-table, W .in-order .long-table)) in
-      let marks = W .words-is ∙ ap (over (take r (W .marks))) (zeros-same words₁ words words-long) in
-      let leaves = lentOf (W .table-is i) (marks i) (W .scratch-is i) run in
-      record { answer = 13; count = sym count i; a = 0; b = 0; place = 0; leaves = leaves };
-}
+cannot-judged {S} {table} {words} {scratch} {words₁} {table′} {words′} {scratch′} {r} run room lists marked none words-long
+    (W, is) = record {
+      finding = cannot (take r (W .states)) (take r (W .marks));
+      found = (listed-room (lentOf table words scratch run) r lists room, strike-list-no-run strikes, strikes);
+      returned = ap (λ (j : Judgement). outcomeOf j (lentOf table′ words′ scratch′ run)) is ∙ λ i.
+          let count = length-take-le r (W .states) (omega (arith, places .in-table, W .in-order .long-table)) in
+          let marks = W .words-is ∙ ap (over (take r (W .marks))) (zeros-same words₁ words words-long) in
+          let leaves = lentOf (W .table-is i) (marks i) (W .scratch-is i) run in
+          record { answer = 13; count = sym count i; a = 0; b = 0; place = 0; leaves = leaves };
+    }
   where
     places : Places (lentOf table words scratch run) r
     places = capacity-places (lentOf table words scratch run) r room

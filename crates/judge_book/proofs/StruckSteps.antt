@@ -1,5 +1,5 @@
--- What each part hands to the next, with the reachable states listed: what striking, ordering and keeping ask, from what was told before. Assumes
--- nothing.
+-- What each part hands to the next, with the reachable states listed: what striking, ordering and keeping ask, from what was told before.
+-- Assumes nothing.
 use mathlib.Core.Path.{_≡_, refl, sym, subst, _∙_}
 use mathlib.Core.Bool.{true}
 use mathlib.Core.List.{List}
@@ -61,7 +61,8 @@ pub reached-lawful : {book : List ℕ} {lent : Lent} {r : ℕ} → Reached book 
 reached-lawful h = strikable-lawful _ _ _ _ (reached-strikable h)
 
 -- Those that are put in front are lawful, too.
-pub front-lawful : {book table words table₁ : List ℕ} {r k : ℕ} → LawfulTable book table r → InFront table words r table₁ k → LawfulTable book table₁ k
+pub front-lawful : {book table words table₁ : List ℕ} {r k : ℕ} → LawfulTable book table r → InFront table words r table₁ k
+    → LawfulTable book table₁ k
 front-lawful {book} {table₁ = table₁} {k = k} h front =
     record {
       shaped = h .shaped;

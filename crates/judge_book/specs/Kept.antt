@@ -22,8 +22,8 @@ pub record Kept (book : List ℕ) (lent : Lent) (k : ℕ) : Type 0 where
 abbrev pub handed : (k a b : ℕ) → Judgement
 handed k a b = record { answer = done; count = k; a = a; b = b; place = 0 }
 
--- What is answered, and left of the slices, where there is room for so many states of the run: 12 and its length if its b states do not fit, else 0
--- and the table's first k states.
+-- What is answered, and left of the slices, where there is room for so many states of the run: 12 and its length if its b states do not
+-- fit, else 0 and the table's first k states.
 pub data HandedOver (k a b room : ℕ) (table words scratch table′ words′ scratch′ : List ℕ) (j : Judgement) : Type 0 where
   too-long : room < b → j ≡ refused shortRun b 0 → LeftOver 0 0 table words scratch table′ words′ scratch′
       → HandedOver k a b room table words scratch table′ words′ scratch′ j

@@ -1,4 +1,5 @@
-// The judge for a sheet that can be kept: the sample run is found and, if it fits, handed over (answer 0); if not, its length is told (answer 12).
+// The judge for a sheet that can be kept: the sample run is found and, if it fits, handed over (answer 0); if not, its length is told
+// (answer 12).
 use answers::DONE;
 use answers::SHORT_RUN;
 use ground::State;
@@ -25,7 +26,8 @@ fn hand_over(
     steps: Steps,
 ) -> Judgement
     requires { ⌜ (k ≤ length (now table)) × (k ≤ mostStates) ⌝ }
-    ensures { λ j. ⌜ HandedOver k (steps .a) (steps .b) (length (now (run .entry))) (now (table .entry)) (now (words .entry)) (now (scratch .entry))
+    ensures { λ j. ⌜ HandedOver k (steps .a) (steps .b) (length (now (run .entry))) (now (table .entry)) (now (words .entry))
+        (now (scratch .entry))
         (now (table .exit)) (now (words .exit)) (now (scratch .exit)) j ⌝ }
 {
     let a = steps.a;

@@ -1,5 +1,5 @@
-// The judge over a sheet's book: lists the reachable states (answer 11 where there is no room for them), strikes those that nobody could keep,
-// and hands over the strike list (answer 13, `struck`) or what `kept` finds. Where very few states can be reached `tiny` does it.
+// The judge over a sheet's book: lists the reachable states (answer 11 where there is no room for them), strikes those that nobody could
+// keep, and hands over the strike list (answer 13, `struck`) or what `kept` finds. Where very few states can be reached `tiny` does it.
 use answers::TOO_MANY_STATES;
 use ground::State;
 use judge_answer::Judgement;

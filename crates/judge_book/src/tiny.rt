@@ -15,8 +15,8 @@ ghost use Rattle.table_order.specs.Placing.{Keepable};
 ghost use Rattle.judge_answer.specs.Judging.{lentOf, outcomeOf, JudgedBy};
 ghost use Rattle.judge_book.specs.Reached.{Reached};
 
-// Once striking left some of the r states: puts those in front, and tells how many they are. Their signs are written anew only where some state
-// was struck.
+// Once striking left some of the r states: puts those in front, and tells how many they are. Their signs are written anew only where some
+// state was struck.
 fn keep_signed(
     book: &[State],
     table: &mut [State],
@@ -28,7 +28,8 @@ fn keep_signed(
     requires { ⌜ LawfulTable (now book) (now table) r × Keepable (now table) (now words) r × Signed (now book) (now table) r (now signs)
         × (headSize ≤ length (now signs)) × (left ≡ r → InFront (now table) (now words) r (now table) r) ⌝ }
     ensures { λ k. ⌜ InFront (now (table .entry)) (now (words .entry)) r (now (table .exit)) k
-        × Signed (now (book .entry)) (now (table .exit)) k (now (signs .exit)) × (length (now (signs .exit)) ≡ length (now (signs .entry))) ⌝ }
+        × Signed (now (book .entry)) (now (table .exit)) k (now (signs .exit))
+        × (length (now (signs .exit)) ≡ length (now (signs .entry))) ⌝ }
 {
     if left == r {
         return r;

@@ -18,7 +18,11 @@ pub passed-none : {P : ℕ → Type 0} {total count : ℕ} → count ≡ total �
 passed-none e = record { counted = e; within = omega arith; passed = λ j p. absurd (omega arith) }
 
 pub passed-more : {P : ℕ → Type 0} {total count i : ℕ} → Passed P total count i → i < count → P i → Passed P total count (i + 1)
-passed-more {P} {total} {count} {i} m h here = record { counted = m .counted; within = omega arith; passed = below-more P i (m .passed) here }
+passed-more {P} {total} {count} {i} m h here = record {
+  counted = m .counted;
+  within = omega arith;
+  passed = below-more P i (m .passed) here;
+}
 
 pub passed-all : {P : ℕ → Type 0} {total count i : ℕ} → Passed P total count i → count ≤ i → (j : ℕ) → j < total → P j
 passed-all m h j below = m .passed j (omega (arith, m .counted))

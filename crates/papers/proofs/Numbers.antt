@@ -48,8 +48,10 @@ module _ (width : ℕ) where
     paper-after : (i : ℕ) → length bytes / width ≤ i → getD (paper width bytes numbers) i 0 ≡ getD numbers (i - length bytes / width) 0
     unfolding paper numbersIn
     paper-after i above =
-        let e : i ≡ length (numbersIn width bytes) + (i - length bytes / width) = omega (arith, numbers-from-length (length bytes / width) bytes) in
-        ap (λ (k : ℕ). getD (numbersIn width bytes ++ numbers) k 0) e ∙ getD-append-add (numbersIn width bytes) numbers (i - length bytes / width) 0
+        let e : i ≡ length (numbersIn width bytes) + (i - length bytes / width) = omega
+        (arith, numbers-from-length (length bytes / width) bytes) in
+        ap (λ (k : ℕ). getD (numbersIn width bytes ++ numbers) k 0) e ∙ getD-append-add (numbersIn width bytes) numbers
+        (i - length bytes / width) 0
 
 -- ---- states and words
 

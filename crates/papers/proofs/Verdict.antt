@@ -54,7 +54,8 @@ checked-as there back (accepted e ok p) = accepted e (there _ ok) p
 checked-as there back (refused e no-ok p) = refused e (λ ok. no-ok (back _ ok)) p
 
 -- A checker says 0 exactly if the sheet is good and the paper is accepted.
-pub zero-exactly : {sheet : List ℕ} {Ok : System → Type 0} {n : ℕ} → Checked sheet Ok n → (n ≡ 0) ↔ ((firstFault sheet ≡ none) × Ok (systemIn sheet))
+pub zero-exactly : {sheet : List ℕ} {Ok : System → Type 0} {n : ℕ} → Checked sheet Ok n
+    → (n ≡ 0) ↔ ((firstFault sheet ≡ none) × Ok (systemIn sheet))
 zero-exactly (faulty f e p) = (λ z. absurd (omega (arith, fault-number (f .why))), λ h. absurd (bad-not-good e (h .0)))
 zero-exactly (accepted e ok p) = (λ z. (e, ok), λ h. p)
 zero-exactly (refused e no-ok p) = (λ z. absurd (omega arith), λ h. absurd (no-ok (h .1)))

@@ -122,7 +122,8 @@ passed true why at e = refl
 passed false why at e = let z : _≡_ {A = ℕ} 0 1 = cc in absurd (omega arith)
 
 -- a check that passed, and what follows it
-pub first-passed : (t : Bool) (why : Why) (at : ℕ) (later : Option Fault) → (unless t why at then later) ≡ none → (t ≡ true) × (later ≡ none)
+pub first-passed : (t : Bool) (why : Why) (at : ℕ) (later : Option Fault) → (unless t why at then later) ≡ none → (t ≡ true)
+    × (later ≡ none)
 first-passed t why at later e = let both = then-none (unless t why at) later e in (passed t why at (both .0), both .1)
 
 -- ---- literals
@@ -214,7 +215,8 @@ unfolding recordFault
 step-good n at body e =
     let shape = first-passed (leb 1 (length body) && leb (getD body 0 0) (length body - 1)) badShape at _ e in
     let shaped = bounds 1 (length body) (getD body 0 0) (length body - 1) (shape .0) in
-    let sides = then-none (listFault n (at + 2) (stepOf body .left)) (listFault n (at + 2 + getD body 0 0) (stepOf body .right)) (shape .1) in
+    let sides = then-none (listFault n (at + 2) (stepOf body .left)) (listFault n (at + 2 + getD body 0 0) (stepOf body .right))
+    (shape .1) in
     record {
       long = shaped .0;
       count = shaped .1;

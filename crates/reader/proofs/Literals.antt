@@ -115,7 +115,8 @@ unfolding signedBelow
 order-is-below a b f g = by (decLt a 128) (decLt b 128)
   where
     by : Dec (a < 128) → Dec (b < 128) → ltZ (toZ w8 a) (toZ w8 b) ≡ ltb ((a + 128) % 256) ((b + 128) % 256)
-    by (yes p) (yes q) = simp (lt-ltb a 128 p, lt-ltb b 128 q) (ltb-agree a b ((a + 128) % 256) ((b + 128) % 256) (λ h. omega arith) (λ h. omega arith))
+    by (yes p) (yes q) = simp (lt-ltb a 128 p, lt-ltb b 128 q) (ltb-agree a b ((a + 128) % 256) ((b + 128) % 256) (λ h. omega arith)
+        (λ h. omega arith))
     by (yes p) (no q) =
         let r : 128 ≤ b = omega arith in
         let h : (b + 128) % 256 ≤ (a + 128) % 256 = omega arith in

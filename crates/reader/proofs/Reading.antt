@@ -195,7 +195,8 @@ module _ (s : List ℕ) (n at : ℕ) (fits : nextAt s at ≤ length s) where
         ∙ ap (stepTo (nextAt s at)) (shaped _ at _ (ap (λ (b : Bool). b && leb (getD body 0 0) (length body - 1)) long ∙ count))
 
     pub left-refused :
-        {f : F.Fault} → stepTo (p .right) (listFault n (p .left) (part (p .left) (p .right) s)) ≡ Refused f → Refused f ≡ recordStep aStep n s at
+        {f : F.Fault} → stepTo (p .right) (listFault n (p .left) (part (p .left) (p .right) s)) ≡ Refused f
+        → Refused f ≡ recordStep aStep n s at
     left-refused q = refused (p .right) (nextAt s at) (listFault n (p .left) (part (p .left) (p .right) s)) _ q ∙ sides
 
     pub left-moved :

@@ -1,6 +1,6 @@
-// The sheet reader: whether a sheet is good, or its first fault and the byte where it stands. One pass, front to back; nothing is copied and
-// nothing changed. What a caller may rely on is the meaning's `firstFault` itself; in numbers it is `ReadPlaced` (`verdict_on`), and what
-// follows for a good sheet is in proofs/Good.antt.
+// The sheet reader: whether a sheet is good, or its first fault and the byte where it stands. One pass, front to back; nothing is copied
+// and nothing changed. What a caller may rely on is the meaning's `firstFault` itself; in numbers it is `ReadPlaced` (`verdict_on`), and
+// what follows for a good sheet is in proofs/Good.antt.
 use cursor::Step;
 ghost use mathlib.Core.Path.{_≡_};
 ghost use Rattle.meaning.specs.Sheet.{endAt, firstFault};

@@ -36,7 +36,8 @@ run-checked sheet states a n =
     checked-as (λ S h. subst (λ l. RunAccepted S l a) (states-of-numbers states) (h .1))
     (λ S h. (refl, subst (λ l. RunAccepted S l a) (sym (states-of-numbers states)) h))
 
-pub run-placed : (sheet states : List ℕ) (a n place : ℕ) → Placed sheet (PaperChecked sheet [] states a) n place → RunPlaced sheet states a n place
+pub run-placed : (sheet states : List ℕ) (a n place : ℕ) → Placed sheet (PaperChecked sheet [] states a) n place
+    → RunPlaced sheet states a n place
 unfolding RunPlaced
 run-placed sheet states a n place p = record { number = run-checked sheet states a n (p .number); where-met = p .where-met }
 

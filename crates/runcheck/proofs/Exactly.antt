@@ -17,8 +17,10 @@ use Rattle.papers.proofs.Verdict.{zero-exactly}
 pub run-obeys-exactly : (sheet states : List ℕ) (a n : ℕ) → RunChecked sheet states a n
     → (n ≡ 0) ↔ ((firstFault sheet ≡ none) × ((a < length states) × Obeys (systemIn sheet) (reading states a)))
 unfolding RunChecked
-run-obeys-exactly sheet states a n c =
-    (λ z. let h = zero-exactly c .0 z in (h .0, run-accepted-exactly _ _ _ .0 (h .1)), λ h. zero-exactly c .1 (h .0, run-accepted-exactly _ _ _ .1 (h .1)))
+run-obeys-exactly sheet states a n c = (
+  λ z. let h = zero-exactly c .0 z in (h .0, run-accepted-exactly _ _ _ .0 (h .1)),
+  λ h. zero-exactly c .1 (h .0, run-accepted-exactly _ _ _ .1 (h .1)),
+)
 
 -- Answer 0 on bytes.
 pub run-bytes-obey-exactly : (sheet states : List ℕ) (a n : ℕ) → RunBytesChecked sheet states a n

@@ -56,7 +56,8 @@ module _ (S : System) (l : List ℕ) where
 -- ---- the whole run
 
 -- Where all but the promises is in order, the promises decide.
-pub promises-decide : {S : System} {l : List ℕ} {a end : ℕ} {r : Bool} → a < length l → suc end ≡ length l → S .First (getD l 0 0) → MovesOn S l
+pub promises-decide : {S : System} {l : List ℕ} {a end : ℕ} {r : Bool} → a < length l → suc end ≡ length l → S .First (getD l 0 0)
+    → MovesOn S l
     → S .Move (getD l end 0) (getD l a 0) → Says (AllKept S l a) r → Says (RunAccepted S l a) r
 promises-decide {S} {l} {a} {end} back at-end first moves closes kept = record {
   yes = λ t. record {

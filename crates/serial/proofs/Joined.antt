@@ -1,7 +1,7 @@
 -- Order 6's theorem. However a sheet is cut into pieces, and whatever stood in the buffer: taken one after another from a fresh lead, each
 -- piece is answered with 0, the buffer begins with the joined bytes, and closing answers what the reader promises for them, place included
--- (`fed-is-joined`). So two cuttings of the same bytes cannot be told apart (`cuttings-alike`, `cuttings-same`). Every list of pieces can be
--- taken (`feeds-met`). Assumes nothing.
+-- (`fed-is-joined`). So two cuttings of the same bytes cannot be told apart (`cuttings-alike`, `cuttings-same`). Every list of pieces can
+-- be taken (`feeds-met`). Assumes nothing.
 use mathlib.Core.Path.{_≡_, refl, sym, _∙_, ap, subst}
 use mathlib.Core.List.{List, [], _∷_, _++_, append-assoc, append-nil}
 use mathlib.Core.Logic.{_↔_}
@@ -138,8 +138,8 @@ fed {bytes} {sheet} {left} {lead} room c = record {
         (subst (λ (q : ℕ). Answers (lead .taken) left (some .0) q) (same .1) (some .2)))
         e
 
--- Pieces taken one after another from a fresh lead, whatever stood in the buffer: each is answered with 0, and what is left and what closing
--- answers is settled by the joined bytes.
+-- Pieces taken one after another from a fresh lead, whatever stood in the buffer: each is answered with 0, and what is left and what
+-- closing answers is settled by the joined bytes.
 pub fed-is-joined : {pieces : List (List ℕ)} {sheet answers left : List ℕ} {lead : Lead}
     → FedFresh pieces sheet answers lead left → (answers ≡ replicate (length pieces) 0) × Fed (joined pieces) sheet lead left
 fed-is-joined {pieces} {sheet} f =

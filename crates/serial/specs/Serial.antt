@@ -1,6 +1,6 @@
 -- Document 02, order 6, "Sheets over the serial lead": what taking a piece and what closing promise, for every state of a lead that can be
--- handed in. A lead is a count and a mark by value; the bytes that came stand in a lent buffer of 4,096. Each promise leaves one outcome and
--- can be met (proofs/Outcomes.antt); what follows for pieces taken one after another is in proofs/Joined.antt. Assumes nothing.
+-- handed in. A lead is a count and a mark by value; the bytes that came stand in a lent buffer of 4,096. Each promise leaves one outcome
+-- and can be met (proofs/Outcomes.antt); what follows for pieces taken one after another is in proofs/Joined.antt. Assumes nothing.
 use mathlib.Core.Path.{_≡_}
 use mathlib.Core.List.{List, [], _∷_, _++_}
 use Prim.Native.Nat.{ℕ, zero, suc, _+_, _≤_, _<_, min, max}

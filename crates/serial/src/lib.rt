@@ -1,6 +1,6 @@
-// Sheets over the serial lead (document 02, order 6): pieces of a sheet are taken one by one into a buffer that the caller lends, and closing
-// answers what the reader answers for the joined bytes, place included. What is known of a lead is a count and a mark, handed over by value;
-// any two numbers may be handed in. What follows for pieces taken one after another is in proofs/Joined.antt.
+// Sheets over the serial lead (document 02, order 6): pieces of a sheet are taken one by one into a buffer that the caller lends, and
+// closing answers what the reader answers for the joined bytes, place included. What is known of a lead is a count and a mark, handed over
+// by value; any two numbers may be handed in. What follows for pieces taken one after another is in proofs/Joined.antt.
 use answers::DONE;
 use answers::LEAD_CLOSED;
 use reader::Verdict;

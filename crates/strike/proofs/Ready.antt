@@ -23,7 +23,8 @@ use Rattle.rounds.specs.Tests.{StrikableByTests}
 
 -- ---- room
 
--- Arrays of zeros for n places are room for r: 17 rows are enough. Their lengths come by a law; computed, they would cost by the arrays' size.
+-- Arrays of zeros for n places are room for r: 17 rows are enough. Their lengths come by a law; computed, they would cost by the arrays'
+-- size.
 pub rows-room : {book table words : List ℕ} {r : ℕ} (n : ℕ) → Strikable book table words r → r ≤ n → n ≤ mostStates
     → RoomForRows book r (replicate (17 * n) 0) (replicate n 0) (replicate n 0)
 rows-room {book = book} {r = r} n A few small =
@@ -62,10 +63,12 @@ signs-ready n A enough = (strikable-lawful _ _ _ _ A, lent-signs n enough)
 pub strikable-storable : {book table words : List ℕ} {r : ℕ} → Strikable book table words r → Storable book table r
 strikable-storable {table = table} {r = r} A =
     storable (strikable-lawful _ _ _ _ A)
-    (λ i j h k. rising-apart _<_ (λ a b c p q. omega arith) (λ a p. omega arith) {f = λ m. getD table m 0} {n = r} (strikable-rises _ _ _ _ A) i j h k)
+    (λ i j h k. rising-apart _<_ (λ a b c p q. omega arith) (λ a p. omega arith) {f = λ m. getD table m 0} {n = r}
+    (strikable-rises _ _ _ _ A) i j h k)
 
 -- What storing kept, if it kept any, serves.
-pub kept-along : {book table words : List ℕ} {r : ℕ} {forth back : List ℕ} {n : ℕ} → Strikable book table words r → StoredRows book table r forth back n
+pub kept-along : {book table words : List ℕ} {r : ℕ} {forth back : List ℕ} {n : ℕ} → Strikable book table words r
+    → StoredRows book table r forth back n
     → (n ≡ 0 → ⊥) → AlongStored book table words r forth back
 kept-along A (none e) n = absurd (n e)
 kept-along A (both e F B) n = record { asked = A; onward = F; backward = B }
@@ -73,7 +76,8 @@ kept-along A (both e F B) n = record { asked = A; onward = F; backward = B }
 -- ---- the words that were wiped first
 
 -- What was asked of the words holds of the wiped ones,
-pub wiped-strikable : {book table words words′ : List ℕ} {r : ℕ} → Strikable book table words r → length words′ ≡ length words → Strikable book table words′ r
+pub wiped-strikable : {book table words words′ : List ℕ} {r : ℕ} → Strikable book table words r → length words′ ≡ length words
+    → Strikable book table words′ r
 wiped-strikable a e = record {
   shaped = a .shaped;
   lists = a .lists;

@@ -38,7 +38,12 @@ strikes-checked : (sheet states words : List ℕ) (n : ℕ) → PaperChecked she
 unfolding PaperChecked PaperAccepted Whole StrikesChecked stateBytes wordBytes
 strikes-checked sheet states words n =
     checked-as (λ S h. subst₂ (λ (s w : List ℕ). StrikesAccepted S s w) (states-of-numbers states) (words-of-numbers words) (h .2))
-    (λ S h. (refl, refl, subst₂ (λ (s w : List ℕ). StrikesAccepted S s w) (sym (states-of-numbers states)) (sym (words-of-numbers words)) h))
+    (λ S h. (
+      refl,
+      refl,
+      subst₂ (λ (s w : List ℕ). StrikesAccepted S s w) (sym (states-of-numbers states)) (sym (words-of-numbers words))
+          h,
+    ))
 
 pub strikes-placed : (sheet states words : List ℕ) (n place : ℕ) → Placed sheet (PaperChecked sheet [] states [] words) n place
     → StrikesPlaced sheet states words n place
@@ -46,8 +51,19 @@ unfolding StrikesPlaced
 strikes-placed sheet states words n place p = record { number = strikes-checked sheet states words n (p .number); where-met = p .where-met }
 
 -- With no numbers it is the promise on bytes.
-pub strikes-bytes-checked : (sheet states words : List ℕ) (n : ℕ) → PaperChecked sheet states [] words [] n → StrikesBytesChecked sheet states words n
+pub strikes-bytes-checked : (sheet states words : List ℕ) (n : ℕ) → PaperChecked sheet states [] words [] n
+    → StrikesBytesChecked sheet states words n
 unfolding PaperChecked PaperAccepted StrikesBytesChecked stateBytes wordBytes
 strikes-bytes-checked sheet states words n =
-    checked-as (λ S h. (h .0, h .1, subst₂ (λ (s w : List ℕ). StrikesAccepted S s w) (states-of-bytes states) (words-of-bytes words) (h .2)))
-    (λ S h. (h .0, h .1, subst₂ (λ (s w : List ℕ). StrikesAccepted S s w) (sym (states-of-bytes states)) (sym (words-of-bytes words)) (h .2)))
+    checked-as (λ S h. (
+      h .0,
+      h .1,
+      subst₂ (λ (s w : List ℕ). StrikesAccepted S s w) (states-of-bytes states) (words-of-bytes words)
+          (h .2),
+    ))
+    (λ S h. (
+      h .0,
+      h .1,
+      subst₂ (λ (s w : List ℕ). StrikesAccepted S s w) (sym (states-of-bytes states)) (sym (words-of-bytes words))
+          (h .2),
+    ))

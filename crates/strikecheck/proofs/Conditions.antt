@@ -44,7 +44,8 @@ risen-more {words} {count} {i} m here = record { counted = m .counted; begun = o
 pub risen-all : {words : List ℕ} {count i : ℕ} → Risen words count i → count ≤ i → Rising words
 risen-all m h j below = m .risen j (omega (arith, m .counted))
 
-pub fall-not-rising : {words : List ℕ} {count i : ℕ} → Risen words count i → i < count → getD words i 0 < getD words (i - 1) 0 → Rising words → ⊥
+pub fall-not-rising : {words : List ℕ} {count i : ℕ} → Risen words count i → i < count → getD words i 0 < getD words (i - 1) 0
+    → Rising words → ⊥
 fall-not-rising {words} {count} {i} m h fall all =
     let e : suc (i - 1) ≡ i = omega (arith, m .begun) in
     let up : getD words (i - 1) 0 ≤ getD words i 0 =
@@ -66,7 +67,8 @@ module _ (book : List ℕ) {word x promises : ℕ} (word-is : word ≡ x) (promi
 -- ---- all conditions
 
 -- Lawful states, of which all are looked at.
-pub states-asked : {book states : List ℕ} {distinct : Bool} → Shaped book → AllLawful (bookSystem book) states → (distinct ≡ true → Different states)
+pub states-asked : {book states : List ℕ} {distinct : Bool} → Shaped book → AllLawful (bookSystem book) states
+    → (distinct ≡ true → Different states)
     → StatesAsk book states (length states) distinct
 states-asked shaped lawful different = record { shaped = shaped; lawful = lawful; within = omega arith; different = different }
 
@@ -76,7 +78,8 @@ lawful-small {book} states shaped lawful i h =
     state-small (shaped .few-letters) (lawful-below book (getD states i 0) (lawful-true book (getD states i 0) (lawful i h)))
 
 -- Where all but the entries is in order, the entries decide.
-pub entries-decide : (S : System) (states words : List ℕ) {r : Bool} → length words ≡ length states → Rising words → ReasonsFit S words → AllLawful S states
+pub entries-decide : (S : System) (states words : List ℕ) {r : Bool} → length words ≡ length states → Rising words → ReasonsFit S words
+    → AllLawful S states
     → FirstsListed S states → Says (EntriesOk S states words) r → Says (StrikesAccepted S states words) r
 entries-decide S states words as-many rising fit lawful firsts = says-as there (λ h. h .entries)
   where

@@ -26,7 +26,8 @@ strikes-no-run sheet states words n c z =
 -- Answer 0 on bytes, exactly; and what follows.
 pub strikes-bytes-accepted-exactly : (sheet states words : List ℕ) (n : ℕ) → StrikesBytesChecked sheet states words n
     → (n ≡ 0) ↔ ((firstFault sheet ≡ none)
-    × (Whole stateBytes states × Whole wordBytes words × StrikesAccepted (systemIn sheet) (numbersIn stateBytes states) (numbersIn wordBytes words)))
+    × (Whole stateBytes states × Whole wordBytes words × StrikesAccepted (systemIn sheet) (numbersIn stateBytes states)
+    (numbersIn wordBytes words)))
 unfolding StrikesBytesChecked
 strikes-bytes-accepted-exactly sheet states words n c = zero-exactly c
 

@@ -1,6 +1,6 @@
--- The strike checker's conditions that stand neither in crate strikes_covers (specs/Asks.antt) nor in crate strikes_entries (specs/Entries.antt), and its
--- promise for a paper whose parts stand in bytes or in numbers. The two public calls promise what the meaning says (StrikesPlaced,
--- StrikesBytesChecked). Assumes nothing.
+-- The strike checker's conditions that stand neither in crate strikes_covers (specs/Asks.antt) nor in crate strikes_entries
+-- (specs/Entries.antt), and its promise for a paper whose parts stand in bytes or in numbers. The two public calls promise what the meaning
+-- says (StrikesPlaced, StrikesBytesChecked). Assumes nothing.
 use mathlib.Core.List.{List}
 use Prim.Native.Nat.{ℕ, _%_, _≤_, _<_}
 use lib.ListN.{length, getD}

@@ -28,8 +28,8 @@ ghost use Rattle.strikes_covers.specs.Asks.{AllLawful};
 ghost use Rattle.strikes_entries.specs.Entries.{Rising};
 ghost use Rattle.strikecheck.specs.Strikes.{ReasonsFit, Accepted, PaperAccepted, PaperChecked};
 
-// Checks a strike list. 0 exactly if document 01 accepts it (then no run obeys the sheet), 1 to 10 for a bad sheet and the place of its fault,
-// else 14.
+// Checks a strike list. 0 exactly if document 01 accepts it (then no run obeys the sheet), 1 to 10 for a bad sheet and the place of its
+// fault, else 14.
 pub fn check_strikes(sheet: &[u8], states: &[State], words: &[u32]) -> Verdict
     ensures { λ r. ⌜ StrikesPlaced (now (sheet .entry)) (now (states .entry)) (now (words .entry)) (r .answer) (r .place) ⌝ }
 {
@@ -49,7 +49,8 @@ pub fn check_strikes_bytes(sheet: &[u8], states: &[u8], words: &[u8]) -> u32
 // The sheet first, then the paper. sb and sn are the states, wb and wn the words.
 fn check(sheet: &[u8], sb: &[u8], sn: &[State], wb: &[u8], wn: &[u32]) -> Verdict
     ensures { λ r. ⌜ Placed (now (sheet .entry))
-        (PaperChecked (now (sheet .entry)) (now (sb .entry)) (now (sn .entry)) (now (wb .entry)) (now (wn .entry))) (r .answer) (r .place) ⌝ }
+        (PaperChecked (now (sheet .entry)) (now (sb .entry)) (now (sn .entry)) (now (wb .entry)) (now (wn .entry))) (r .answer)
+        (r .place) ⌝ }
 {
     match reader::read_in_numbers(sheet) {
         InNumbers::Good => on_paper(paper_accepted(sheet, sb, sn, wb, wn)),

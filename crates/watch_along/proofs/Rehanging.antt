@@ -34,7 +34,8 @@ module _ (words old forth back log : List ℕ) (m tail : ℕ) (before : List ℕ
   }
 
   -- Once they were asked, the witnesses may be spread.
-  pub rehang-spreadable : (row line : List ℕ) (n : ℕ) → Asked words old row forth log m tail before line n → Spreadable words row back line n
+  pub rehang-spreadable : (row line : List ℕ) (n : ℕ) → Asked words old row forth log m tail before line n
+      → Spreadable words row back line n
   rehang-spreadable row line n a =
       let e = a .long in
       let f = a .line-long in

@@ -8,8 +8,11 @@ use Rattle.audit.proofs.audit_good.Statement.{statement}
 use Rattle.audit.proofs.audit_good.Tie as tie
 
 carry-requires : tie.Need-carry-requires
-carry-requires c κs =
-    (c .before .before .compile .ensures .shaped, carriable _ _ (c .before .before .before .before .before .past .ensures .never (c .before .before .before .before .if1 .left)))
+carry-requires c κs = (
+  c .before .before .compile .ensures .shaped,
+  carriable _ _ (c .before .before .before .before .before .past .ensures .never
+      (c .before .before .before .before .if1 .left)),
+)
 
 returns-2 : tie.Need-returns-2
 returns-2 c =

@@ -11,7 +11,9 @@ returns-3 : tie.Need-returns-3
 returns-3 c =
     let kept = c .before .before .before .before in
     let count = kept .before .before .before .before in
-    past-by-broken (accountOf (count .before .args .account)) (count .before .args .more) (count .count-past .ensures .never (kept .before .before .before .if1 .left)) (kept .some-past .ensures .never (c .before .before .before .if2 .left))
+    past-by-broken (accountOf (count .before .args .account)) (count .before .args .more)
+    (count .count-past .ensures .never (kept .before .before .before .if1 .left))
+    (kept .some-past .ensures .never (c .before .before .before .if2 .left))
     (c .some-past2 .ensures)
 
 pub past-spec : {M : Type 1} → statement M

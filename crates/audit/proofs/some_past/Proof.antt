@@ -13,10 +13,18 @@ abbrev μ-loop : tie.MeasureT-loop
 μ-loop tallies i₀ i = 255 - i
 
 returns : tie.Need-returns Inv-loop μ-loop
-returns c = says-yes (record { at = c .before .before .before .loop .i; within = c .before .before .loop-test .taken; past = c .if1 .taken })
+returns c = says-yes (record {
+  at = c .before .before .before .loop .i;
+  within = c .before .before .loop-test .taken;
+  past = c .if1 .taken;
+})
 
 loop-again : tie.Need-loop-again Inv-loop μ-loop
-loop-again c = (omega arith, none-past-next (c .before .before .before .before .args .tallies .now) _ (c .before .before .before .loop .inv .1) (c .if1 .left))
+loop-again c = (
+  omega arith,
+  none-past-next (c .before .before .before .before .args .tallies .now) _
+      (c .before .before .before .loop .inv .1) (c .if1 .left),
+)
 
 pub some-past-spec : {M : Type 1} → statement M
 some-past-spec =

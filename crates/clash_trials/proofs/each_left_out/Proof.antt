@@ -24,7 +24,10 @@ abbrev turn : tie.After-slice-known6 Inv-loop μ-loop → tie.At-loop Inv-loop �
 turn c = tried c .before .before .before .before .before .before .before .before
 
 left-out-requires : tie.Need-left-out-requires Inv-loop μ-loop
-left-out-requires c κs = (c .before .before .before .before .before .before .before .before .before .before .before .before .pre .0, omega arith)
+left-out-requires c κs = (
+  c .before .before .before .before .before .before .before .before .before .before .before .before .pre .0,
+  omega arith,
+)
 
 returns : tie.Need-returns Inv-loop μ-loop
 returns c =

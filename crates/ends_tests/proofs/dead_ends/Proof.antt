@@ -1,5 +1,5 @@
--- `ends_tests::dead_ends` meets its contract. The loop's invariant: the first i places are judged, the pointers are right, and what fell stands in
--- the log. Assumes nothing.
+-- `ends_tests::dead_ends` meets its contract. The loop's invariant: the first i places are judged, the pointers are right, and what fell
+-- stands in the log. Assumes nothing.
 use mathlib.Core.Path.{_≡_, _∙_, refl}
 use Prim.Native.Nat.{_-_, _≤_, _<_}
 use native.Mathlib.Omega.{arith}
@@ -49,7 +49,8 @@ room : (c : tie.After-seek-from Inv-loop μ-loop) → turn c .before .loop .end 
 room c = let head = turn c .before in let pre = start head .pre in
     omega (
       arith,
-      passing-room _ _ _ _ _ _ (pre .unphased) _ _ _ _ (head .loop .inv .1) (head .loop .inv .2 .grows) (pre .log-is .count) (turn c .loop-test .taken)
+      passing-room _ _ _ _ _ _ (pre .unphased) _ _ _ _ (head .loop .inv .1) (head .loop .inv .2 .grows) (pre .log-is .count)
+          (turn c .loop-test .taken)
           (c .before .before .before .pending .ensures) (c .before .before .if1 .taken),
       pre .log-is .in-log,
       head .loop .inv .2 .long,
@@ -68,7 +69,11 @@ pending-requires c κs =
     let l = c .before .before in
     let head = l .before in (
       in-words l,
-      λ z. omega (arith, pointer-within _ _ _ _ _ _ (start head .pre .unphased) _ _ _ _ (head .loop .inv .1) (l .loop-test .taken) z, in-words l),
+      λ z. omega (
+        arith,
+        pointer-within _ _ _ _ _ _ (start head .pre .unphased) _ _ _ _ (head .loop .inv .1) (l .loop-test .taken) z,
+        in-words l,
+      ),
     )
 
 seek-from-requires : tie.Need-seek-from-requires Inv-loop μ-loop
@@ -115,7 +120,8 @@ loop-again-3 c =
     let l = c .before .before .before .before in
     let head = l .before in (
       omega (arith, l .loop-test .taken),
-      passing-past _ _ _ _ _ _ (start head .pre .unphased) _ _ _ _ (head .loop .inv .1) (l .loop-test .taken) (c .before .pending .ensures) (c .if1 .left),
+      passing-past _ _ _ _ _ _ (start head .pre .unphased) _ _ _ _ (head .loop .inv .1) (l .loop-test .taken)
+          (c .before .pending .ensures) (c .if1 .left),
       head .loop .inv .2,
       head .loop .inv .3,
     )

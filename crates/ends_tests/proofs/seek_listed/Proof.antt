@@ -20,7 +20,8 @@ returns-2 c =
     let at = c .before .still-stands .ensures .yes (c .if2 .taken) in
     let found = c .before .before in
     let some = found .before in
-    least-found _ _ _ _ _ _ _ _ _ (listed-least _ _ _ (some .before .before .next-states .ensures) refl (some .if1 .left)) (found .place .ensures)
+    least-found _ _ _ _ _ _ _ _ _ (listed-least _ _ _ (some .before .before .next-states .ensures) refl (some .if1 .left))
+    (found .place .ensures)
     (at .0) (at .1)
 
 returns-4 : tie.Need-returns-4
@@ -28,7 +29,8 @@ returns-4 c =
     let found = c .before .before .before .before in
     let some = found .before in
     sought-from _ _ _ _ _ _ _ _ _
-    (least-passed _ _ _ _ _ _ _ _ _ (listed-least _ _ _ (some .before .before .next-states .ensures) refl (some .if1 .left)) (found .place .ensures))
+    (least-passed _ _ _ _ _ _ _ _ _ (listed-least _ _ _ (some .before .before .next-states .ensures) refl (some .if1 .left))
+    (found .place .ensures))
     (c .seek2 .ensures)
 
 pub seek-listed-spec : {M : Type 1} → statement M

@@ -17,14 +17,16 @@ returns c =
     let left = c .before .before .before .before .before .before .before in
     let test = left .before .before .before .before in
     let explored = test .before .before .before .before .before in
-    returned-crowded (start explored .args .run .now) (c .refusal .ensures) (measured explored .room .ensures) (explored .explore .ensures) (test .if1 .taken)
+    returned-crowded (start explored .args .run .now) (c .refusal .ensures) (measured explored .room .ensures)
+    (explored .explore .ensures) (test .if1 .taken)
     (left .leave .ensures)
 
 judge-reached-requires : tie.Need-judge-reached-requires
 judge-reached-requires c κs =
     let test = c .before .before .before .before in
     let explored = test .before .before .before .before .before in
-    returned-reached (start explored .args .words .now) (start explored .args .run .now) (start explored .pre) (measured explored .room .ensures)
+    returned-reached (start explored .args .words .now) (start explored .args .run .now) (start explored .pre)
+    (measured explored .room .ensures)
     (explored .explore .ensures)
     (test .if1 .left)
 

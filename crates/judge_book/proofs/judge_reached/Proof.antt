@@ -1,4 +1,5 @@
--- `judge_reached` meets its contract: 13 where none is left, else what `judge_kept` found; very few states are judged by their signs. Assumes nothing.
+-- `judge_reached` meets its contract: 13 where none is left, else what `judge_kept` found; very few states are judged by their signs.
+-- Assumes nothing.
 use borrow.Author.Needs.{needs}
 use Rattle.judge_answer.proofs.Rooms.{judged-alike}
 use Rattle.judge_book.proofs.StruckSteps.{reached-strikable, reached-orderable, reached-keepable, reached-kept, kept-alike}
@@ -22,7 +23,8 @@ returns-2 c =
     let at = test .before .before .before in
     let pre = start at .pre in
     let told = at .strike .ensures in
-    cannot-judged (start at .args .run .now) (pre .room) (pre .lists) (told .marked) (test .if2 .taken) (told .words-long) (struck .judge-struck .ensures)
+    cannot-judged (start at .args .run .now) (pre .room) (pre .lists) (told .marked) (test .if2 .taken) (told .words-long)
+    (struck .judge-struck .ensures)
 
 judge-kept-requires : tie.Need-judge-kept-requires
 judge-kept-requires c κs =

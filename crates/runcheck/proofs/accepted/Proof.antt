@@ -10,11 +10,14 @@ use Rattle.runcheck.proofs.accepted.Tie as tie
 
 returns-2 : tie.Need-returns-2
 returns-2 c =
-    says-no (λ h. first-says _ (c .before .before .state-at .ensures) (c .before .first-state .ensures) .never (not-true _ (c .if2 .taken)) (h .first))
+    says-no (λ h. first-says _ (c .before .before .state-at .ensures) (c .before .first-state .ensures) .never
+    (not-true _ (c .if2 .taken)) (h .first))
 
 moves-on-requires : tie.Need-moves-on-requires
-moves-on-requires c κs =
-    (c .before .before .before .before .before .before .before .before .pre, omega (arith, c .before .before .before .before .states-in .ensures))
+moves-on-requires c κs = (
+  c .before .before .before .before .before .before .before .before .pre,
+  omega (arith, c .before .before .before .before .states-in .ensures),
+)
 
 returns-4 : tie.Need-returns-4
 returns-4 c =

@@ -9,7 +9,8 @@ use Rattle.runcheck.proofs.keeps_all.Statement.{statement}
 use Rattle.runcheck.proofs.keeps_all.Tie as tie
 
 abbrev Inv-loop : tie.InvT-loop
-Inv-loop book bytes numbers a promises k₀ k = Passed (KeptFrom (bookSystem book) (statesOf bytes numbers) a) (bookSystem book .promises) promises k
+Inv-loop book bytes numbers a promises k₀ k = Passed (KeptFrom (bookSystem book) (statesOf bytes numbers) a) (bookSystem book .promises)
+    promises k
 
 abbrev μ-loop : tie.MeasureT-loop
 μ-loop book bytes numbers a promises k₀ k = promises - k
@@ -27,8 +28,10 @@ keeps-all-spec =
     (λ c κs. c .before .before .before .pre .0)
     loop-holds
     (λ c κs. c .before .before .before .before .before .before .pre)
-    (λ c. turn-fails (c .before .before .before .loop .inv) (c .before .before .loop-test .taken) (c .before .keeps .ensures) (c .if1 .taken))
+    (λ c. turn-fails (c .before .before .before .loop .inv) (c .before .before .loop-test .taken) (c .before .keeps .ensures)
+    (c .if1 .taken))
     (λ c. omega arith)
     (λ c. omega arith)
-    (λ c. turn-passes (c .before .before .before .loop .inv) (c .before .before .loop-test .taken) (c .before .keeps .ensures) (c .if1 .left))
+    (λ c. turn-passes (c .before .before .before .loop .inv) (c .before .before .loop-test .taken) (c .before .keeps .ensures)
+    (c .if1 .left))
     (λ c. all-passed (c .before .loop .inv) (c .loop-test .left)))

@@ -14,14 +14,17 @@ use Rattle.runcheck.proofs.moves_on.Statement.{statement}
 use Rattle.runcheck.proofs.moves_on.Tie as tie
 
 abbrev Inv-loop : tie.InvT-loop
-Inv-loop book bytes numbers count end i₀ i = Passed (MovesAt (bookSystem book) (statesOf bytes numbers)) (length (statesOf bytes numbers) - 1) end i
+Inv-loop book bytes numbers count end i₀ i = Passed (MovesAt (bookSystem book) (statesOf bytes numbers))
+    (length (statesOf bytes numbers) - 1) end i
 
 abbrev μ-loop : tie.MeasureT-loop
 μ-loop book bytes numbers count end i₀ i = end - i
 
 -- what the turn's test says
 turn : (c : tie.After-moves Inv-loop μ-loop)
-    → let a = c .before .before .before .before .before .before .before .before .before .args in Says (MovesAt (bookSystem (a .book .now)) (statesOf (a .bytes .now) (a .numbers .now)) (c .before .before .before .before .loop .i)) (c .moves .result)
+    → let a = c .before .before .before .before .before .before .before .before .before .args in
+    Says (MovesAt (bookSystem (a .book .now)) (statesOf (a .bytes .now) (a .numbers .now))
+    (c .before .before .before .before .loop .i)) (c .moves .result)
 turn c =
     let a = c .before .before .before .before .before .before .before .before .before .args in
     moves-says (bookSystem (a .book .now)) (statesOf (a .bytes .now) (a .numbers .now)) _
@@ -39,7 +42,8 @@ returns-2 : tie.Need-returns-2 Inv-loop μ-loop
 returns-2 c =
     let a = c .before .before .before .before .before .before .args in
     let states = statesOf (a .bytes .now) (a .numbers .now) in
-    says-as (all-move (bookSystem (a .book .now)) states) (each-moves (bookSystem (a .book .now)) states) (all-passed (c .before .loop .inv) (c .loop-test .left))
+    says-as (all-move (bookSystem (a .book .now)) states) (each-moves (bookSystem (a .book .now)) states)
+    (all-passed (c .before .loop .inv) (c .loop-test .left))
 
 pub moves-on-spec : {M : Type 1} → statement M
 moves-on-spec =
@@ -56,5 +60,6 @@ moves-on-spec =
     (λ c κs. c .before .before .before .before .before .before .before .before .pre .0)
     returns
     (λ c. omega arith)
-    (λ c. let in-loop = c .before .before .before .before in turn-passes (in-loop .before .loop .inv) (in-loop .loop-test .taken) (turn (c .before)) (c .if1 .left))
+    (λ c. let in-loop = c .before .before .before .before in turn-passes (in-loop .before .loop .inv) (in-loop .loop-test .taken)
+    (turn (c .before)) (c .if1 .left))
     returns-2)

@@ -7,12 +7,14 @@ use Rattle.strike.proofs.strike_many.Statement.{statement}
 use Rattle.strike.proofs.strike_many.Tie as tie
 
 returns : tie.Need-returns
-returns c = subst (StrickenIfStored _ _ _ _ _) (c .before .struck .given .1) (c .before .before .before .before .before .strike-stored .ensures)
+returns c = subst (StrickenIfStored _ _ _ _ _) (c .before .struck .given .1)
+    (c .before .before .before .before .before .strike-stored .ensures)
 
 strike-by-tests-requires : tie.Need-strike-by-tests-requires
 strike-by-tests-requires c κs =
     let stored = c .before .before .before .before .before in
-    still-strikable (stored .before .before .before .before .before .pre) (subst (StrickenIfStored _ _ _ _ _) (c .before .enum-told .given .1) (stored .strike-stored .ensures))
+    still-strikable (stored .before .before .before .before .before .pre)
+    (subst (StrickenIfStored _ _ _ _ _) (c .before .enum-told .given .1) (stored .strike-stored .ensures))
 
 pub strike-many-spec : {M : Type 1} → statement M
 strike-many-spec =

@@ -9,8 +9,10 @@ use Rattle.strike.proofs.strike_stored.Tie as tie
 
 strike-along-requires : tie.Need-strike-along-requires
 strike-along-requires c κs =
-    let pre = c .before .before .before .before .before .before .before .before .before .before .before .before .pre in
-    (kept-along (pre .0) (c .before .before .before .before .before .before .store .ensures .0) (c .before .before .before .if1 .left), pre .1)
+    let pre = c .before .before .before .before .before .before .before .before .before .before .before .before .pre in (
+      kept-along (pre .0) (c .before .before .before .before .before .before .store .ensures .0) (c .before .before .before .if1 .left),
+      pre .1,
+    )
 
 pub strike-stored-spec : {M : Type 1} → statement M
 strike-stored-spec =
@@ -18,7 +20,11 @@ strike-stored-spec =
     (tie.spec
     (λ c. search needs)
     (λ c. search needs)
-    (λ c κs. (strikable-storable (c .before .before .before .before .before .pre .0), length-replicate {A = ℕ} movesSize 0, length-replicate {A = ℕ} movesSize 0))
+    (λ c κs. (
+      strikable-storable (c .before .before .before .before .before .pre .0),
+      length-replicate {A = ℕ} movesSize 0,
+      length-replicate {A = ℕ} movesSize 0,
+    ))
     (λ c. search needs)
     (λ c. search needs)
     (λ c. search needs)

@@ -19,12 +19,14 @@ abbrev μ-loop : tie.MeasureT-loop
 returns : tie.Need-returns Inv-loop μ-loop
 returns c =
     let in-loop = c .before .before .before in
-    turn-fails (in-loop .before .loop .inv) (in-loop .loop-test .taken) (lawful-says _ (c .before .before .state-at .ensures) (c .before .lawful .ensures)) (c .if1 .taken)
+    turn-fails (in-loop .before .loop .inv) (in-loop .loop-test .taken) (lawful-says _ (c .before .before .state-at .ensures)
+    (c .before .lawful .ensures)) (c .if1 .taken)
 
 loop-again : tie.Need-loop-again Inv-loop μ-loop
 loop-again c =
     let in-loop = c .before .before .before in
-    turn-passes (in-loop .before .loop .inv) (in-loop .loop-test .taken) (lawful-says _ (c .before .before .state-at .ensures) (c .before .lawful .ensures)) (c .if1 .left)
+    turn-passes (in-loop .before .loop .inv) (in-loop .loop-test .taken) (lawful-says _ (c .before .before .state-at .ensures)
+    (c .before .lawful .ensures)) (c .if1 .left)
 
 pub all-lawful-spec : {M : Type 1} → statement M
 all-lawful-spec =

@@ -1,4 +1,5 @@
--- `strikecheck::reasons_fit` meets its contract. The loop's invariant: the first i words' remainders are at most the number of promises. Assumes nothing.
+-- `strikecheck::reasons_fit` meets its contract. The loop's invariant: the first i words' remainders are at most the number of promises.
+-- Assumes nothing.
 use Prim.Native.Nat.{_-_, _%_, _≤_}
 use native.Mathlib.Omega.{arith}
 use borrow.Author.Needs.{needs}
@@ -12,7 +13,8 @@ use Rattle.strikecheck.proofs.reasons_fit.Statement.{statement}
 use Rattle.strikecheck.proofs.reasons_fit.Tie as tie
 
 abbrev Inv-loop : tie.InvT-loop
-Inv-loop book wb wn promises words i₀ i = Passed (λ j. getD (wordsOf wb wn) j 0 % 32 ≤ bookSystem book .promises) (length (wordsOf wb wn)) words i
+Inv-loop book wb wn promises words i₀ i = Passed (λ j. getD (wordsOf wb wn) j 0 % 32 ≤ bookSystem book .promises) (length (wordsOf wb wn))
+    words i
 
 abbrev μ-loop : tie.MeasureT-loop
 μ-loop book wb wn promises words i₀ i = words - i

@@ -33,5 +33,10 @@ words-rise-spec =
     returns
     (λ c. omega arith)
     (λ c. omega arith)
-    (λ c. risen-more (c .before .before .before .before .loop .inv) (omega (arith, c .before .before .word-at .ensures, c .before .word-at2 .ensures, c .if1 .left)))
+    (λ c. risen-more (c .before .before .before .before .loop .inv) (omega (
+      arith,
+      c .before .before .word-at .ensures,
+      c .before .word-at2 .ensures,
+      c .if1 .left,
+    )))
     (λ c. says-yes (risen-all (c .before .loop .inv) (c .loop-test .left))))

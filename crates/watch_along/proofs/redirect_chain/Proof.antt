@@ -1,9 +1,11 @@
--- `watch_along::redirect_chain` meets its contract. The loop's invariant: the places of the chain before place i are redirected. Assumes nothing.
+-- `watch_along::redirect_chain` meets its contract. The loop's invariant: the places of the chain before place i are redirected. Assumes
+-- nothing.
 use Prim.Native.Nat.{_-_, _<_}
 use native.Mathlib.Omega.{arith}
 use lib.ListN.{length}
 use Rattle.meaning.specs.Promises.{mostStates}
-use Rattle.watch_along.proofs.Redirecting.{ChainTo, chain-none, chain-done, chain-place, chain-room, chain-further, chain-past, chain-more}
+use Rattle.watch_along.proofs.Redirecting.{ChainTo, chain-none, chain-done, chain-place, chain-room, chain-further, chain-past}
+use Rattle.watch_along.proofs.Redirecting.{chain-more}
 use Rattle.watch_along.proofs.redirect_chain.Statement.{statement}
 use Rattle.watch_along.proofs.redirect_chain.Tie as tie
 
@@ -35,29 +37,42 @@ place c =
     chain-place _ _ _ _ _ _ _ _ (entry l .pre .0) (entry l .pre .1) _ _ _ _ (l .loop .inv) (inside c)
 
 -- and where it is to be redirected, the line has room for it
-room : (c : tie.Then1 Inv-loop μ-loop) → (then c .before .loop .tail < length (then c .before .loop .line)) × (then c .before .loop .tail < mostStates)
+room : (c : tie.Then1 Inv-loop μ-loop) → (then c .before .loop .tail < length (then c .before .loop .line))
+    × (then c .before .loop .tail < mostStates)
 room c =
     let l = then c .before in
-    chain-room _ _ _ _ _ _ _ _ (entry l .pre .0) (entry l .pre .1) _ _ _ _ (l .loop .inv) (inside (then c)) (c .before .is-so .ensures) (c .if1 .taken)
+    chain-room _ _ _ _ _ _ _ _ (entry l .pre .0) (entry l .pre .1) _ _ _ _ (l .loop .inv) (inside (then c)) (c .before .is-so .ensures)
+    (c .if1 .taken)
 
 loop-less : tie.Need-loop-less Inv-loop μ-loop
 loop-less c =
     let e = then (c .before) in
     let l = e .before in
-    omega (arith, inside e, chain-further _ _ _ _ _ _ _ _ (entry l .pre .0) (entry l .pre .1) _ _ _ _ (l .loop .inv) (inside e) _ (c .link .ensures .0))
+    omega (
+      arith,
+      inside e,
+      chain-further _ _ _ _ _ _ _ _ (entry l .pre .0) (entry l .pre .1) _ _ _ _ (l .loop .inv) (inside e) _
+          (c .link .ensures .0),
+    )
 
 loop-again : tie.Need-loop-again Inv-loop μ-loop
 loop-again c =
     let e = then (c .before) in
     let l = e .before in
-    chain-more _ _ _ _ _ _ _ _ (entry l .pre .0) (entry l .pre .1) _ _ _ _ (l .loop .inv) (inside e) _ (c .link .ensures .0) (c .before .before .is-so .ensures)
+    chain-more _ _ _ _ _ _ _ _ (entry l .pre .0) (entry l .pre .1) _ _ _ _ (l .loop .inv) (inside e) _ (c .link .ensures .0)
+    (c .before .before .is-so .ensures)
     (c .before .if1 .taken)
 
 loop-less-2 : tie.Need-loop-less-2 Inv-loop μ-loop
 loop-less-2 c =
     let e = else (c .before) in
     let l = e .before in
-    omega (arith, inside e, chain-further _ _ _ _ _ _ _ _ (entry l .pre .0) (entry l .pre .1) _ _ _ _ (l .loop .inv) (inside e) _ (c .link2 .ensures .0))
+    omega (
+      arith,
+      inside e,
+      chain-further _ _ _ _ _ _ _ _ (entry l .pre .0) (entry l .pre .1) _ _ _ _ (l .loop .inv) (inside e) _
+          (c .link2 .ensures .0),
+    )
 
 loop-again-2 : tie.Need-loop-again-2 Inv-loop μ-loop
 loop-again-2 c =

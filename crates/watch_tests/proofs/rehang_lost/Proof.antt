@@ -27,9 +27,9 @@ same-length c = c .before .before .before .before .spread .ensures .0 .long
     ∙ c .before .before .before .before .before .before .before .before .before .before .before .ask .ensures .0 .hangs .long
 
 same-length-2 : tie.Need-same-length-2
-same-length-2 c = c .before .before .before .before .spread .ensures .1
-    ∙ c .before .before .before .before .before .before .before .before .before .before .before .ask .ensures .1
-    ∙ c .before .before .before .before .before .before .before .before .before .before .before .before .before .before .before .before .copy .ensures .long
+same-length-2 c =
+    let asked = c .before .before .before .before .before .before .before .before .before .before .before in
+    c .before .before .before .before .spread .ensures .1 ∙ asked .ask .ensures .1 ∙ asked .before .before .before .before .before .copy .ensures .long
 
 pub rehang-lost-spec : {M : Type 1} → statement M
 rehang-lost-spec =

@@ -17,4 +17,5 @@ numbers-of-spec =
     (λ c. search needs)
     (λ c κs. (omega arith, refl))
     (λ c κs. (omega arith, c .before .before .put-tallies .ensures .long))
-    (λ c. numbers-written _ _ _ _ refl refl refl refl refl refl (c .before .before .before .put-tallies .ensures) (c .put-tallies2 .ensures)))
+    (λ c. numbers-written _ _ _ _ refl refl refl refl refl refl (c .before .before .before .put-tallies .ensures)
+    (c .put-tallies2 .ensures)))

@@ -23,7 +23,8 @@ returns : tie.Need-returns Inv-loop μ-loop
 returns c =
     let e : c .before .loop .i ≡ 255 = omega arith in
     subst
-    (λ (n : ℕ). Copied n (c .before .before .args .tallies .now) 0 (c .before .before .args .numbers .now) (c .before .before .args .from) (c .before .loop .numbers))
+    (λ (n : ℕ). Copied n (c .before .before .args .tallies .now) 0 (c .before .before .args .numbers .now) (c .before .before .args .from)
+    (c .before .loop .numbers))
     e (c .before .loop .inv .2)
 
 pub put-tallies-spec : {M : Type 1} → statement M

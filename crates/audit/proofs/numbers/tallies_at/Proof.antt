@@ -22,9 +22,11 @@ loop-again c =
 returns : tie.Need-returns Inv-loop μ-loop
 returns c =
     let e : c .before .loop .i ≡ 255 = omega arith in
-    numbers-read 255 (c .before .before .args .numbers .now) (c .before .before .args .from) (replicate {A = ℕ} 255 0) (c .before .loop .tallies) refl
+    numbers-read 255 (c .before .before .args .numbers .now) (c .before .before .args .from) (replicate {A = ℕ} 255 0)
+    (c .before .loop .tallies) refl
     (subst
-    (λ (n : ℕ). Copied n (c .before .before .args .numbers .now) (c .before .before .args .from) (replicate {A = ℕ} 255 0) 0 (c .before .loop .tallies))
+    (λ (n : ℕ). Copied n (c .before .before .args .numbers .now) (c .before .before .args .from) (replicate {A = ℕ} 255 0) 0
+    (c .before .loop .tallies))
     e (c .before .loop .inv .2))
 
 pub tallies-at-spec : {M : Type 1} → statement M

@@ -24,7 +24,8 @@ returns c =
     let marked = told .before .before .before .before .before in
     let tested = marked .before .before in
     let start = tested .before .before .before .before .before .before .before in
-    checked-weighed (start .pre) (tested .is-proposal .ensures .yes (marked .before .if1 .taken)) (marked .mark .ensures) (told .weigh .ensures)
+    checked-weighed (start .pre) (tested .is-proposal .ensures .yes (marked .before .if1 .taken)) (marked .mark .ensures)
+    (told .weigh .ensures)
     (wiped .clear .ensures)
 
 returns-2 : tie.Need-returns-2
@@ -32,7 +33,8 @@ returns-2 c =
     let tested = c .before in
     let start = tested .before .before .before .before .before .before .before in
     let a = start .args in
-    checked-misnumbered (lentThree (a .table .now) (a .words .now) (a .scratch .now)) (start .pre) (tested .is-proposal .ensures) (c .if1 .left)
+    checked-misnumbered (lentThree (a .table .now) (a .words .now) (a .scratch .now)) (start .pre) (tested .is-proposal .ensures)
+    (c .if1 .left)
 
 pub check-good-spec : {M : Type 1} → statement M
 check-good-spec =

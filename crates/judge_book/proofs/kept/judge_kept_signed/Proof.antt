@@ -24,7 +24,8 @@ pub judge-kept-signed-spec : {M : Type 1} → statement M
 judge-kept-signed-spec =
     tie.close
     (tie.spec
-    (λ c κs. let pre = c .before .before .before .before .before .before .before .before .before .pre in (kept-steerable (pre .0), pre .1, pre .2))
+    (λ c κs. let pre = c .before .before .before .before .before .before .before .before .before .pre in
+    (kept-steerable (pre .0), pre .1, pre .2))
     hand-over-requires
     (λ c. search needs)
     (λ c. search needs)

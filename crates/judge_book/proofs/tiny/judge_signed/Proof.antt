@@ -3,7 +3,8 @@
 use borrow.Author.Needs.{needs}
 use native.Mathlib.Omega.{arith}
 use Rattle.judge_answer.proofs.Rooms.{judged-alike}
-use Rattle.judge_book.proofs.StruckSteps.{reached-strikable, reached-orderable, reached-keepable, reached-lawful, reached-front, reached-kept, kept-alike}
+use Rattle.judge_book.proofs.StruckSteps.{reached-strikable, reached-orderable, reached-keepable, reached-lawful, reached-front}
+use Rattle.judge_book.proofs.StruckSteps.{reached-kept, kept-alike}
 use Rattle.judge_book.proofs.StruckFindings.{cannot-judged}
 use Rattle.judge_book.proofs.tiny.judge_signed.Statement.{statement}
 use Rattle.judge_book.proofs.tiny.judge_signed.Tie as tie
@@ -36,15 +37,21 @@ returns c =
     let at = test .before .before .before in
     let pre = start at .pre .0 in
     let told = at .strike-signed .ensures in
-    cannot-judged (start at .args .run .now) (pre .room) (pre .lists) (told .marked) (test .if1 .taken) (told .words-long) (struck .judge-struck .ensures)
+    cannot-judged (start at .args .run .now) (pre .room) (pre .lists) (told .marked) (test .if1 .taken) (told .words-long)
+    (struck .judge-struck .ensures)
 
 keep-signed-requires : tie.Need-keep-signed-requires
 keep-signed-requires c κs =
     let at = c .before .before .before .before .before .before in
     let pre = start at .pre in
     let told = at .strike-signed .ensures in
-    let (signed, signs-long) = filled at .fill .ensures in
-    (reached-lawful (pre .0), reached-keepable (pre .0) (told .words-long), signed, omega (arith, pre .2, signs-long), reached-front (pre .0) (told .marked))
+    let (signed, signs-long) = filled at .fill .ensures in (
+      reached-lawful (pre .0),
+      reached-keepable (pre .0) (told .words-long),
+      signed,
+      omega (arith, pre .2, signs-long),
+      reached-front (pre .0) (told .marked),
+    )
 
 judge-kept-signed-requires : tie.Need-judge-kept-signed-requires
 judge-kept-signed-requires c κs =

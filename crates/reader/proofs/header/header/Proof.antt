@@ -98,7 +98,8 @@ returns-6 c =
     let n = letters m in
     let v = version (long n) in
     c .refuse6 .ensures
-    ∙ promises-bad _ (sized (size v)) (versioned v) (stated (long n)) (lettered n) (limited m) (lt-leb _ mostPromises (c .before .if8 .taken))
+    ∙ promises-bad _ (sized (size v)) (versioned v) (stated (long n)) (lettered n) (limited m)
+    (lt-leb _ mostPromises (c .before .if8 .taken))
 
 returns-7 : tie.Need-returns-7
 unfolding byte

@@ -1,4 +1,5 @@
--- `reader::parts::limit_parts`: the places are within the record, by its length byte; `limit-read` ties them to the meaning. Assumes nothing.
+-- `reader::parts::limit_parts`: the places are within the record, by its length byte; `limit-read` ties them to the meaning. Assumes
+-- nothing.
 use native.Mathlib.Omega.{arith}
 use Rattle.meaning.specs.Sheet.{byte, nextAt}
 use Rattle.reader.proofs.Bodies.{limit-read}

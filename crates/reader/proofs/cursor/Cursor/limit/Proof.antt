@@ -25,7 +25,12 @@ list-requires : tie.Need-list-requires
 list-requires c κs =
     let c6 = c .before .before .before .before .before .before in
     let p = c .limit-parts .ensures in
-    record { letters = c6 .pre .letters; order = p .order; within = subst (λ (e : ℕ). e ≤ length (c6 .args .s .now)) (sym (p .end)) (c6 .pre .fits) }
+    record {
+      letters = c6 .pre .letters;
+      order = p .order;
+      within = subst (λ (e : ℕ). e ≤ length (c6 .args .s .now)) (sym (p .end))
+          (c6 .pre .fits);
+    }
 
 returns-3 : tie.Need-returns-3
 unfolding byte

@@ -32,14 +32,16 @@ returns-2 c =
     let named = c .before .before in
     let t = turn (named .before) in
     listing-falls _ _ _ _ _ _ (t .before .loop .inv) (t .loop-test .taken) (start t .pre .within)
-    (sym (named .before .names-letter .ensures) ∙ not-false _ (named .if1 .left)) (sym (c .before .signed-below .ensures) ∙ not-true _ (c .if2 .taken))
+    (sym (named .before .names-letter .ensures) ∙ not-false _ (named .if1 .left)) (sym (c .before .signed-below .ensures)
+    ∙ not-true _ (c .if2 .taken))
 
 loop-again : tie.Need-loop-again Inv-loop μ-loop
 loop-again c =
     let named = c .before .before in
     let t = turn (named .before) in
     listing-goes-on _ _ _ _ _ _ (t .before .loop .inv) (t .loop-test .taken) (start t .pre .within)
-    (sym (named .before .names-letter .ensures) ∙ not-false _ (named .if1 .left)) (sym (c .before .signed-below .ensures) ∙ not-false _ (c .if2 .left))
+    (sym (named .before .names-letter .ensures) ∙ not-false _ (named .if1 .left)) (sym (c .before .signed-below .ensures)
+    ∙ not-false _ (c .if2 .left))
 
 pub list-spec : {M : Type 1} → statement M
 list-spec =

@@ -18,7 +18,8 @@ unfolding nextAt byte
 returns-2 c =
     let a = c .before .before .before .before .args in
     let next : a .self .at + 2 ≡ nextAt (a .s .now) (a .self .at) = omega arith in
-    c .list .ensures ∙ promise-shaped (a .s .now) (a .n) (a .self .at) (c .before .before .before .before .pre .fits) _ _ refl next (c .before .if1 .left)
+    c .list .ensures ∙ promise-shaped (a .s .now) (a .n) (a .self .at) (c .before .before .before .before .pre .fits) _ _ refl next
+    (c .before .if1 .left)
 
 pub promise-spec : {M : Type 1} → statement M
 unfolding byte nextAt

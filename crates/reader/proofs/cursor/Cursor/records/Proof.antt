@@ -20,12 +20,14 @@ turn c = c .before
 loop-again : tie.Need-loop-again Inv-loop μ-loop
 loop-again c =
     let r = c .before .before .before in
-    section-goes-on _ _ _ _ _ _ _ (turn r .before .loop .inv) (turn r .loop-test .taken) (sym (r .«record» .ensures) ∙ c .before .next .given .1)
+    section-goes-on _ _ _ _ _ _ _ (turn r .before .loop .inv) (turn r .loop-test .taken) (sym (r .«record» .ensures)
+    ∙ c .before .next .given .1)
 
 returns : tie.Need-returns Inv-loop μ-loop
 returns c =
     let r = c .before .before .before in
-    section-refused _ _ _ _ _ _ _ (turn r .before .loop .inv) (turn r .loop-test .taken) (sym (r .«record» .ensures) ∙ c .before .f .given .1)
+    section-refused _ _ _ _ _ _ _ (turn r .before .loop .inv) (turn r .loop-test .taken) (sym (r .«record» .ensures)
+    ∙ c .before .f .given .1)
 
 pub records-spec : {M : Type 1} → statement M
 records-spec =

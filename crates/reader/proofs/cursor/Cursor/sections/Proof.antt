@@ -24,14 +24,16 @@ limits-in c =
     let c4 = c .before .before .before .before in
     limits-within (c4 .args .s .now) (c .records .result) (limits-read c) (c4 .pre .least)
 
-firsts-in : (c : tie.After-then-records) → Within (c .before .before .before .before .before .before .args .s .now) (c .then-records .result)
+firsts-in : (c : tie.After-then-records) → Within (c .before .before .before .before .before .before .args .s .now)
+    (c .then-records .result)
 unfolding byte lettersIn
 firsts-in c =
     let s = c .before .before .before .before .before .before .args .s .now in
     further-within s aFirst (lettersIn s) (firstsIn s) (c .before .before .records .result) (c .then-records .result)
     (c .then-records .ensures) (limits-in (c .before .before))
 
-steps-in : (c : tie.After-then-records2) → Within (c .before .before .before .before .before .before .before .before .args .s .now) (c .then-records2 .result)
+steps-in : (c : tie.After-then-records2) → Within (c .before .before .before .before .before .before .before .before .args .s .now)
+    (c .then-records2 .result)
 unfolding byte lettersIn
 steps-in c =
     let s = c .before .before .before .before .before .before .before .before .args .s .now in
@@ -46,7 +48,10 @@ records-requires c κs =
 
 then-records-requires : tie.Need-then-records-requires
 unfolding byte lettersIn
-then-records-requires c κs = record { letters = omega (arith, c .before .before .before .before .before .pre .letters); within = limits-in (c .before) }
+then-records-requires c κs = record {
+  letters = omega (arith, c .before .before .before .before .before .pre .letters);
+  within = limits-in (c .before);
+}
 
 then-records-requires-2 : tie.Need-then-records-requires-2
 unfolding byte lettersIn

@@ -42,7 +42,8 @@ list-requires-2 c κs =
     let p = parts left .step-parts .ensures in
     let asks = start left .pre in
     let m =
-    left-moved _ _ _ (asks .fits) _ p (sized left .if1 .left) (counted left .if2 .left) (sym (left .list .ensures) ∙ c .before .right .given .1) in
+    left-moved _ _ _ (asks .fits) _ p (sized left .if1 .left) (counted left .if2 .left) (sym (left .list .ensures)
+    ∙ c .before .right .given .1) in
     record { letters = asks .letters; order = omega (arith, m .0, p .order-2); within = omega (arith, p .end, asks .fits) }
 
 returns-3 : tie.Need-returns-3
