@@ -12,7 +12,8 @@ use Rattle.ground.specs.Bits.{bit, wordMarks}
 use Rattle.strikes_apart.specs.Marks.{markAt}
 
 -- Setting the mark of k sets it, and leaves every mark that is set.
-module _ (marks : List ℕ) (k w : ℕ) (inside : k / wordMarks < length marks) (w-is : w ≡ bitOr (getD marks (k / wordMarks) 0) (2 ^ (k % wordMarks))) where
+module _ (marks : List ℕ) (k w : ℕ) (inside : k / wordMarks < length marks)
+    (w-is : w ≡ bitOr (getD marks (k / wordMarks) 0) (2 ^ (k % wordMarks))) where
   own-word : getD (set marks (k / wordMarks) w) (k / wordMarks) 0 ≡ bitOr (getD marks (k / wordMarks) 0) (2 ^ (k % wordMarks))
   own-word = getD-set-same marks (k / wordMarks) w 0 inside ∙ w-is
 
@@ -27,4 +28,5 @@ module _ (marks : List ℕ) (k w : ℕ) (inside : k / wordMarks < length marks) 
       by (yes p) (yes q) = let same : n ≡ k = omega arith in ap (markAt (set marks (k / wordMarks) w)) same ∙ mark-set
       by (yes p) (no q) =
           ap (λ (y : ℕ). bit (n % wordMarks) (getD (set marks (k / wordMarks) w) y 0)) p ∙ ap (bit (n % wordMarks)) own-word
-          ∙ bit-unmarked (k % wordMarks) (n % wordMarks) (getD marks (k / wordMarks) 0) q ∙ ap (λ (y : ℕ). bit (n % wordMarks) (getD marks y 0)) (sym p) ∙ e
+          ∙ bit-unmarked (k % wordMarks) (n % wordMarks) (getD marks (k / wordMarks) 0) q
+          ∙ ap (λ (y : ℕ). bit (n % wordMarks) (getD marks y 0)) (sym p) ∙ e

@@ -76,7 +76,9 @@ module _ {l : List ℕ} {low count : ℕ} {marks : List ℕ} {next i : ℕ} (m :
       (λ j p. record { once = p .once; marked = λ n e h. mark-stays marks k w room w-is n (p .marked n e h); later = p .later })
       (record {
         once = λ n e h. first (apart l i (getD l i 0)) refl;
-        marked = λ n e h. let same : k ≡ n = omega arith in ap (markAt (set marks (k / wordMarks) w)) (sym same) ∙ mark-set marks k w room w-is;
+        marked = λ n e h.
+            let same : k ≡ n = omega arith in
+            ap (markAt (set marks (k / wordMarks) w)) (sym same) ∙ mark-set marks k w room w-is;
         later = λ h. absurd (omega arith);
       })
     where
