@@ -5,9 +5,9 @@ use mathlib.Core.List.{List, [], _∷_}
 use Prim.Native.Nat.{ℕ, _+_, _-_, _^_, _≤_, _<_}
 use native.Mathlib.Omega.{arith}
 use lib.ListN.{getD}
-use lib.Pow.{pow-mono}
 use Rattle.meaning.specs.Sheet.{positive, size, lettersIn, mostLetters}
 use Rattle.ground.specs.States.{allStates}
+use Rattle.ground.proofs.States.{state-small}
 use Rattle.reader.specs.Place.{part}
 use Rattle.reader.proofs.Bodies.{part-none, part-more}
 use Rattle.compile.specs.Literals.{maskOf, Ordered}
@@ -28,16 +28,10 @@ module _ (s : List ℕ) (start end : ℕ) (sound : ListSound s start end) where
 
   -- The masks of the whole list are below all states.
   pub held-fits : maskOf true (part start end s) < allStates
-  held-fits =
-      let t = tells (lettersIn s) 0 (part start end s) (sound .ordered) .held in
-      let m = pow-mono {i = lettersIn s} {j = mostLetters} (sound .few) in
-      omega arith
+  held-fits = state-small (sound .few) (tells (lettersIn s) 0 (part start end s) (sound .ordered) .held)
 
   pub unheld-fits : maskOf false (part start end s) < allStates
-  unheld-fits =
-      let t = tells (lettersIn s) 0 (part start end s) (sound .ordered) .unheld in
-      let m = pow-mono {i = lettersIn s} {j = mostLetters} (sound .few) in
-      omega arith
+  unheld-fits = state-small (sound .few) (tells (lettersIn s) 0 (part start end s) (sound .ordered) .unheld)
 
   module _ (at held unheld : ℕ) (so : Summed s start end at held unheld) where
     first-left : at < end → Ordered (lettersIn s) (so .above) (getD s at 0 ∷ part (at + 1) end s)

@@ -1,5 +1,6 @@
--- What follows from a state's width and from the most letters: there is a bit for every letter (letter-fits) and one above, so a number of letters
--- is below all states (state-small) and fits (state-fits); every bit is set in `everyBit`. Here alone the two numbers meet. Assumes nothing.
+-- What follows from a state's width and from the most letters: there is a bit for every letter (letter-fits) and one above, so a number of
+-- letters is below all states (state-small) and fits (state-fits); every bit is set in `everyBit`. Here alone the two numbers meet.
+-- Assumes nothing.
 use mathlib.Core.Path.{_≡_}
 use Prim.Native.Nat.{ℕ, _^_, _≤_, _<_}
 use native.Mathlib.Omega.{arith}

@@ -58,7 +58,8 @@ module _ (s : List ℕ) where
 
       module _ (t3 : eqb (byte s 1 * 256 + byte s 2) (length s) ≡ true) where
         pub letters-bad :
-            leb 1 (byte s 3) && leb (byte s 3) mostLetters ≡ false → Refused (record { why = BadLetters; at = 3 }) ≡ stepTo 8 (headerFault s)
+            leb 1 (byte s 3) && leb (byte s 3) mostLetters ≡ false
+            → Refused (record { why = BadLetters; at = 3 }) ≡ stepTo 8 (headerFault s)
         unfolding headerFault
         letters-bad q = rw (t1, t2, t3, q)
 

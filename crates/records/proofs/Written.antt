@@ -260,7 +260,8 @@ header-good s h =
     none-found (leb 8 (length s) && leb (length s) 4096) badSize 0 _ (between 8 (length s) 4096 (h .least) (h .most))
     (none-found (eqb (byte s 0) 1) badVersion 0 _ (eq-eqb (byte s 0) 1 (h .version))
     (none-found (eqb (byte s 1 * 256 + byte s 2) (length s)) badLength 1 _ (eq-eqb (byte s 1 * 256 + byte s 2) (length s) (h .stated))
-    (none-found (leb 1 (lettersIn s) && leb (lettersIn s) mostLetters) badLetters 3 _ (between 1 (lettersIn s) mostLetters (h .some-letter) (h .few-letters))
+    (none-found (leb 1 (lettersIn s) && leb (lettersIn s) mostLetters) badLetters 3 _
+    (between 1 (lettersIn s) mostLetters (h .some-letter) (h .few-letters))
     (none-found (leb (byte s 4) 32) tooMany 4 _ (le-leb (byte s 4) 32 (h .few-limits))
     (none-found (leb (byte s 7) 16) tooMany 7 _ (le-leb (byte s 7) 16 (h .few-promises))
     (none-either (recordsFault aLimit (lettersIn s) s (byte s 4) 8) _ (h .limits-read)
