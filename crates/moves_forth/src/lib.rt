@@ -151,7 +151,7 @@ fn store_rows(
     ensures { λ b. ⌜ ForthStored (now (book .entry)) (now (table .entry)) r (now (moves .exit)) b × (length (now (moves .exit)) ≡ movesSize)
         × (length (now (places .exit)) ≡ movesSize) ⌝ }
 {
-    let mut room = [0u32; LIST];
+    let mut room = [0 as State; LIST];
     let mut luck = rules_classes::LUCKY;
     let mut rows: usize = 0;
     let mut at: usize = 0;

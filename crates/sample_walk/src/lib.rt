@@ -117,7 +117,7 @@ pub fn walk(
         × Followable (now book) (now table) r (now back) (now queue) (now signs) ⌝ }
     ensures { λ s. ⌜ Walked (now (book .entry)) (now (words .entry)) (now (words .exit)) (now (run .entry)) (now (run .exit)) (s .a) (s .b) ⌝ }
 {
-    ground::wipe_front(words, r);
+    ground::wipe_words_front(words, r);
     sample_step::rows(book, table, words, dist, r, back, queue, signs);
     let end = find_end(book, table, words, dist, r, forth, signs);
     let b = end.b;

@@ -8,10 +8,10 @@ use Rattle.sample_walk.proofs.walk.Statement.{statement}
 use Rattle.sample_walk.proofs.walk.Tie as tie
 
 -- the places of the calls, each from the next
-abbrev start : tie.After-wipe-front → tie.Start
+abbrev start : tie.After-wipe-words-front → tie.Start
 start c = c .before .before .before .before .before .before .before .before .before .before .before
 
-abbrev wiped : tie.After-rows → tie.After-wipe-front
+abbrev wiped : tie.After-rows → tie.After-wipe-words-front
 wiped c = c .before .before .before .before .before .before
 
 abbrev measured : tie.After-find-end → tie.After-rows
@@ -20,7 +20,7 @@ measured c = c .before .before .before .before .before .before .before
 find-end-requires : tie.Need-find-end-requires
 find-end-requires c κs =
     let at = c .before .before .before .before .before .before in
-    let clean = wiped at .wipe-front .ensures in
+    let clean = wiped at .wipe-words-front .ensures in
     let pre = start (wiped at) .pre in
     (walkable-of (pre .0) (pre .1) (at .rows .ensures), rowable-of (pre .0) clean .in-words, clean .zeros, pre .2)
 
@@ -34,7 +34,7 @@ write-run-requires c κs =
 
 -- the words keep their length
 long : (c : tie.After-find-end) → length (c .find-end .last .1 .1 .0) ≡ length (start (wiped (measured c)) .args .words .now)
-long c = c .find-end .ensures .long ∙ wiped (measured c) .wipe-front .ensures .long
+long c = c .find-end .ensures .long ∙ wiped (measured c) .wipe-words-front .ensures .long
 
 returns : tie.Need-returns
 returns c =
@@ -55,7 +55,7 @@ walk-spec =
     (λ c κs. search needs)
     (λ c κs.
     let at = c .before .before .before .before .before in
-    (rowable-of (start at .pre .0) (at .wipe-front .ensures), start at .pre .1, start at .pre .3))
+    (rowable-of (start at .pre .0) (at .wipe-words-front .ensures), start at .pre .1, start at .pre .3))
     find-end-requires
     (λ c. search needs)
     write-run-requires
