@@ -169,7 +169,8 @@ pub place-fits : (book : List ℕ) (s t times n : ℕ) (kept broken kept′ brok
 place-fits book s t times n kept broken kept′ broken′ some few-times k b before few =
     (one kept kept′ (keptBy book s t) k (before .keeps), one broken broken′ (brokenBy book s t) b (before .breaks))
   where
-    one : (l l′ : List ℕ) (test : ℕ → Bool) → Within (mostMoments + mostMoments) l → l′ ≡ bumped times test n l → getD l′ n 0 + times ≤ mostTally
+    one : (l l′ : List ℕ) (test : ℕ → Bool) → Within (mostMoments + mostMoments) l → l′ ≡ bumped times test n l
+        → getD l′ n 0 + times ≤ mostTally
     one l l′ test w e =
         let same : getD l′ n 0 ≡ getD l n 0 = ap (λ (x : List ℕ). getD x n 0) e ∙ bumped-above times test n l n (omega arith) in
         omega (arith, w .within n few)
