@@ -96,7 +96,7 @@ fn seek_listed(
     ensures { λ q. ⌜ Sought (now (book .entry)) (now (table .entry)) (now (words .entry)) word r (getD (now (table .entry)) i 0) lo q ⌝ }
 {
     let s = table[i];
-    let mut one = [0u32; 1];
+    let mut one = [0 as State; 1];
     let n = walk_listing::next_states(book, s, &mut one);
     if n == 0 {
         return 0;

@@ -45,7 +45,7 @@ pub fn strike_signed(
     requires { ⌜ Strikable (now book) (now table) (now words) r × Signed (now book) (now table) r (now signs) × (r ≤ tinyStates) ⌝ }
     ensures { λ left. ⌜ Stricken (now (book .entry)) (now (table .entry)) r (now (words .entry)) (now (words .exit)) left ⌝ }
 {
-    ground::wipe_front(words, r);
+    ground::wipe_words_front(words, r);
     let mut wit = [0u16; TINY_ROWS];
     let mut log = [0u16; moves::TINY_STATES];
     let mut line = [0u16; moves::TINY_STATES];
@@ -168,7 +168,7 @@ pub fn strike(book: &[State], table: &[State], words: &mut [u32], r: usize) -> u
     requires { ⌜ Strikable (now book) (now table) (now words) r ⌝ }
     ensures { λ left. ⌜ Stricken (now (book .entry)) (now (table .entry)) r (now (words .entry)) (now (words .exit)) left ⌝ }
 {
-    ground::wipe_front(words, r);
+    ground::wipe_words_front(words, r);
     if r <= moves::FEW_STATES {
         return strike_few(book, table, words, r);
     }

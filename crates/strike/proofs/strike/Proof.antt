@@ -8,13 +8,13 @@ use Rattle.strike.proofs.strike.Tie as tie
 strike-few-requires : tie.Need-strike-few-requires
 strike-few-requires c κs =
     let wiped = c .before .before .before .before in
-    let told = wiped .wipe-front .ensures in
+    let told = wiped .wipe-words-front .ensures in
     (wiped-strikable (wiped .before .before .before .before .before .pre) (told .long), told .zeros, omega arith)
 
 strike-many-requires : tie.Need-strike-many-requires
 strike-many-requires c κs =
     let wiped = c .before .before .before .before in
-    let told = wiped .wipe-front .ensures in
+    let told = wiped .wipe-words-front .ensures in
     (wiped-strikable (wiped .before .before .before .before .before .pre) (told .long), told .zeros)
 
 pub strike-spec : {M : Type 1} → statement M

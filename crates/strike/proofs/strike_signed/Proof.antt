@@ -10,7 +10,7 @@ rounds-by-tests-requires : tie.Need-rounds-by-tests-requires
 rounds-by-tests-requires c κs =
     let wiped = c .before .before .before .before .before .before in
     let pre = wiped .before .before .before .before .before .before .pre in
-    let told = wiped .wipe-front .ensures in
+    let told = wiped .wipe-words-front .ensures in
     (tests-strikable tinyStates (wiped-strikable (pre .0) (told .long)) (pre .1) (pre .2) (omega arith), told .zeros)
 
 pub strike-signed-spec : {M : Type 1} → statement M
