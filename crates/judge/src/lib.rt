@@ -1,6 +1,6 @@
 // The judge: reads a sheet, compiles it into its book, and answers what `judge_book` finds over that, in the slices that it was lent. Its promise is
 // `Judged` of the meaning; it asks nothing.
-use ground::State;
+pub use ground::State;
 pub use judge_answer::Judgement;
 use judge_answer::refusal;
 use judge_book::judge_book;
@@ -24,7 +24,7 @@ fn judge_good(
         (lentOf (now (table .entry)) (now (words .entry)) (now (scratch .entry)) (now (run .entry)))
         (outcomeOf r (lentOf (now (table .exit)) (now (words .exit)) (now (scratch .exit)) (now (run .exit)))) ⌝ }
 {
-    let mut book = [0u32; rules::BOOK_SIZE];
+    let mut book: [State; rules::BOOK_SIZE] = [0; rules::BOOK_SIZE];
     compile::compile(sheet, &mut book);
     judge_book(&book, table, words, scratch, run)
 }
