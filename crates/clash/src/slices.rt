@@ -10,7 +10,7 @@ pub fn clear(table: &mut [State], words: &mut [u32], scratch: &mut [State])
     ensures { λ _. ⌜ lentThree (now (table .exit)) (now (words .exit)) (now (scratch .exit))
         ≡ cleared (lentThree (now (table .entry)) (now (words .entry)) (now (scratch .entry))) ⌝ }
 {
-    ground::wipe_from(table, 0);
-    ground::wipe_from(words, 0);
-    ground::wipe_from(scratch, 0);
+    ground::wipe_states_from(table, 0);
+    ground::wipe_words_from(words, 0);
+    ground::wipe_states_from(scratch, 0);
 }

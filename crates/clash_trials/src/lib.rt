@@ -25,7 +25,7 @@ fn judge_front(
         (lentThree (now (table .entry)) (now (words .entry)) (now (scratch .entry))) a
         (lentThree (now (table .exit)) (now (words .exit)) (now (scratch .exit))) ⌝ }
 {
-    let mut no_run = [0u32; 1];
+    let mut no_run: [State; 1] = [0; 1];
     let bytes: &[u8] = buffer;
     let j = judge::judge(&bytes[..n], table, words, scratch, &mut no_run[..0]);
     j.answer

@@ -10,7 +10,8 @@ returns c =
     let words = scratch .before .before .before .before in
     let table = words .before .before .before .before in
     let a = table .before .before .before .before .before .args in
-    cleared-three (a .table .now) (a .words .now) (a .scratch .now) (table .wipe-from .ensures) (words .wipe-from2 .ensures) (scratch .wipe-from3 .ensures)
+    cleared-three (a .table .now) (a .words .now) (a .scratch .now)
+    (table .wipe-states-from .ensures) (words .wipe-words-from .ensures) (scratch .wipe-states-from2 .ensures)
 
 pub clear-spec : {M : Type 1} → statement M
 clear-spec =
