@@ -1,7 +1,7 @@
--- One bit of a number, over any width. A bit is 0 or 1 (bit-small, bit-cases), and what a shift reads (bit-shifted); the bits of 0, of a power
--- of 2 (which a shift does not lose: power-shifted) and of the number before it (bit-full), of what two numbers have together (bit-or) and in
--- common (bit-and); what setting a bit with `or` does to each bit (bit-marked, bit-unmarked), and what adding 2 ^ j does where bit j is not set
--- (bit-added, and-set, set-below). Assumes nothing.
+-- One bit of a number, over any width. A bit is 0 or 1 (bit-small, bit-cases), and what a shift reads (bit-shifted); the bits of 0, of a
+-- power of 2 (which a shift does not lose: power-shifted) and of the number before it (bit-full), of what two numbers have together
+-- (bit-or) and in common (bit-and); what setting a bit with `or` does to each bit (bit-marked, bit-unmarked), and what adding 2 ^ j does
+-- where bit j is not set (bit-added, and-set, set-below). Assumes nothing.
 use mathlib.Core.Path.{_≡_, refl, sym, _∙_, ap, ap₂}
 use mathlib.Core.Logic.{_⊎_, inl, inr}
 use Prim.Native.Nat.{ℕ, zero, suc, _+_, _-_, _*_, _/_, _%_, _^_, _<_, min, max}
