@@ -1,8 +1,10 @@
 // The audit of a log: a monitor's recorded states held against a sheet, piece by piece. What an account tells of a whole log is said in
 // crates/audit_account/specs/Account.antt, what the call promises in Carry.antt there, and that cutting a log does not show in crates/audit_account/proofs. It
 // stands on the sheet reader and the compiled rules alone.
+use answers::DONE;
+use answers::PAST_THE_MOST_MOMENTS;
 use ground::State;
-use reader::Answer;
+use reader::InNumbers;
 ghost use mathlib.Core.Path.{_≡_};
 ghost use mathlib.Core.Option.{none};
 ghost use lib.ListN.{length};
@@ -101,7 +103,7 @@ fn audit_good(sheet: &[u8], account: Account, states: &[State]) -> Report
 {
     if past(account, states.len()) {
         return Report {
-            answer: 15,
+            answer: PAST_THE_MOST_MOMENTS,
             place: 0,
             account,
         };
@@ -110,7 +112,7 @@ fn audit_good(sheet: &[u8], account: Account, states: &[State]) -> Report
     compile::compile(sheet, &mut book);
     let back = carry::carry(&book, account, states);
     Report {
-        answer: 0,
+        answer: DONE,
         place: 0,
         account: back,
     }
@@ -122,17 +124,13 @@ fn audit_good(sheet: &[u8], account: Account, states: &[State]) -> Report
 pub fn audit(sheet: &[u8], account: Account, states: &[State]) -> Report
     ensures { λ r. ⌜ Audited (now (sheet .entry)) (accountOf account) (now (states .entry)) (r .answer) (r .place) (accountOf (r .account)) ⌝ }
 {
-    match reader::read(sheet) {
-        Answer::Good => audit_good(sheet, account, states),
-        Answer::Bad(f) => {
-            let why = f.why;
-            let place = f.at as u32;
-            Report {
-                answer: reader::number(why),
-                place,
-                account,
-            }
-        }
+    match reader::read_in_numbers(sheet) {
+        InNumbers::Good => audit_good(sheet, account, states),
+        InNumbers::Refused(v) => Report {
+            answer: v.answer,
+            place: v.place,
+            account,
+        },
     }
 }
 

@@ -12,6 +12,7 @@ use lib.Dec.{eqb}
 use lib.ListN.{length, getD, replicate}
 use Rattle.meaning.specs.Sheet.{Sheet, StepRule, Fault, numberOf, firstFault, decode}
 use Rattle.meaning.specs.Rules.{allTrue, someTrue}
+use Rattle.answers.specs.Answers.{pastTheMostMoments}
 use Rattle.audit_account.specs.Account.{Account, mostTallies, nothing, firstIs, nextIs, ruleIs}
 
 -- ---- one more state
@@ -101,7 +102,8 @@ Past account piece = PastBy account (length piece)
 pub data Audited (sheet : List ℕ) (account : Account) (piece : List ℕ) (n place : ℕ) (back : Account) : Type 0 where
   faulty : (f : Fault) → firstFault sheet ≡ some f → n ≡ numberOf (f .why) → place ≡ f .at → back ≡ account
       → Audited sheet account piece n place back
-  past : firstFault sheet ≡ none → Past account piece → n ≡ 15 → place ≡ 0 → back ≡ account → Audited sheet account piece n place back
+  past : firstFault sheet ≡ none → Past account piece → n ≡ pastTheMostMoments → place ≡ 0 → back ≡ account
+      → Audited sheet account piece n place back
   done : firstFault sheet ≡ none → (Past account piece → ⊥) → n ≡ 0 → place ≡ 0 → back ≡ carried (decode sheet) account piece
       → Audited sheet account piece n place back
 

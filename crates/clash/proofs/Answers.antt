@@ -8,15 +8,14 @@ use native.Mathlib.Omega.{arith}
 use lib.ListN.{length, getD, take}
 use Rattle.meaning.specs.Sheet.{byte, firstFault}
 use Rattle.meaning.specs.Promises.{Lent, over, zeros, cleared}
-use Rattle.reader.specs.declared.Fault as F
-use Rattle.reader.specs.Answer.{whyNumber}
-use Rattle.reader.proofs.Good.{Faulty, good-header}
+use Rattle.reader.specs.declared.Verdict.{Verdict}
+use Rattle.reader.proofs.Good.{Refusal, good-header}
 use Rattle.judge_answer.proofs.Wiping.{wiped-whole, zeros-same}
 use Rattle.clash_choice.specs.Proposals.{mostRules, noMarks, firstMarks, marksOf, Chosen, leftOut, Proposal, ProposalSays}
 use Rattle.clash_choice.proofs.Marks.{length-first}
 use Rattle.clash_trials.specs.Trials.{lentThree, Answered, ends, drops, keeps, Dropping}
 use Rattle.clash_trials.specs.Parts.{Lengths, Trial, EachTried, more, spare, needed, EachLeftOut, endOf, Drops}
-use Rattle.clash_trials.proofs.Trials.{lengths-then, lengths-back, answered-same, answered-unique, answered-apart, answered-is, answered-13}
+use Rattle.clash_trials.proofs.Trials.{lengths-then, lengths-back, answered-same, answered-unique, answered-apart, answered-is}
 use Rattle.clash_trials.proofs.Loops.{dropping-length}
 use Rattle.clash.specs.Clash.{rulesIn, Fighting, Crowded, Weighed, crowded, accepted, refused, ClashChecked, Reduced, Worked, Planned}
 use Rattle.clash.specs.Clash as C
@@ -108,8 +107,8 @@ module _ {sheet marks marks′ : List ℕ} {lent later after : Lent} {n k : ℕ}
   pub weighed-fight : n ≡ 13 → k ≡ 12 → Weighs sheet lent marks 0 after
   weighed-fight e one = weighs (accepted (record { together = answered-is e (T .answered); one-less = each-needed tried one }) refl)
 
-  -- All else: 14.
-  pub weighed-else : (n ≡ 11 → ⊥) → (k ≡ 11 → ⊥) → (n ≡ 13 → k ≡ 12 → ⊥) → Weighs sheet lent marks 14 after
+  -- All else: 14. So where the choice itself can be kept; and where it has room, but a rule can be spared.
+  weighed-else : (n ≡ 11 → ⊥) → (k ≡ 11 → ⊥) → (n ≡ 13 → k ≡ 12 → ⊥) → Weighs sheet lent marks 14 after
   weighed-else a b never = weighs (refused roomy peace refl)
     where
       roomy : Crowded sheet lent marks → ⊥
@@ -119,12 +118,18 @@ module _ {sheet marks marks′ : List ℕ} {lent later after : Lent} {n k : ℕ}
       peace : Fighting sheet lent marks → ⊥
       peace F = never (answered-unique (T .answered) (F .together)) (each-of-fight tried F b)
 
+  pub weighed-kept : n ≡ 12 → k ≡ 12 → Weighs sheet lent marks 14 after
+  weighed-kept e f = weighed-else (λ x. omega arith) (λ x. omega arith) (λ x y. omega arith)
+
+  pub weighed-spare : (n ≡ 11 → ⊥) → k ≡ 13 → Weighs sheet lent marks 14 after
+  weighed-spare roomy f = weighed-else roomy (λ x. omega arith) (λ x y. omega arith)
+
 -- ---- the check's answers
 
 -- A bad sheet.
-pub checked-bad : {sheet : List ℕ} (numbers : List ℕ) (lent : Lent) {f : F.Fault} {n : ℕ} → Faulty sheet f → n ≡ whyNumber (f .why)
-    → ClashChecked sheet numbers lent n (f .at) lent
-checked-bad numbers lent bad e = C.faulty (bad .fault) (bad .first) (e ∙ bad .number) (bad .place) refl
+pub checked-bad : {sheet : List ℕ} (numbers : List ℕ) (lent : Lent) {v : Verdict} → Refusal sheet v
+    → ClashChecked sheet numbers lent (v .answer) (v .place) lent
+checked-bad numbers lent bad = C.faulty (bad .fault) (bad .first) (bad .number) (bad .place) refl
 
 -- Numbers that are no proposal.
 pub checked-misnumbered : {sheet numbers : List ℕ} (lent : Lent) {r : Bool} → firstFault sheet ≡ none → ProposalSays (getD sheet 6 0) numbers r
@@ -171,12 +176,11 @@ module _ {sheet marks : List ℕ} {lent later : Lent} {n : ℕ} (all : marks ≡
   pub works-kept : (marks′ : List ℕ) → n ≡ 12 → Works sheet lent 12 marks′ later
   works-kept marks′ e = record { finds = P.kept (answered-is e whole-answered) refl; lengths = T .lengths }
 
-  -- what is neither 11 nor 12 is 13, and dropping goes on from all rules
-  module _ {marks′ : List ℕ} {after : Lent} {r : Bool} (good : firstFault sheet ≡ none) (no-run : lent .run ≡ []) (a : n ≡ 11 → ⊥) (b : n ≡ 12 → ⊥)
-      (D : Drops sheet later (getD sheet 6 0) marks r marks′ after) where
+  -- 13 for it: dropping goes on from all rules
+  module _ {marks′ : List ℕ} {after : Lent} {r : Bool} (e : n ≡ 13) (D : Drops sheet later (getD sheet 6 0) marks r marks′ after) where
     works-reduced : Reduced sheet lent (endOf r marks′)
     works-reduced = record {
-      whole = answered-13 good no-run whole-answered a b;
+      whole = answered-is e whole-answered;
       dropping = subst (λ (k : ℕ). Dropping sheet lent k (firstMarks k) (endOf r marks′)) (count-is sheet)
           (subst (λ (m : List ℕ). Dropping sheet lent (getD sheet 6 0) m (endOf r marks′)) all
           (dropping-later sheet (T .lengths) (getD sheet 6 0) marks (endOf r marks′) (D .dropping)));
@@ -212,9 +216,8 @@ module _ {sheet marks : List ℕ} {lent later : Lent} {n : ℕ} (all : marks ≡
 -- ---- the planner's answers
 
 -- A bad sheet.
-pub planned-bad : {sheet : List ℕ} (lent : Lent) {f : F.Fault} {n : ℕ} → Faulty sheet f → n ≡ whyNumber (f .why)
-    → Planned sheet lent n (f .at) noMarks lent
-planned-bad lent bad e = C.faulty (bad .fault) (bad .first) (e ∙ bad .number) (bad .place) refl refl
+pub planned-bad : {sheet : List ℕ} (lent : Lent) {v : Verdict} → Refusal sheet v → Planned sheet lent (v .answer) (v .place) noMarks lent
+planned-bad lent bad = C.faulty (bad .fault) (bad .first) (bad .number) (bad .place) refl refl
 
 -- No mark stays set on a refusal.
 refuses : {sheet marks : List ℕ} {lent : Lent} {n : ℕ} → Finds sheet lent n marks → (n ≡ 0 → ⊥) → Worked sheet lent n noMarks

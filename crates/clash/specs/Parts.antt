@@ -3,6 +3,7 @@ use mathlib.Core.Path.{_≡_}
 use mathlib.Core.List.{List}
 use Prim.Native.Nat.{ℕ}
 use Rattle.meaning.specs.Promises.{Lent}
+use Rattle.answers.specs.Answers.{shortRun, trialWithoutRoom}
 use Rattle.clash_choice.specs.Proposals.{firstMarks}
 use Rattle.clash_trials.specs.Trials.{Answered}
 use Rattle.clash_trials.specs.Parts.{Lengths}
@@ -15,8 +16,8 @@ pub record Weighs (sheet : List ℕ) (before : Lent) (marks : List ℕ) (n : ℕ
 
 -- what the planner finds for a good sheet; the marks mean something with 0 alone
 pub data Finds (sheet : List ℕ) (lent : Lent) (n : ℕ) (marks : List ℕ) : Type 0 where
-  more : MetMore sheet lent → n ≡ 17 → Finds sheet lent n marks
-  kept : Answered sheet lent (firstMarks (rulesIn sheet)) 12 → n ≡ 12 → Finds sheet lent n marks
+  more : MetMore sheet lent → n ≡ trialWithoutRoom → Finds sheet lent n marks
+  kept : Answered sheet lent (firstMarks (rulesIn sheet)) shortRun → n ≡ shortRun → Finds sheet lent n marks
   found : Plan sheet lent marks → n ≡ 0 → Finds sheet lent n marks
 
 pub record Works (sheet : List ℕ) (before : Lent) (n : ℕ) (marks : List ℕ) (after : Lent) : Type 0 where

@@ -1,8 +1,13 @@
 // The check of a proposal for a good sheet: the numbers are tested, the choice is tried whole and with each rule left out, and the slices are
 // cleared.
 use super::slices::clear;
+use super::slices::no_room;
+use answers::DONE;
+use answers::NOT_ACCEPTED;
+use answers::TRIAL_WITHOUT_ROOM;
 use clash_choice::RULES;
 use clash_choice::STEPS;
+use clash_trials::Finding;
 use ground::State;
 ghost use mathlib.Core.Path.{_≡_};
 ghost use mathlib.Core.Option.{none};
@@ -13,7 +18,7 @@ ghost use Rattle.clash_trials.specs.Trials.{lentThree};
 ghost use Rattle.clash.specs.Clash.{ClashChecked};
 ghost use Rattle.clash.specs.Parts.{Weighs};
 
-// What the check says of a choice: 17, 0 or 14.
+// What the check says of a choice. A trial without room comes first, wherever it is met.
 fn weigh(
     sheet: &[u8],
     marks: &mut [u8; RULES],
@@ -26,19 +31,19 @@ fn weigh(
         (now (marks .entry)) n (lentThree (now (table .exit)) (now (words .exit)) (now (scratch .exit))) ⌝ }
 {
     let together = clash_trials::trial(sheet, marks, table, words, scratch);
-    if together == 11 {
-        return 17;
+    if no_room(together) {
+        return TRIAL_WITHOUT_ROOM;
     }
     let less = clash_trials::each_left_out(sheet, marks, table, words, scratch);
-    if less == 11 {
-        return 17;
+    match less {
+        Finding::NoRoom => TRIAL_WITHOUT_ROOM,
+        Finding::CanBeKept => match together {
+            Finding::NoRoom => TRIAL_WITHOUT_ROOM,
+            Finding::CanBeKept => NOT_ACCEPTED,
+            Finding::CannotBeKept => DONE,
+        },
+        Finding::CannotBeKept => NOT_ACCEPTED,
     }
-    if together == 13 {
-        if less == 12 {
-            return 0;
-        }
-    }
-    14
 }
 
 // The check for a good sheet.
@@ -62,5 +67,5 @@ pub fn check_good(
         clear(table, words, scratch);
         return answer;
     }
-    14
+    NOT_ACCEPTED
 }

@@ -7,7 +7,7 @@ use ground::State;
 use papers::answer::Verdict;
 pub use planner::Plan;
 use planner::plan_good;
-use reader::Answer;
+use reader::InNumbers;
 ghost use Rattle.clash_trials.specs.Trials.{lentThree};
 ghost use Rattle.clash.specs.Clash.{ClashChecked, Planned};
 ghost use Rattle.clash.specs.Parts.{ClashCheckedC, PlannedC};
@@ -31,17 +31,12 @@ pub fn check_clash(
         (lentThree (now (table .entry)) (now (words .entry)) (now (scratch .entry))) (r .answer) (r .place)
         (lentThree (now (table .exit)) (now (words .exit)) (now (scratch .exit))) ⌝ }
 {
-    match reader::read(sheet) {
-        Answer::Good => {
+    match reader::read_in_numbers(sheet) {
+        InNumbers::Good => {
             let answer = check_good(sheet, rules, table, words, scratch);
             Verdict { answer, place: 0 }
         }
-        Answer::Bad(f) => {
-            let why = f.why;
-            let answer = reader::number(why);
-            let place = f.at as u32;
-            Verdict { answer, place }
-        }
+        InNumbers::Refused(v) => v,
     }
 }
 
@@ -53,18 +48,13 @@ pub fn clash(sheet: &[u8], table: &mut [State], words: &mut [u32], scratch: &mut
     ensures { λ r. ⌜ Planned (now (sheet .entry)) (lentThree (now (table .entry)) (now (words .entry)) (now (scratch .entry)))
         (r .answer) (r .place) (r .marks) (lentThree (now (table .exit)) (now (words .exit)) (now (scratch .exit))) ⌝ }
 {
-    match reader::read(sheet) {
-        Answer::Good => plan_good(sheet, table, words, scratch),
-        Answer::Bad(f) => {
-            let why = f.why;
-            let answer = reader::number(why);
-            let place = f.at as u32;
-            Plan {
-                answer,
-                place,
-                marks: [0u8; RULES],
-            }
-        }
+    match reader::read_in_numbers(sheet) {
+        InNumbers::Good => plan_good(sheet, table, words, scratch),
+        InNumbers::Refused(v) => Plan {
+            answer: v.answer,
+            place: v.place,
+            marks: [0u8; RULES],
+        },
     }
 }
 

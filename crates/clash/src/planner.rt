@@ -1,8 +1,13 @@
 // The planner for a good sheet: rules are dropped from the last to the first wherever the sheet still cannot be kept, the choice is tried with
 // each rule left out, and the slices are cleared.
 use super::slices::clear;
+use super::slices::no_room;
+use answers::DONE;
+use answers::SHORT_RUN;
+use answers::TRIAL_WITHOUT_ROOM;
 use clash_choice::RULES;
 use clash_choice::STEPS;
+use clash_trials::Finding;
 use ground::State;
 ghost use mathlib.Core.Path.{_≡_};
 ghost use mathlib.Core.Option.{none};
@@ -19,7 +24,7 @@ pub struct Plan {
     pub marks: [u8; RULES],
 }
 
-// The plan for a good sheet, in marks that are all 0 before: 17, 12, or 0 with the choice.
+// The plan for a good sheet, in marks that are all 0 before: a trial without room, a sheet that can be kept, or the choice.
 fn work(
     sheet: &[u8],
     marks: &mut [u8; RULES],
@@ -33,22 +38,24 @@ fn work(
 {
     let count = sheet[STEPS] as usize;
     clash_choice::proposals::mark_first(marks, count);
-    let whole = clash_trials::trial(sheet, marks, table, words, scratch);
-    if whole == 11 {
-        return 17;
-    }
-    if whole == 12 {
-        return 12;
+    match clash_trials::trial(sheet, marks, table, words, scratch) {
+        Finding::NoRoom => {
+            return TRIAL_WITHOUT_ROOM;
+        }
+        Finding::CanBeKept => {
+            return SHORT_RUN;
+        }
+        Finding::CannotBeKept => {}
     }
     let fits = clash_trials::drop_rules(sheet, marks, count, table, words, scratch);
     if fits {
         let last = clash_trials::each_left_out(sheet, marks, table, words, scratch);
-        if last == 11 {
-            return 17;
+        if no_room(last) {
+            return TRIAL_WITHOUT_ROOM;
         }
-        return 0;
+        return DONE;
     }
-    17
+    TRIAL_WITHOUT_ROOM
 }
 
 // The planner for a good sheet: no mark stays set on a refusal.
@@ -65,7 +72,7 @@ pub fn plan_good(
     let mut marks = [0u8; RULES];
     let answer = work(sheet, &mut marks, table, words, scratch);
     clear(table, words, scratch);
-    if answer != 0 {
+    if answer != DONE {
         return Plan {
             answer,
             place: 0,

@@ -13,7 +13,7 @@ use Rattle.clash_choice.specs.Proposals.{mostRules, Chosen, leftOut}
 use Rattle.clash_choice.proofs.Marks.{chosen-within}
 use Rattle.clash_trials.specs.Trials.{Answered, OneTried, ends, drops, keeps, Dropping}
 use Rattle.clash_trials.specs.Parts.{Lengths, Trial, EachTried, more, spare, needed, EachLeftOut, Drops}
-use Rattle.clash_trials.proofs.Trials.{lengths-stay, answered-apart, answered-is, answered-12, trial-later}
+use Rattle.clash_trials.proofs.Trials.{lengths-stay, answered-apart, answered-is, trial-later}
 
 -- ---- each rule left out by itself
 
@@ -95,10 +95,10 @@ module _ {sheet marks marks′ marks″ : List ℕ} {lent now later : Lent} {i n
       let tried = tried-13 (E .tried) (subst (Chosen i) (E .unmoved) chosen) (answered-is e (each-trial .answered)) in
       record { tried = tried; unmoved = T .1 ∙ E .unmoved; lengths = each-trial .lengths }
 
-  -- What is neither 11 nor 13 is 12, and the rule is needed.
-  pub each-12 : firstFault sheet ≡ none → lent .run ≡ [] → (k ≡ 11 → ⊥) → (k ≡ 13 → ⊥) → EachSoFar sheet lent marks (i + 1) n marks″ later
-  each-12 good no-run a b =
-      let tried = tried-12 (E .tried) (λ _. answered-12 good no-run (each-trial .answered) a b) in
+  -- After 12 the rule is needed.
+  pub each-12 : k ≡ 12 → EachSoFar sheet lent marks (i + 1) n marks″ later
+  each-12 e =
+      let tried = tried-12 (E .tried) (λ _. answered-is e (each-trial .answered)) in
       record { tried = tried; unmoved = T .1 ∙ E .unmoved; lengths = each-trial .lengths }
 
 -- The pass is over.
@@ -146,11 +146,11 @@ module _ {sheet start marks marks′ : List ℕ} {lent now later : Lent} {count 
     lengths = drop-trial .lengths;
   }
 
-  -- What is neither 11 nor 13 is 12, and the rule is kept.
-  pub drop-12 : firstFault sheet ≡ none → lent .run ≡ [] → (k ≡ 11 → ⊥) → (k ≡ 13 → ⊥) → DropsSoFar sheet lent count start (i - 1) marks′ later
-  drop-12 good no-run a b = record {
+  -- 12 keeps the rule.
+  pub drop-12 : k ≡ 12 → DropsSoFar sheet lent count start (i - 1) marks′ later
+  drop-12 e = record {
     inside = omega (arith, D .inside);
-    on = λ end d. one-tried end (keeps (answered-12 good no-run (drop-trial .answered) a b)
+    on = λ end d. one-tried end (keeps (answered-is e (drop-trial .answered))
         (subst (λ (m : List ℕ). Dropping sheet lent (i - 1) m end) (T .1) d));
     lengths = drop-trial .lengths;
   }

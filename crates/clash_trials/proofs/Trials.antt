@@ -79,23 +79,15 @@ verdict {sheet} {lent} good no-run marks =
         absurd (omega (arith, empty, p .3 .back, p .4))
     by (cannot states words) p A = is-13 A (p .1)
 
--- What is neither of two is the third.
-module _ {sheet marks : List ℕ} {x : Lent} {n : ℕ} (good : firstFault sheet ≡ none) (no-run : x .run ≡ []) (A : Answered sheet x marks n) where
-  pub answered-12 : (n ≡ 11 → ⊥) → (n ≡ 13 → ⊥) → Answered sheet x marks 12
-  answered-12 a b = by (verdict good no-run marks)
-    where
-      by : Verdict sheet x marks → Answered sheet x marks 12
-      by (is-11 B) = absurd (a (answered-unique A B))
-      by (is-12 B kept) = B
-      by (is-13 B never) = absurd (b (answered-unique A B))
-
-  pub answered-13 : (n ≡ 11 → ⊥) → (n ≡ 12 → ⊥) → Answered sheet x marks 13
-  answered-13 a b = by (verdict good no-run marks)
-    where
-      by : Verdict sheet x marks → Answered sheet x marks 13
-      by (is-11 B) = absurd (a (answered-unique A B))
-      by (is-12 B kept) = absurd (b (answered-unique A B))
-      by (is-13 B never) = B
+-- What is neither 11 nor 12 is 13.
+pub third : {sheet marks : List ℕ} {x : Lent} {n : ℕ} → firstFault sheet ≡ none → x .run ≡ [] → Answered sheet x marks n
+    → (n ≡ 11 → ⊥) → (n ≡ 12 → ⊥) → n ≡ 13
+third {sheet} {marks} {x} {n} good no-run A a b = by (verdict good no-run marks)
+  where
+    by : Verdict sheet x marks → n ≡ 13
+    by (is-11 B) = absurd (a (answered-unique A B))
+    by (is-12 B kept) = absurd (b (answered-unique A B))
+    by (is-13 B never) = answered-unique A B
 
 -- ---- a trial
 
@@ -108,12 +100,12 @@ bytes-judged {t = t} {w} {c} {o} J =
     record { table = long .table; words = long .words; scratch = long .scratch; run = refl } in
     record { got = o; promise = J; number = refl; lengths = lengths }
 
--- The sheet written down and judged is a trial.
-pub trial-judged : {sheet marks buffer : List ℕ} {before after : Lent} {n k : ℕ} → Wrote sheet marks buffer n
-    → BytesJudged (take n buffer) before k after → Trial sheet before marks k after
-trial-judged {before = before} W J =
+-- The sheet written down and judged is a trial; its number may go by another name.
+pub trial-judged : {sheet marks buffer : List ℕ} {before after : Lent} {n k m : ℕ} → Wrote sheet marks buffer n
+    → BytesJudged (take n buffer) before k after → m ≡ k → Trial sheet before marks m after
+trial-judged {before = before} W J e =
     let promise = subst (λ (s : List ℕ). Judged s before (J .got)) (W .bytes) (J .promise) in
-    record { answered = record { got = J .got; promise = promise; number = J .number }; lengths = J .lengths }
+    record { answered = record { got = J .got; promise = promise; number = e ∙ J .number }; lengths = J .lengths }
 
 -- A trial after others, told of the slices as they were lent.
 pub trial-later : {sheet marks : List ℕ} {x y z : Lent} {n : ℕ} → Lengths x y → Trial sheet y marks n z → Trial sheet x marks n z

@@ -6,8 +6,17 @@ use mathlib.Core.List.{List}
 use Prim.Native.Nat.{ℕ}
 use lib.ListN.{length}
 use Rattle.meaning.specs.Promises.{Lent, Outcome, Judged}
+use Rattle.answers.specs.Answers.{tooManyStates, shortRun, cannotBeKept}
 use Rattle.clash_choice.specs.Proposals.{Chosen, leftOut}
 use Rattle.clash_trials.specs.Trials.{Answered, Dropping}
+use Rattle.clash_trials.specs.declared.Finding.{Finding}
+use Rattle.clash_trials.specs.declared.Finding.the-variants.{NoRoom, CanBeKept, CannotBeKept}
+
+-- the judge's number for each finding of a trial
+abbrev pub answerFor : Finding → ℕ
+answerFor NoRoom = tooManyStates
+answerFor CanBeKept = shortRun
+answerFor CannotBeKept = cannotBeKept
 
 -- the lent slices keep their lengths; what they hold is nobody's business until they are cleared
 pub record Lengths (before after : Lent) : Type 0 where
@@ -30,10 +39,10 @@ pub record Trial (sheet : List ℕ) (before : Lent) (marks : List ℕ) (n : ℕ)
 
 -- each chosen rule left out by itself: 11 if some sheet gives 11; else 13 if some gives 13; else all give 12
 pub data EachTried (sheet : List ℕ) (lent : Lent) (marks : List ℕ) (n : ℕ) : Type 0 where
-  more : (i : ℕ) → Chosen i marks → Answered sheet lent (leftOut i marks) 11 → n ≡ 11 → EachTried sheet lent marks n
-  spare : ((i : ℕ) → Chosen i marks → Answered sheet lent (leftOut i marks) 11 → ⊥)
-      → (i : ℕ) → Chosen i marks → Answered sheet lent (leftOut i marks) 13 → n ≡ 13 → EachTried sheet lent marks n
-  needed : ((i : ℕ) → Chosen i marks → Answered sheet lent (leftOut i marks) 12) → n ≡ 12 → EachTried sheet lent marks n
+  more : (i : ℕ) → Chosen i marks → Answered sheet lent (leftOut i marks) tooManyStates → n ≡ tooManyStates → EachTried sheet lent marks n
+  spare : ((i : ℕ) → Chosen i marks → Answered sheet lent (leftOut i marks) tooManyStates → ⊥)
+      → (i : ℕ) → Chosen i marks → Answered sheet lent (leftOut i marks) cannotBeKept → n ≡ cannotBeKept → EachTried sheet lent marks n
+  needed : ((i : ℕ) → Chosen i marks → Answered sheet lent (leftOut i marks) shortRun) → n ≡ shortRun → EachTried sheet lent marks n
 
 pub record EachLeftOut (sheet : List ℕ) (before : Lent) (marks : List ℕ) (n : ℕ) (marks-left : List ℕ) (after : Lent) : Type 0 where
   pub tried : EachTried sheet before marks n

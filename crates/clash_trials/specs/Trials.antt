@@ -4,6 +4,7 @@ use mathlib.Core.Option.{Option, none, some}
 use mathlib.Core.List.{List, []}
 use Prim.Native.Nat.{ℕ, zero, suc}
 use Rattle.meaning.specs.Promises.{Lent, Outcome, Judged}
+use Rattle.answers.specs.Answers.{tooManyStates, shortRun, cannotBeKept}
 use Rattle.clash_choice.specs.Choice.{withChosen}
 use Rattle.clash_choice.specs.Proposals.{leftOut}
 
@@ -23,9 +24,9 @@ pub record Answered (sheet : List ℕ) (lent : Lent) (marks : List ℕ) (n : ℕ
 
 -- One rule tried, rule i + 1 of a choice: 11 ends the plan, 13 drops the rule, 12 keeps it. Next is what must hold of the choice it goes on with.
 pub data OneTried (sheet : List ℕ) (lent : Lent) (i : ℕ) (marks : List ℕ) (Next : List ℕ → Type 0) (end : Option (List ℕ)) : Type 0 where
-  ends : Answered sheet lent (leftOut i marks) 11 → end ≡ none → OneTried sheet lent i marks Next end
-  drops : Answered sheet lent (leftOut i marks) 13 → Next (leftOut i marks) → OneTried sheet lent i marks Next end
-  keeps : Answered sheet lent (leftOut i marks) 12 → Next marks → OneTried sheet lent i marks Next end
+  ends : Answered sheet lent (leftOut i marks) tooManyStates → end ≡ none → OneTried sheet lent i marks Next end
+  drops : Answered sheet lent (leftOut i marks) cannotBeKept → Next (leftOut i marks) → OneTried sheet lent i marks Next end
+  keeps : Answered sheet lent (leftOut i marks) shortRun → Next marks → OneTried sheet lent i marks Next end
 
 -- "drops rules from the last to the first wherever 13 stays": rules i, i - 1, .. 1 tried in turn, from this choice on. It ends in a choice, or in
 -- none where a sheet that was tried gives 11.

@@ -1,5 +1,7 @@
 // Trials of a sheet with a choice of its step rules (document 02, order 5): each is judged with no room for a run. One choice is tried, or a
 // choice with each of its rules left out by itself, or rules are dropped from the last to the first.
+use answers::SHORT_RUN;
+use answers::TOO_MANY_STATES;
 use clash_choice::RULES;
 use ground::State;
 use reader::header::MOST_BYTES;
@@ -10,7 +12,30 @@ ghost use lib.ListN.{length, take};
 ghost use Rattle.meaning.specs.Sheet.{mostBytes, firstFault};
 ghost use Rattle.clash_choice.specs.Proposals.{mostRules, leftOut};
 ghost use Rattle.clash_trials.specs.Trials.{lentThree};
-ghost use Rattle.clash_trials.specs.Parts.{BytesJudged, Trial, EachLeftOut, Drops};
+ghost use Rattle.answers.specs.Answers.{tooManyStates, shortRun, cannotBeKept};
+ghost use Rattle.clash_trials.specs.Parts.{answerFor, BytesJudged, Trial, EachLeftOut, Drops};
+
+// What a trial finds: there is no room for the states, the sheet can be kept, or it cannot. A trial lends no room for a run, so the judge
+// answers a sheet that can be kept by SHORT_RUN.
+pub enum Finding {
+    NoRoom,
+    CanBeKept,
+    CannotBeKept,
+}
+
+// The finding that one of the judge's three answers stands for.
+fn found_by(answer: u32) -> Finding
+    requires { ⌜ ((answer ≡ tooManyStates → ⊥) → (answer ≡ shortRun → ⊥) → answer ≡ cannotBeKept) ⌝ }
+    ensures { λ r. ⌜ answerFor r ≡ answer ⌝ }
+{
+    if answer == TOO_MANY_STATES {
+        return Finding::NoRoom;
+    }
+    if answer == SHORT_RUN {
+        return Finding::CanBeKept;
+    }
+    Finding::CannotBeKept
+}
 
 // What the judge answers for the first `n` bytes of a buffer, with no room for a run.
 fn judge_front(
@@ -31,24 +56,25 @@ fn judge_front(
     j.answer
 }
 
-// What the judge answers for the sheet with the chosen rules and no room for a run.
+// What the judge finds for the sheet with the chosen rules and no room for a run.
 pub fn trial(
     sheet: &[u8],
     marks: &[u8; RULES],
     table: &mut [State],
     words: &mut [u32],
     scratch: &mut [State],
-) -> u32
+) -> Finding
     requires { ⌜ firstFault (now sheet) ≡ none ⌝ }
     ensures { λ n. ⌜ Trial (now (sheet .entry)) (lentThree (now (table .entry)) (now (words .entry)) (now (scratch .entry)))
-        (now (marks .entry)) n (lentThree (now (table .exit)) (now (words .exit)) (now (scratch .exit))) ⌝ }
+        (now (marks .entry)) (answerFor n) (lentThree (now (table .exit)) (now (words .exit)) (now (scratch .exit))) ⌝ }
 {
     let mut buffer = [0u8; MOST_BYTES];
     let n = clash_choice::write_chosen(sheet, marks, &mut buffer);
-    judge_front(&buffer, n, table, words, scratch)
+    let answer = judge_front(&buffer, n, table, words, scratch);
+    found_by(answer)
 }
 
-// What the judge answers for the choice with rule `i` + 1 left out. The marks are as they were.
+// What the judge finds for the choice with rule `i` + 1 left out. The marks are as they were.
 fn left_out(
     sheet: &[u8],
     marks: &mut [u8; RULES],
@@ -56,10 +82,10 @@ fn left_out(
     table: &mut [State],
     words: &mut [u32],
     scratch: &mut [State],
-) -> u32
+) -> Finding
     requires { ⌜ (firstFault (now sheet) ≡ none) × (i < mostRules) ⌝ }
     ensures { λ n. ⌜ Trial (now (sheet .entry)) (lentThree (now (table .entry)) (now (words .entry)) (now (scratch .entry)))
-        (leftOut i (now (marks .entry))) n (lentThree (now (table .exit)) (now (words .exit)) (now (scratch .exit)))
+        (leftOut i (now (marks .entry))) (answerFor n) (lentThree (now (table .exit)) (now (words .exit)) (now (scratch .exit)))
         × (now (marks .exit) ≡ now (marks .entry)) ⌝ }
 {
     let mark = marks[i];
@@ -69,38 +95,41 @@ fn left_out(
     n
 }
 
-// Tries the choice with each of its rules left out by itself: 11 if one of these sheets gives 11; or else 13 if one gives 13; or else 12, which
-// all of them give. The marks are as they were.
+// Tries the choice with each of its rules left out by itself: no room if there is none for one of these sheets; or else cannot be kept if
+// one cannot; or else can be kept, as all of them can. The marks are as they were.
 pub fn each_left_out(
     sheet: &[u8],
     marks: &mut [u8; RULES],
     table: &mut [State],
     words: &mut [u32],
     scratch: &mut [State],
-) -> u32
+) -> Finding
     requires { ⌜ (firstFault (now sheet) ≡ none) × (length (now marks) ≡ mostRules) ⌝ }
     ensures { λ n. ⌜ EachLeftOut (now (sheet .entry)) (lentThree (now (table .entry)) (now (words .entry)) (now (scratch .entry)))
-        (now (marks .entry)) n (now (marks .exit)) (lentThree (now (table .exit)) (now (words .exit)) (now (scratch .exit))) ⌝ }
+        (now (marks .entry)) (answerFor n) (now (marks .exit)) (lentThree (now (table .exit)) (now (words .exit)) (now (scratch .exit))) ⌝ }
 {
-    let mut worst: u32 = 12;
+    let mut worst = Finding::CanBeKept;
     let mut next: usize = 0;
     while next < RULES {
         let i = next;
         next += 1;
         if marks[i] != 0 {
-            let n = left_out(sheet, marks, i, table, words, scratch);
-            if n == 11 {
-                return 11;
-            }
-            if n == 13 {
-                worst = 13;
+            let less = left_out(sheet, marks, i, table, words, scratch);
+            match less {
+                Finding::NoRoom => {
+                    return Finding::NoRoom;
+                }
+                Finding::CanBeKept => {}
+                Finding::CannotBeKept => {
+                    worst = Finding::CannotBeKept;
+                }
             }
         }
     }
     worst
 }
 
-// Drops rules from the last of `count` to the first wherever 13 stays. False if a sheet that it tries gives 11.
+// Drops rules from the last of `count` to the first wherever the sheet still cannot be kept. False if a sheet that it tries has no room.
 pub fn drop_rules(
     sheet: &[u8],
     marks: &mut [u8; RULES],
@@ -117,11 +146,14 @@ pub fn drop_rules(
     while 0 < i {
         i -= 1;
         let without = left_out(sheet, marks, i, table, words, scratch);
-        if without == 11 {
-            return false;
-        }
-        if without == 13 {
-            marks[i] = 0;
+        match without {
+            Finding::NoRoom => {
+                return false;
+            }
+            Finding::CanBeKept => {}
+            Finding::CannotBeKept => {
+                marks[i] = 0;
+            }
         }
     }
     true

@@ -10,7 +10,8 @@ use native.Mathlib.Omega.{arith}
 use lib.ListN.{length, getD}
 use Rattle.meaning.specs.Promises.{Lent, Outcome, Judged}
 use Rattle.meaning.proofs.Meetable.{AsLong}
-use Rattle.class_ends.specs.Class.{numbersEach, refusal, sheetAt, Refused, no-room, Desk, InTurn, ClassJudged, turned-away, in-turn}
+use Rattle.answers.specs.Answers.{classRefused}
+use Rattle.class_ends.specs.Class.{numbersEach, sheetAt, Refused, no-room, Desk, InTurn, ClassJudged, turned-away, in-turn}
 use Rattle.class_ends.specs.Ends.{Fair}
 use Rattle.class_ends.proofs.Ends.{fair-not-refused, fair-or-refused}
 use Rattle.class_ends.proofs.Turns.{as-long-then, in-turn-unique, in-turn-met, in-turn-got, in-turn-past, Stand, Got}
@@ -33,7 +34,7 @@ class-met sheets ends before = by (fair-or-refused (length sheets) ends (length 
     by (inl F) =
         let (after, turn) = in-turn-met sheets ends before (length ends) in
         (0, after, in-turn (fair-not-refused F) refl turn)
-    by (inr x) = (refusal, before, turned-away x refl refl)
+    by (inr x) = (classRefused, before, turned-away x refl refl)
 
 -- A class that is answered 0 was judged in turn, and its numbers had room.
 turned : {sheets ends : List ℕ} {before after : Desk} → ClassJudged sheets ends before 0 after

@@ -1,5 +1,7 @@
 // The whole class in one call: up to 32 sheets, joined, are judged in turn with the same lent slices, and four numbers of each are noted.
 // The promise is `ClassJudged` of crates/class_ends/specs/Class.antt; it asks nothing.
+use answers::CLASS_REFUSED;
+use answers::DONE;
 pub use class_ends::EACH;
 pub use class_ends::SHEETS;
 use class_ends::fair;
@@ -10,9 +12,6 @@ ghost use lib.ListN.{length};
 ghost use Rattle.class_ends.specs.Class.{OneJudged, InTurn, ClassJudged};
 ghost use Rattle.class_ends.specs.Ends.{Fair};
 ghost use Rattle.class.specs.Desks.{deskOf};
-
-// The answer to a class that is refused.
-const REFUSED: u32 = 16;
 
 // Judges one sheet and notes its numbers from a place on.
 fn judge_one(
@@ -88,9 +87,9 @@ pub fn judge_class(
     let taken = fair(size, ends, room);
     if taken {
         judge_all(sheets, ends, table, words, scratch, run, numbers);
-        return 0;
+        return DONE;
     }
-    REFUSED
+    CLASS_REFUSED
 }
 
 // The same for callers in C.

@@ -6,16 +6,14 @@ use mathlib.Core.List.{List}
 use Prim.Native.Nat.{ℕ, zero, suc, _+_, _-_, _*_, _<_}
 use lib.ListN.{length, getD, take, drop, set}
 use Rattle.meaning.specs.Promises.{Lent, Outcome, Judged}
+use Rattle.answers.specs.Answers.{classRefused}
 
--- "up to 32 sheets"; "four numbers a sheet"; the number of a refusal
+-- "up to 32 sheets"; "four numbers a sheet"
 abbrev pub mostSheets : ℕ
 mostSheets = 32
 
 abbrev pub numbersEach : ℕ
 numbersEach = 4
-
-abbrev pub refusal : ℕ
-refusal = 16
 
 -- ---- the joined sheets
 
@@ -71,6 +69,7 @@ InTurn sheets ends before (suc i) after =
 -- The promise of the call. "16 before any sheet, nothing changed"; otherwise 0, and all sheets are judged in turn. With no ends and no input
 -- that is no sheet, and nothing is changed.
 pub data ClassJudged (sheets ends : List ℕ) (before : Desk) (n : ℕ) (after : Desk) : Type 0 where
-  turned-away : Refused (length sheets) ends (length (before .numbers)) → n ≡ refusal → after ≡ before → ClassJudged sheets ends before n after
+  turned-away : Refused (length sheets) ends (length (before .numbers)) → n ≡ classRefused → after ≡ before
+      → ClassJudged sheets ends before n after
   in-turn : (Refused (length sheets) ends (length (before .numbers)) → ⊥) → n ≡ 0 → InTurn sheets ends before (length ends) after
       → ClassJudged sheets ends before n after

@@ -8,9 +8,8 @@ use Rattle.meaning.specs.Rules.{systemOf}
 use Rattle.meaning.specs.Promises.{systemIn, Lent, Outcome, Finding, bad, crowded, short, can, cannot, Roomy, Found, outcome, Judged}
 use Rattle.meaning.proofs.SheetSystem.{finite-in}
 use Rattle.meaning.proofs.Judging.{number-of-reachable}
-use Rattle.reader.specs.declared.Fault as F
-use Rattle.reader.specs.Answer.{whyNumber}
-use Rattle.reader.proofs.Good.{Faulty}
+use Rattle.reader.specs.declared.Verdict.{Verdict}
+use Rattle.reader.proofs.Good.{Refusal}
 use Rattle.rules.specs.Book.{bookSystem}
 use Rattle.compile.specs.Promise.{BookOf}
 use Rattle.compile.proofs.Same.{book-system}
@@ -18,15 +17,15 @@ use Rattle.judge_answer.specs.declared.Judgement.{Judgement}
 use Rattle.judge_answer.specs.Judging.{outcomeOf, refused, RoomFor, FoundBy, JudgedBy}
 
 -- A bad sheet gets the number and the place of its first fault, and nothing is changed.
-pub bad-judged : {sheet : List ℕ} {f : F.Fault} {n : ℕ} {j : Judgement} (lent : Lent) → Faulty sheet f → n ≡ whyNumber (f .why)
-    → j ≡ refused n 0 (f .at) → Judged sheet lent (outcomeOf j lent)
+pub bad-judged : {sheet : List ℕ} {v : Verdict} {j : Judgement} (lent : Lent) → Refusal sheet v → j ≡ refused (v .answer) 0 (v .place)
+    → Judged sheet lent (outcomeOf j lent)
 unfolding outcome
-bad-judged lent faulty number is = record {
-  finding = bad (faulty .fault);
-  found = faulty .first;
+bad-judged lent refusal is = record {
+  finding = bad (refusal .fault);
+  found = refusal .first;
   returned = λ i.
-      let answer = ap (λ (k : Judgement). k .answer) is ∙ number ∙ faulty .number in
-      let place = ap (λ (k : Judgement). k .place) is ∙ faulty .place in
+      let answer = ap (λ (k : Judgement). k .answer) is ∙ refusal .number in
+      let place = ap (λ (k : Judgement). k .place) is ∙ refusal .place in
       record { answer = answer i; count = is i .count; a = is i .a; b = is i .b; place = place i; leaves = lent };
 }
 

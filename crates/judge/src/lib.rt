@@ -4,7 +4,7 @@ use ground::State;
 pub use judge_answer::Judgement;
 use judge_answer::refusal;
 use judge_book::judge_book;
-use reader::Answer;
+use reader::InNumbers;
 ghost use mathlib.Core.Path.{_≡_};
 ghost use mathlib.Core.Option.{none};
 ghost use Rattle.meaning.specs.Sheet.{firstFault};
@@ -45,14 +45,9 @@ pub fn judge(
         (lentOf (now (table .entry)) (now (words .entry)) (now (scratch .entry)) (now (run .entry)))
         (outcomeOf r (lentOf (now (table .exit)) (now (words .exit)) (now (scratch .exit)) (now (run .exit)))) ⌝ }
 {
-    match reader::read(sheet) {
-        Answer::Good => judge_good(sheet, table, words, scratch, run),
-        Answer::Bad(f) => {
-            let why = f.why;
-            let answer = reader::number(why);
-            let place = f.at as u32;
-            refusal(answer, 0, place)
-        }
+    match reader::read_in_numbers(sheet) {
+        InNumbers::Good => judge_good(sheet, table, words, scratch, run),
+        InNumbers::Refused(v) => refusal(v.answer, 0, v.place),
     }
 }
 

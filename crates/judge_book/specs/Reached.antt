@@ -4,6 +4,7 @@ use Prim.Native.Nat.{ℕ, _≤_}
 use lib.ListN.{take}
 use Rattle.meaning.specs.System.{Reachable, Lists}
 use Rattle.meaning.specs.Promises.{Lent, capacity}
+use Rattle.answers.specs.Answers.{cannotBeKept}
 use Rattle.rules.specs.Book.{Shaped, bookSystem}
 use Rattle.judge_answer.specs.declared.Judgement.{Judgement}
 
@@ -15,4 +16,4 @@ pub record Reached (book : List ℕ) (lent : Lent) (r : ℕ) : Type 0 where
 
 -- the five numbers where all r reachable states are struck
 abbrev pub allStruck : (r : ℕ) → Judgement
-allStruck r = record { answer = 13; count = r; a = 0; b = 0; place = 0 }
+allStruck r = record { answer = cannotBeKept; count = r; a = 0; b = 0; place = 0 }

@@ -1,4 +1,6 @@
 // The judge for a sheet that can be kept: the sample run is found and, if it fits, handed over (answer 0); if not, its length is told (answer 12).
+use answers::DONE;
+use answers::SHORT_RUN;
 use ground::State;
 use judge_answer::Judgement;
 use judge_answer::leave;
@@ -31,12 +33,12 @@ fn hand_over(
     let needed = b as usize;
     if run.len() < needed {
         leave(table, words, scratch, 0, 0);
-        return refusal(12, b, 0);
+        return refusal(SHORT_RUN, b, 0);
     }
     leave(table, words, scratch, k, 0);
     let kept = k as u32;
     Judgement {
-        answer: 0,
+        answer: DONE,
         count: kept,
         a,
         b,

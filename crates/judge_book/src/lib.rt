@@ -1,5 +1,6 @@
 // The judge over a sheet's book: lists the reachable states (answer 11 where there is no room for them), strikes those that nobody could keep,
 // and hands over the strike list (answer 13, `struck`) or what `kept` finds. Where very few states can be reached `tiny` does it.
+use answers::TOO_MANY_STATES;
 use ground::State;
 use judge_answer::Judgement;
 use judge_answer::leave;
@@ -58,7 +59,7 @@ pub fn judge_book(
     let r = table_explore::explore(book, table, scratch, cap);
     if cap < r {
         leave(table, words, scratch, 0, 0);
-        return refusal(11, 0, 0);
+        return refusal(TOO_MANY_STATES, 0, 0);
     }
     judge_reached(book, table, words, scratch, run, r)
 }

@@ -1,4 +1,5 @@
 // The strike list where no state is left (answer 13), for any number of reachable states.
+use answers::CANNOT_BE_KEPT;
 use ground::State;
 use judge_answer::Judgement;
 use judge_answer::write_strikes;
@@ -21,7 +22,7 @@ pub fn judge_struck(
     write_strikes(table, words, scratch, r);
     let reached = r as u32;
     Judgement {
-        answer: 13,
+        answer: CANNOT_BE_KEPT,
         count: reached,
         a: 0,
         b: 0,

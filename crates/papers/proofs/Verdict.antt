@@ -1,6 +1,8 @@
--- How a checker comes to its number and its place: the sheet's fault first (placed-faulty, placed-good), then 0 or 14 for the paper (accepts,
--- refuses), and that what a checker accepts may be said in another way (checked-as). Assumes nothing.
+-- How a checker comes to its number and its place: the sheet's fault first (placed-refused), then 0 or 14 for the paper (placed-paper),
+-- tested in the system of the sheet's book (says-of-sheet); and that what a checker accepts may be said in another way (checked-as).
+-- Assumes nothing.
 use mathlib.Core.Path.{_≡_, refl, sym, _∙_, ap, subst}
+use mathlib.Core.Bool.{Bool, true, false}
 use mathlib.Core.Logic.{_↔_}
 use mathlib.Core.Option.{none}
 use mathlib.Core.List.{List}
@@ -12,40 +14,37 @@ use Rattle.meaning.specs.Rules.{systemOf}
 use Rattle.meaning.specs.Promises.{placeOf, Placed, systemIn, Checked, faulty, accepted, refused}
 use Rattle.meaning.proofs.Demands.{fault-number}
 use Rattle.meaning.proofs.Promised.{bad-not-good}
-use Rattle.reader.specs.declared.Fault as F
-use Rattle.reader.specs.Answer.{whyNumber}
-use Rattle.reader.proofs.Good.{Faulty}
-
--- ---- the sheet first
+use Rattle.ground.specs.Says.{Says}
+use Rattle.reader.specs.declared.Verdict.{Verdict}
+use Rattle.reader.proofs.Good.{Refusal}
+use Rattle.papers.specs.Paper.{onPaper}
 
 -- A bad sheet's number and place are the checker's.
-pub placed-faulty : (sheet : List ℕ) {Ok : System → Type 0} {f : F.Fault} {n place : ℕ} → Faulty sheet f → n ≡ whyNumber (f .why) → place ≡ f .at
-    → Placed sheet (Checked sheet Ok) n place
+pub placed-refused : (sheet : List ℕ) {Ok : System → Type 0} {v : Verdict} → Refusal sheet v
+    → Placed sheet (Checked sheet Ok) (v .answer) (v .place)
 unfolding placeOf
-placed-faulty sheet bad number place = record {
-  number = faulty (bad .fault) (bad .first) (number ∙ bad .number);
-  where-met = place ∙ bad .place ∙ ap placeOf (sym (bad .first));
-}
+placed-refused sheet bad =
+    record { number = faulty (bad .fault) (bad .first) (bad .number); where-met = bad .place ∙ ap placeOf (sym (bad .first)) }
 
--- A good sheet has no place.
-pub placed-good : (sheet : List ℕ) {Ok : System → Type 0} {n : ℕ} → firstFault sheet ≡ none → Checked sheet Ok n → Placed sheet (Checked sheet Ok) n 0
+-- A good sheet has no place, and a paper's number says whether it is accepted.
+pub placed-paper : (sheet : List ℕ) {Ok : System → Type 0} {b : Bool} {v : Verdict} → firstFault sheet ≡ none → Says (Ok (systemIn sheet)) b
+    → v ≡ onPaper b → Placed sheet (Checked sheet Ok) (v .answer) (v .place)
 unfolding placeOf
-placed-good sheet good checked = record { number = checked; where-met = ap placeOf (sym good) }
+placed-paper sheet {Ok} {b} {v} good says e =
+    subst (λ (x : Verdict). Placed sheet (Checked sheet Ok) (x .answer) (x .place)) (sym e) (by b says)
+  where
+    no-place : 0 ≡ placeOf (firstFault sheet)
+    no-place = ap placeOf (sym good)
 
--- ---- then the paper, judged in a system that is the sheet's
+    by : (b : Bool) → Says (Ok (systemIn sheet)) b → Placed sheet (Checked sheet Ok) (onPaper b .answer) (onPaper b .place)
+    by true says = record { number = accepted good (says .yes refl) refl; where-met = no-place }
+    by false says = record { number = refused good (says .never refl) refl; where-met = no-place }
 
-pub accepts : {sheet : List ℕ} {Ok : System → Type 0} {S : System} → firstFault sheet ≡ none → S ≡ systemOf (decode sheet) → Ok S → Checked sheet Ok 0
+-- A test in the system of a sheet's book is a test in the sheet's.
+pub says-of-sheet : (sheet : List ℕ) (Ok : System → Type 0) {S : System} {b : Bool} → S ≡ systemOf (decode sheet) → Says (Ok S) b
+    → Says (Ok (systemIn sheet)) b
 unfolding systemIn
-accepts {Ok} good same ok = accepted good (subst Ok same ok) refl
-
-pub refuses : {sheet : List ℕ} {Ok : System → Type 0} {S : System} → firstFault sheet ≡ none → S ≡ systemOf (decode sheet) → (Ok S → ⊥)
-    → Checked sheet Ok 14
-unfolding systemIn
-refuses {Ok} good same none-ok = refused good (λ ok. none-ok (subst Ok (sym same) ok)) refl
-
--- A paper that is refused in every system is refused on a good sheet.
-pub refuses-always : {sheet : List ℕ} {Ok : System → Type 0} → firstFault sheet ≡ none → ((S : System) → Ok S → ⊥) → Checked sheet Ok 14
-refuses-always {sheet} good none-ok = refused good (none-ok (systemIn sheet)) refl
+says-of-sheet sheet Ok {b = b} same says = subst (λ S. Says (Ok S) b) same says
 
 -- What a checker accepts may be said in another way.
 pub checked-as : {sheet : List ℕ} {Ok Ok′ : System → Type 0} {n : ℕ} → ((S : System) → Ok S → Ok′ S) → ((S : System) → Ok′ S → Ok S)

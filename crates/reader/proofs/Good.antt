@@ -1,5 +1,5 @@
 -- What a good sheet is, for the crates above: laws of the meaning (crates/meaning/specs/Sheet.antt), none of the reader's code.
---   answers       told: good, or this fault (Faulty); read-placed: the same in numbers; read-answer-unique
+--   answers       told: good, or refused by this number and this place (Refusal); placed-good, placed-refused; read-answer-unique
 --   the sheet     Header, good-header: lengths, counts, and that each section reads without fault to the sheet's end
 --   a section     record-good and limit-record .. promise-record (the i-th record), after-more, after-within, length-bodies, bodies-at
 --   a record      limit-good, first-good, step-good, promise-good: its shape and its lists; names-letter, not-least: what a literal names
@@ -15,7 +15,7 @@ use lib.Dec.{leb, eqb}
 use lib.ListN.{length, getD, drop, length-drop, length-map}
 use lib.Seq.{length-take-le, getD-take, getD-drop}
 use borrow.Author.Tests.{leb-true, eqb-true}
-use Rattle.meaning.specs.Promises.{ReadSays, readNumber, placeOf, ReadPlaced, ReadOut}
+use Rattle.meaning.specs.Promises.{ReadSays, readNumber, placeOf, ReadPlaced}
 use Rattle.meaning.specs.Sheet.{Why, badSize, badVersion, badLength, badLetters, tooMany, recordMissing, badShape, badLiteral}
 use Rattle.meaning.specs.Sheet.{notAscending, surplus, numberOf, Fault, unless, _then_, positive, size, signedBelow, names}
 use Rattle.meaning.specs.Sheet.{literalsFault, listFault, recordFault, recordsFault, firstFault, Kind, aLimit, aFirst, aStep, aPromise}
@@ -26,7 +26,10 @@ use Rattle.meaning.proofs.Placing.{place-within}
 use Rattle.reader.specs.declared.Fault as F
 use Rattle.reader.specs.declared.Answer.{Answer}
 use Rattle.reader.specs.declared.Answer.the-variants.{Good, Bad}
-use Rattle.reader.specs.Answer.{whyOf, faultOf, whyNumber, answerNumber, answerPlace, answerOf}
+use Rattle.reader.specs.declared.Verdict.{Verdict}
+use Rattle.reader.specs.declared.InNumbers.{InNumbers}
+use Rattle.reader.specs.declared.InNumbers.the-variants as N
+use Rattle.reader.specs.Answer.{whyOf, faultOf, whyNumber, answerOf, inNumbersOf}
 
 -- ---- answers
 
@@ -43,60 +46,63 @@ number-kept badLiteral = refl
 number-kept notAscending = refl
 number-kept surplus = refl
 
--- f is the sheet's first fault: its number, its place, and that the place is small
+-- The reader's answer r, known to be good or a fault f, is so in numbers. A fault's place is small.
+pub reads-good : (s : List ℕ) {r : Answer} → r ≡ answerOf (firstFault s) → r ≡ Good → N.Good ≡ inNumbersOf (firstFault s)
+reads-good s {r} e same = by (firstFault s) (sym e ∙ same)
+  where
+    by : (o : Option Fault) → answerOf o ≡ Good → N.Good ≡ inNumbersOf o
+    by none q = refl
+    by (some f) q = let z : _≡_ {A = ℕ} 0 1 = cc in absurd (omega arith)
+
 pub record Faulty (s : List ℕ) (f : F.Fault) : Type 0 where
+  pub small : f .at ≤ 4096
+  pub reads : N.Refused (record { answer = whyNumber (f .why); place = f .at }) ≡ inNumbersOf (firstFault s)
+
+pub reads-faulty : (s : List ℕ) {r : Answer} {f : F.Fault} → r ≡ answerOf (firstFault s) → r ≡ Bad f → Faulty s f
+reads-faulty s {r} {f} e same = by (firstFault s) refl (sym e ∙ same)
+  where
+    by : (o : Option Fault) → firstFault s ≡ o → answerOf o ≡ Bad f → Faulty s f
+    by none q bad = let z : _≡_ {A = ℕ} 0 1 = cc in absurd (omega arith)
+    by (some g) q bad =
+        let same : faultOf g ≡ f = cc in
+        let faulty : Faulty s (faultOf g) = record {
+          small = place-within s q;
+          reads = ap (λ (n : ℕ). N.Refused (record { answer = n; place = g .at })) (number-kept (g .why)) ∙ ap inNumbersOf (sym q);
+        } in
+        subst (Faulty s) same faulty
+
+-- v is the number and the place of the sheet's first fault
+pub record Refusal (s : List ℕ) (v : Verdict) : Type 0 where
   pub fault : Fault
   pub first : firstFault s ≡ some fault
-  pub number : whyNumber (f .why) ≡ numberOf (fault .why)
-  pub place : f .at ≡ fault .at
-  pub small : f .at ≤ 4096
+  pub number : v .answer ≡ numberOf (fault .why)
+  pub place : v .place ≡ fault .at
 
--- what an answer says of a sheet: it is good, or this is its first fault
-abbrev pub Answered : List ℕ → Answer → Type 0
-Answered s Good = firstFault s ≡ none
-Answered s (Bad f) = Faulty s f
+-- what a call is told of a sheet: it is good, or refused so
+abbrev pub Tells : List ℕ → InNumbers → Type 0
+Tells s N.Good = firstFault s ≡ none
+Tells s (N.Refused v) = Refusal s v
 
--- The reader's answer r, known to be x, says so: good, or this fault.
-pub told : (s : List ℕ) {r x : Answer} → r ≡ answerOf (firstFault s) → r ≡ x → Answered s x
-told s {r} e same = subst (Answered s) (sym e ∙ same) (by (firstFault s) refl)
+-- What is told, r, known to be x, says so: good, or this number and this place.
+pub told : (s : List ℕ) {r x : InNumbers} → r ≡ inNumbersOf (firstFault s) → r ≡ x → Tells s x
+told s {r} e same = subst (Tells s) (sym e ∙ same) (by (firstFault s) refl)
   where
-    by : (o : Option Fault) → firstFault s ≡ o → Answered s (answerOf (firstFault s))
-    by none q = subst (λ (o : Option Fault). Answered s (answerOf o)) (sym q) q
+    by : (o : Option Fault) → firstFault s ≡ o → Tells s (inNumbersOf (firstFault s))
+    by none q = subst (λ (o : Option Fault). Tells s (inNumbersOf o)) (sym q) q
     by (some f) q =
-        let small = place-within s q in
-        let faulty : Faulty s (faultOf f) = record { fault = f; first = q; number = number-kept (f .why); place = refl; small = small } in
-        subst (λ (o : Option Fault). Answered s (answerOf o)) (sym q) faulty
+        let refusal : Refusal s (record { answer = numberOf (f .why); place = f .at }) =
+        record { fault = f; first = q; number = refl; place = refl } in
+        subst (λ (o : Option Fault). Tells s (inNumbersOf o)) (sym q) refusal
 
-placed-good : (s : List ℕ) → firstFault s ≡ none → ReadPlaced s 0 0
+-- In numbers: 0 and 0 for a good sheet, or those of its first fault.
+pub placed-good : (s : List ℕ) → firstFault s ≡ none → ReadPlaced s 0 0
 unfolding ReadPlaced ReadSays readNumber placeOf
 placed-good s good = record { number = ap readNumber (sym good); where-met = ap placeOf (sym good) }
 
-placed-bad : (s : List ℕ) {f : F.Fault} → Faulty s f → ReadPlaced s (whyNumber (f .why)) (f .at)
+pub placed-refused : (s : List ℕ) {v : Verdict} → Refusal s v → ReadPlaced s (v .answer) (v .place)
 unfolding ReadPlaced ReadSays readNumber placeOf
-placed-bad s bad =
+placed-refused s bad =
     record { number = bad .number ∙ ap readNumber (sym (bad .first)); where-met = bad .place ∙ ap placeOf (sym (bad .first)) }
-
--- In numbers: the reader's number and place.
-pub read-placed : (s : List ℕ) {r x : Answer} → r ≡ answerOf (firstFault s) → r ≡ x → ReadPlaced s (answerNumber x) (answerPlace x)
-read-placed s {r} {x} e same = by x (told s e same)
-  where
-    by : (x : Answer) → Answered s x → ReadPlaced s (answerNumber x) (answerPlace x)
-    by Good good = placed-good s good
-    by (Bad f) bad = placed-bad s bad
-
--- The number alone, and both numbers as the C form hands them over; n is the answer's number.
-pub read-says : (s : List ℕ) {r x : Answer} {n : ℕ} → r ≡ answerOf (firstFault s) → r ≡ x → n ≡ answerNumber x → ReadSays s n
-unfolding ReadPlaced
-read-says s e same is = subst (ReadSays s) (sym is) (read-placed s e same .number)
-
-pub read-out : (s : List ℕ) {r x : Answer} {n : ℕ} → r ≡ answerOf (firstFault s) → r ≡ x → n ≡ answerNumber x
-    → ReadOut s (n ∷ answerPlace x ∷ [])
-read-out s {x = x} e same is = record {
-  number = answerNumber x;
-  place = answerPlace x;
-  promise = read-placed s e same;
-  written = ap (λ (k : ℕ). k ∷ answerPlace x ∷ []) is;
-}
 
 -- Two answers that meet the reader's promise are the same answer.
 pub read-answer-unique : (s : List ℕ) {r r′ : Answer} → r ≡ answerOf (firstFault s) → r′ ≡ answerOf (firstFault s) → r ≡ r′

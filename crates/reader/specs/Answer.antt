@@ -16,6 +16,8 @@ use Rattle.reader.specs.declared.cursor.Step.{Step}
 use Rattle.reader.specs.declared.cursor.Step.the-variants.{Moved, Refused}
 use Rattle.reader.specs.declared.Answer.{Answer}
 use Rattle.reader.specs.declared.Answer.the-variants.{Good, Bad}
+use Rattle.reader.specs.declared.InNumbers.{InNumbers}
+use Rattle.reader.specs.declared.InNumbers.the-variants as N
 
 -- the enum's variant for each fault of the meaning
 abbrev pub whyOf : Sheet.Why → Why
@@ -30,7 +32,7 @@ whyOf Sheet.badLiteral = BadLiteral
 whyOf Sheet.notAscending = NotAscending
 whyOf Sheet.surplus = Surplus
 
--- document 01's number for each fault and each answer
+-- document 01's number for each fault
 abbrev pub whyNumber : Why → ℕ
 whyNumber BadSize = 1
 whyNumber BadVersion = 2
@@ -42,15 +44,6 @@ whyNumber BadShape = 7
 whyNumber BadLiteral = 8
 whyNumber NotAscending = 9
 whyNumber Surplus = 10
-
--- and order 1's place, 0 for a good sheet
-abbrev pub answerNumber : Answer → ℕ
-answerNumber Good = 0
-answerNumber (Bad f) = whyNumber (f .why)
-
-abbrev pub answerPlace : Answer → ℕ
-answerPlace Good = 0
-answerPlace (Bad f) = f .at
 
 abbrev pub kindOf : Kind → Sheet.Kind
 kindOf Limit = Sheet.aLimit
@@ -65,6 +58,11 @@ faultOf f = record { why = whyOf (f .why); at = f .at }
 abbrev pub answerOf : Option Sheet.Fault → Answer
 answerOf none = Good
 answerOf (some f) = Bad (faultOf f)
+
+-- the same in numbers: document 01's number and order 1's place
+abbrev pub inNumbersOf : Option Sheet.Fault → InNumbers
+inNumbersOf none = N.Good
+inNumbersOf (some f) = N.Refused (record { answer = Sheet.numberOf (f .why); place = f .at })
 
 abbrev pub refusal : Why → ℕ → Step
 refusal why at = Refused (record { why = why; at = at })

@@ -1,12 +1,11 @@
 // Runs the reader on document 01's border cases and writes for each its name, the reader's number and the fault's place. Every fault stands
 // once at its first and once at its last possible place; where a sheet has two faults, reading order decides.
 use libc::STDOUT_FILENO;
-use reader::Answer;
 
 mod built;
 
 // Prints a case's name, the reader's number for its sheet, and the place.
-fn print(name: &[u8], number: u32, place: usize) {
+fn print(name: &[u8], number: u32, place: u32) {
     io::write_all(STDOUT_FILENO, name);
     io::write_all(STDOUT_FILENO, b": ");
     io::print_decimal(STDOUT_FILENO, number as u64);
@@ -17,14 +16,8 @@ fn print(name: &[u8], number: u32, place: usize) {
 
 // Reads a case's sheet and prints what the reader answers.
 pub fn show(name: &[u8], sheet: &[u8]) {
-    match reader::read(sheet) {
-        Answer::Good => print(name, 0, 0),
-        Answer::Bad(f) => {
-            let why = f.why;
-            let number = reader::number(why);
-            print(name, number, f.at);
-        }
-    }
+    let v = reader::verdict_on(sheet);
+    print(name, v.answer, v.place);
 }
 
 fn good() {

@@ -19,6 +19,11 @@ KeptFrom S states a k = (i : ℕ) × (a ≤ i) × (i < length states) × S .Kept
 abbrev pub AllKept : System → List ℕ → (a : ℕ) → Type 0
 AllKept S states a = (k : ℕ) → k < S .promises → KeptFrom S states a k
 
--- the number for a sheet, a paper and a, where the bytes must hold whole numbers
+-- in a system: the bytes hold whole states, and the run is accepted
+unfoldable pub PaperAccepted : System → (bytes numbers : List ℕ) (a : ℕ) → Type 0
+PaperAccepted S bytes numbers a = Whole stateBytes bytes × RunAccepted S (statesOf bytes numbers) a
+
+-- the number for a sheet, a paper and a
 unfoldable pub PaperChecked : (sheet bytes numbers : List ℕ) (a n : ℕ) → Type 0
-PaperChecked sheet bytes numbers a n = Checked sheet (λ S. Whole stateBytes bytes × RunAccepted S (statesOf bytes numbers) a) n
+unfolding PaperAccepted
+PaperChecked sheet bytes numbers a n = Checked sheet (λ S. PaperAccepted S bytes numbers a) n

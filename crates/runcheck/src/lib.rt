@@ -7,20 +7,21 @@
 use papers::STATE_BYTES;
 use papers::State;
 use papers::answer::Verdict;
+use papers::answer::on_paper;
 use papers::state_at;
 use papers::states_in;
-use reader::Answer;
+use reader::InNumbers;
 ghost use mathlib.Core.Path.{_≡_};
 ghost use mathlib.Core.Option.{none};
 ghost use Prim.Native.Nat.{_≤_, _<_};
 ghost use lib.ListN.{length};
 ghost use Rattle.meaning.specs.Sheet.{firstFault};
 ghost use Rattle.meaning.specs.Papers.{RunAccepted};
-ghost use Rattle.meaning.specs.Promises.{Placed, RunPlaced, RunBytesChecked};
+ghost use Rattle.meaning.specs.Promises.{systemIn, Placed, RunPlaced, RunBytesChecked};
 ghost use Rattle.ground.specs.Says.{Says};
 ghost use Rattle.papers.specs.Paper.{statesOf};
 ghost use Rattle.rules.specs.Book.{Shaped, bookSystem};
-ghost use Rattle.runcheck.specs.Run.{MovesOn, KeptFrom, AllKept, PaperChecked};
+ghost use Rattle.runcheck.specs.Run.{MovesOn, KeptFrom, AllKept, PaperAccepted, PaperChecked};
 
 // Checks a run: these states, read to the last and then on from place a, for ever. 0 exactly if it obeys the sheet, 1 to 10 for a bad
 // sheet and the place of its fault, else 14.
@@ -41,37 +42,26 @@ pub fn check_run_bytes(sheet: &[u8], states: &[u8], a: u32) -> u32
 
 // The sheet first, then the paper.
 fn check(sheet: &[u8], bytes: &[u8], numbers: &[State], a: u32) -> Verdict
-    ensures { λ r. ⌜ Placed (now (sheet .entry)) (PaperChecked (now (sheet .entry)) (now (bytes .entry)) (now (numbers .entry)) a) (r .answer) (r .place) ⌝ }
+    ensures { λ r. ⌜ Placed (now (sheet .entry))
+        (PaperChecked (now (sheet .entry)) (now (bytes .entry)) (now (numbers .entry)) a) (r .answer) (r .place) ⌝ }
 {
-    match reader::read(sheet) {
-        Answer::Good => {
-            let answer = check_paper(sheet, bytes, numbers, a);
-            Verdict { answer, place: 0 }
-        }
-        Answer::Bad(f) => {
-            let why = f.why;
-            let answer = reader::number(why);
-            let place = f.at as u32;
-            Verdict { answer, place }
-        }
+    match reader::read_in_numbers(sheet) {
+        InNumbers::Good => on_paper(paper_accepted(sheet, bytes, numbers, a)),
+        InNumbers::Refused(v) => v,
     }
 }
 
-// For a good sheet: the bytes' length, then the run.
-fn check_paper(sheet: &[u8], bytes: &[u8], numbers: &[State], a: u32) -> u32
+// For a good sheet: whether the bytes hold whole states, and the run is accepted.
+fn paper_accepted(sheet: &[u8], bytes: &[u8], numbers: &[State], a: u32) -> bool
     requires { ⌜ firstFault (now sheet) ≡ none ⌝ }
-    ensures { λ r. ⌜ PaperChecked (now (sheet .entry)) (now (bytes .entry)) (now (numbers .entry)) a r ⌝ }
+    ensures { λ r. ⌜ Says (PaperAccepted (systemIn (now (sheet .entry))) (now (bytes .entry)) (now (numbers .entry)) a) r ⌝ }
 {
     if bytes.len() % STATE_BYTES != 0 {
-        return 14;
+        return false;
     }
     let mut book = [0u32; rules::BOOK_SIZE];
     compile::compile(sheet, &mut book);
-    if accepted(&book, bytes, numbers, a as usize) {
-        0
-    } else {
-        14
-    }
+    accepted(&book, bytes, numbers, a as usize)
 }
 
 // Whether the run is accepted.

@@ -8,6 +8,7 @@ use lib.ListN.{length, take, getD}
 use lib.Seq.{sets}
 use Rattle.meaning.specs.Sheet.{mostBytes}
 use Rattle.meaning.specs.Promises.{ReadPlaced}
+use Rattle.answers.specs.Answers.{leadClosed}
 use Rattle.serial.specs.declared.Lead.{Lead}
 
 -- ---- the state of a lead: how many bytes have come, and whether it is closed (0: open; else closed)
@@ -40,7 +41,7 @@ pub data Takes (lead : Lead) (sheet piece : List ℕ) (answer : ℕ) (after : Le
   added :
       Open lead → answer ≡ 0 → after ≡ grown lead (length piece) → left ≡ sets sheet (lead .taken) piece
       → Takes lead sheet piece answer after left
-  late : Shut lead → answer ≡ 18 → after ≡ lead → left ≡ sheet → Takes lead sheet piece answer after left
+  late : Shut lead → answer ≡ leadClosed → after ≡ lead → left ≡ sheet → Takes lead sheet piece answer after left
 
 -- ---- "and answer at closing just as the reader answers for the joined bytes, place included"
 
@@ -52,7 +53,7 @@ pub data Answers (taken : ℕ) (sheet : List ℕ) (answer place : ℕ) : Type 0 
 -- What closing answers and leaves. "A second closing .. is refused with 18, whatever the sheet, and changes nothing."
 pub data Closes (lead : Lead) (sheet : List ℕ) (answer place : ℕ) (after : Lead) : Type 0 where
   ends : Open lead → Answers (lead .taken) sheet answer place → after ≡ ended lead → Closes lead sheet answer place after
-  again : Shut lead → answer ≡ 18 → place ≡ 0 → after ≡ lead → Closes lead sheet answer place after
+  again : Shut lead → answer ≡ leadClosed → place ≡ 0 → after ≡ lead → Closes lead sheet answer place after
 
 -- ---- the same for C: a state is two numbers, count and mark
 

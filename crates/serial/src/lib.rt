@@ -1,12 +1,13 @@
 // Sheets over the serial lead (document 02, order 6): pieces of a sheet are taken one by one into a buffer that the caller lends, and closing
 // answers what the reader answers for the joined bytes, place included. What is known of a lead is a count and a mark, handed over by value;
 // any two numbers may be handed in. What follows for pieces taken one after another is in proofs/Joined.antt.
-use reader::Answer;
+use answers::DONE;
+use answers::LEAD_CLOSED;
+use reader::Verdict;
 use reader::header::MOST_BYTES;
 ghost use mathlib.Core.Path.{_≡_};
 ghost use lib.ListN.{length};
 ghost use Rattle.meaning.specs.Sheet.{mostBytes};
-ghost use Rattle.meaning.specs.Promises.{ReadPlaced};
 ghost use Rattle.serial.specs.Serial.{Takes, Closes, Answers, TakesState, ClosesState, counted};
 
 // The count that stands for more bytes than a sheet may have.
@@ -31,12 +32,6 @@ pub struct Closed {
     pub lead: Lead,
 }
 
-// The reader's answer in numbers.
-struct Reading {
-    pub answer: u32,
-    pub place: u32,
-}
-
 // The count after so many more bytes.
 fn count(taken: u32, more: usize) -> u32
     ensures { λ r. ⌜ r ≡ counted taken more ⌝ }
@@ -53,37 +48,19 @@ fn count(taken: u32, more: usize) -> u32
     after as u32
 }
 
-// What the reader answers for these bytes, with the place.
-fn answer_for(sheet: &[u8]) -> Reading
-    ensures { λ r. ⌜ ReadPlaced (now (sheet .entry)) (r .answer) (r .place) ⌝ }
-{
-    match reader::read(sheet) {
-        Answer::Good => Reading {
-            answer: 0,
-            place: 0,
-        },
-        Answer::Bad(f) => {
-            let why = f.why;
-            let place = f.at as u32;
-            let answer = reader::number(why);
-            Reading { answer, place }
-        }
-    }
-}
-
 // What the reader answers for the first bytes of the buffer.
-fn front(sheet: &[u8], taken: usize) -> Reading
+fn front(sheet: &[u8], taken: usize) -> Verdict
     requires { ⌜ length (now sheet) ≡ mostBytes ⌝ }
     ensures { λ r. ⌜ Answers taken (now (sheet .entry)) (r .answer) (r .place) ⌝ }
 {
     if MOST_BYTES < taken {
-        return Reading {
+        return Verdict {
             answer: 1,
             place: 0,
         };
     }
     let bytes = &sheet[..taken];
-    answer_for(bytes)
+    reader::verdict_on(bytes)
 }
 
 // Takes a piece: 0, and its bytes stand behind those that came; after closing 18, and nothing is changed.
@@ -92,14 +69,17 @@ pub fn take(lead: Lead, sheet: &mut [u8; MOST_BYTES], piece: &[u8]) -> Taken
 {
     let closed = lead.closed;
     if closed != 0 {
-        return Taken { answer: 18, lead };
+        return Taken {
+            answer: LEAD_CLOSED,
+            lead,
+        };
     }
     let taken = lead.taken;
     let at = taken as usize;
     ground::pieces::write(sheet, at, piece);
     let after = count(taken, piece.len());
     Taken {
-        answer: 0,
+        answer: DONE,
         lead: Lead {
             taken: after,
             closed,
@@ -113,7 +93,7 @@ pub fn close(lead: Lead, sheet: &[u8; MOST_BYTES]) -> Closed
 {
     if lead.closed != 0 {
         return Closed {
-            answer: 18,
+            answer: LEAD_CLOSED,
             place: 0,
             lead,
         };

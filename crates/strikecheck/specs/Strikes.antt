@@ -18,7 +18,11 @@ ReasonsFit S words = (i : ℕ) → i < length words → getD words i 0 % 32 ≤ 
 abbrev pub Accepted : (book sb sn wb wn : List ℕ) → Type 0
 Accepted book sb sn wb wn = StrikesAccepted (bookSystem book) (statesOf sb sn) (wordsOf wb wn)
 
--- the number for a sheet and a paper, where bytes must hold whole numbers
+-- in a system: the bytes hold whole states and words, and the list is accepted
+unfoldable pub PaperAccepted : System → (state-bytes state-numbers word-bytes word-numbers : List ℕ) → Type 0
+PaperAccepted S sb sn wb wn = Whole stateBytes sb × Whole wordBytes wb × StrikesAccepted S (statesOf sb sn) (wordsOf wb wn)
+
+-- the number for a sheet and a paper
 unfoldable pub PaperChecked : (sheet state-bytes state-numbers word-bytes word-numbers : List ℕ) (n : ℕ) → Type 0
-PaperChecked sheet sb sn wb wn n =
-    Checked sheet (λ S. Whole stateBytes sb × Whole wordBytes wb × StrikesAccepted S (statesOf sb sn) (wordsOf wb wn)) n
+unfolding PaperAccepted
+PaperChecked sheet sb sn wb wn n = Checked sheet (λ S. PaperAccepted S sb sn wb wn) n

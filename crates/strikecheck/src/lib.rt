@@ -8,24 +8,25 @@ use papers::STATE_BYTES;
 use papers::State;
 use papers::WORD_BYTES;
 use papers::answer::Verdict;
+use papers::answer::on_paper;
 use papers::state_at;
 use papers::states_in;
 use papers::word_at;
 use papers::words_in;
-use reader::Answer;
+use reader::InNumbers;
 use strikes_apart::all_different;
 use strikes_covers::firsts_listed;
 use strikes_entries::entries_right;
 ghost use mathlib.Core.Path.{_≡_};
 ghost use mathlib.Core.Option.{none};
 ghost use Rattle.meaning.specs.Sheet.{firstFault};
-ghost use Rattle.meaning.specs.Promises.{Placed, StrikesPlaced, StrikesBytesChecked};
+ghost use Rattle.meaning.specs.Promises.{systemIn, Placed, StrikesPlaced, StrikesBytesChecked};
 ghost use Rattle.ground.specs.Says.{Says};
 ghost use Rattle.papers.specs.Paper.{statesOf, wordsOf};
 ghost use Rattle.rules.specs.Book.{Shaped, bookSystem};
 ghost use Rattle.strikes_covers.specs.Asks.{AllLawful};
 ghost use Rattle.strikes_entries.specs.Entries.{Rising};
-ghost use Rattle.strikecheck.specs.Strikes.{ReasonsFit, Accepted, PaperChecked};
+ghost use Rattle.strikecheck.specs.Strikes.{ReasonsFit, Accepted, PaperAccepted, PaperChecked};
 
 // Checks a strike list. 0 exactly if document 01 accepts it (then no run obeys the sheet), 1 to 10 for a bad sheet and the place of its fault,
 // else 14.
@@ -50,38 +51,27 @@ fn check(sheet: &[u8], sb: &[u8], sn: &[State], wb: &[u8], wn: &[u32]) -> Verdic
     ensures { λ r. ⌜ Placed (now (sheet .entry))
         (PaperChecked (now (sheet .entry)) (now (sb .entry)) (now (sn .entry)) (now (wb .entry)) (now (wn .entry))) (r .answer) (r .place) ⌝ }
 {
-    match reader::read(sheet) {
-        Answer::Good => {
-            let answer = check_paper(sheet, sb, sn, wb, wn);
-            Verdict { answer, place: 0 }
-        }
-        Answer::Bad(f) => {
-            let why = f.why;
-            let answer = reader::number(why);
-            let place = f.at as u32;
-            Verdict { answer, place }
-        }
+    match reader::read_in_numbers(sheet) {
+        InNumbers::Good => on_paper(paper_accepted(sheet, sb, sn, wb, wn)),
+        InNumbers::Refused(v) => v,
     }
 }
 
-// For a good sheet: the bytes' lengths, then the list.
-fn check_paper(sheet: &[u8], sb: &[u8], sn: &[State], wb: &[u8], wn: &[u32]) -> u32
+// For a good sheet: whether the bytes hold whole states and words, and the list is accepted.
+fn paper_accepted(sheet: &[u8], sb: &[u8], sn: &[State], wb: &[u8], wn: &[u32]) -> bool
     requires { ⌜ firstFault (now sheet) ≡ none ⌝ }
-    ensures { λ r. ⌜ PaperChecked (now (sheet .entry)) (now (sb .entry)) (now (sn .entry)) (now (wb .entry)) (now (wn .entry)) r ⌝ }
+    ensures { λ r. ⌜ Says (PaperAccepted (systemIn (now (sheet .entry)))
+        (now (sb .entry)) (now (sn .entry)) (now (wb .entry)) (now (wn .entry))) r ⌝ }
 {
     if sb.len() % STATE_BYTES != 0 {
-        return 14;
+        return false;
     }
     if wb.len() % WORD_BYTES != 0 {
-        return 14;
+        return false;
     }
     let mut book = [0u32; rules::BOOK_SIZE];
     compile::compile(sheet, &mut book);
-    if accepted(&book, sb, sn, wb, wn) {
-        0
-    } else {
-        14
-    }
+    accepted(&book, sb, sn, wb, wn)
 }
 
 // Whether the list is accepted.

@@ -1,5 +1,4 @@
 -- `clash` meets its contract: the number and the place of a bad sheet's fault, or what `plan_good` found. Assumes nothing.
-use native.Mathlib.Omega.{arith}
 use Rattle.reader.proofs.Good.{told}
 use Rattle.clash_trials.specs.Trials.{lentThree}
 use Rattle.clash.proofs.Answers.{planned-bad}
@@ -8,20 +7,21 @@ use Rattle.clash.proofs.clash.Statement.{statement}
 use Rattle.clash.proofs.clash.Tie as tie
 
 -- the entry, from where the reader answered
-abbrev start : tie.After-read → tie.Start
+abbrev start : tie.After-read-in-numbers → tie.Start
 start c = c .before .before .before .before .before
 
-cast-place : tie.Need-cast-place
-cast-place c =
-    let read = c .before .before .before .before .before in
-    omega (arith, told (start read .args .sheet .now) (read .read .ensures) (c .before .before .before .f .given .1) .small)
+plan-good-requires : tie.Need-plan-good-requires
+plan-good-requires c κs =
+    let known = c .before .before .before in
+    let read = known .before .before in
+    told (start read .args .sheet .now) (read .read-in-numbers .ensures) (known .enum-told .given .1)
 
 returns-2 : tie.Need-returns-2
 returns-2 c =
-    let read = c .before .before .before .before .before in
+    let read = c .before .before .before in
     let a = start read .args in
     planned-bad (lentThree (a .table .now) (a .words .now) (a .scratch .now))
-    (told (a .sheet .now) (read .read .ensures) (c .before .before .before .f .given .1)) (c .before .number .ensures)
+    (told (a .sheet .now) (read .read-in-numbers .ensures) (c .before .v .given .1))
 
 pub clash-spec : {M : Type 1} → statement M
 clash-spec =
@@ -29,10 +29,8 @@ clash-spec =
     (tie.spec
     (λ c κs. search needs)
     (λ c. search needs)
-    (λ c κs. told (start (c .before .before .before .before .before) .args .sheet .now) (c .before .before .before .before .before .read .ensures) (c .before .before .before .enum-told .given .1))
+    plan-good-requires
     (λ c. search needs)
-    (λ c κs. search needs)
-    cast-place
     (λ c. search needs)
     (λ c. search needs)
     (λ c. search needs)

@@ -1,7 +1,9 @@
 -- `drop_rules` meets its contract: the invariant is `DropsSoFar`. Assumes nothing.
-use mathlib.Core.Path.{refl}
+use mathlib.Core.Path.{ap}
 use native.Mathlib.Omega.{arith}
+use borrow.Author.Needs.{needs}
 use Rattle.clash_trials.specs.Trials.{lentThree}
+use Rattle.clash_trials.specs.Parts.{answerFor}
 use Rattle.clash_trials.proofs.Loops.{DropsSoFar, drop-start, drop-11, drop-12, drop-13, drop-all}
 use Rattle.clash_trials.proofs.drop_rules.Statement.{statement}
 use Rattle.clash_trials.proofs.drop_rules.Tie as tie
@@ -26,13 +28,19 @@ left-out-requires c κs =
     (head .before .before .before .before .before .pre .0, omega (arith, head .loop .inv .inside))
 
 returns : tie.Need-returns Inv-loop μ-loop
-returns c = drop-11 (turn (c .before) .loop .inv) (tried (c .before) .left-out .ensures) (omega arith) (omega arith)
+returns c =
+    let known = c .before .before in
+    drop-11 (turn known .loop .inv) (tried known .left-out .ensures) (omega arith) (ap answerFor (c .enum-told .given .1))
+
+loop-again : tie.Need-loop-again Inv-loop μ-loop
+loop-again c =
+    let known = c .before .before in
+    drop-12 (turn known .loop .inv) (tried known .left-out .ensures) (omega arith) (ap answerFor (c .enum-told2 .given .1))
 
 loop-again-2 : tie.Need-loop-again-2 Inv-loop μ-loop
 loop-again-2 c =
-    let head = turn (c .before .before) in
-    drop-12 (head .loop .inv) (tried (c .before .before) .left-out .ensures) (omega arith) (head .before .before .before .before .before .pre .0) refl (λ e. omega arith)
-    (λ e. omega arith)
+    let known = c .before .before in
+    drop-13 (turn known .loop .inv) (tried known .left-out .ensures) (omega arith) (ap answerFor (c .enum-told3 .given .1))
 
 pub drop-rules-spec : {M : Type 1} → statement M
 drop-rules-spec =
@@ -43,13 +51,16 @@ drop-rules-spec =
     (λ c. drop-start)
     (λ c. omega arith)
     left-out-requires
+    (λ c. search needs)
     (λ c. returns c .lengths .table)
     (λ c. returns c .lengths .words)
     (λ c. returns c .lengths .scratch)
     returns
-    (λ c. omega (arith, turn (c .before .before) .loop .inv .inside))
+    (λ c. search needs)
     (λ c. omega arith)
-    (λ c. drop-13 (turn (c .before .before) .loop .inv) (tried (c .before .before) .left-out .ensures) (omega arith) (omega arith))
+    loop-again
+    (λ c. search needs)
+    (λ c. omega (arith, turn (c .before .before) .loop .inv .inside))
     (λ c. omega arith)
     loop-again-2
     (λ c. c .before .loop .inv .lengths .table)

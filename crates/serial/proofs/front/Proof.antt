@@ -14,4 +14,4 @@ front-spec =
     (λ c. over (omega arith) refl refl)
     (λ c. sym (length-take-le _ _ (omega arith)))
     (λ c κs. search needs)
-    (λ c. read (omega arith) (c .answer-for .ensures)))
+    (λ c. read (omega arith) (c .verdict-on .ensures)))

@@ -1,24 +1,22 @@
--- `strikecheck::check` meets its contract: a bad sheet's number and place, else what `check_paper` says and no place. Assumes nothing.
-use mathlib.Core.Path.{refl}
+-- `strikecheck::check` meets its contract: a bad sheet's number and place, else what is said of the paper and no place. Assumes nothing.
 use borrow.Author.Needs.{needs}
-use native.Mathlib.Omega.{arith}
-use Rattle.reader.proofs.Good.{Faulty, told}
-use Rattle.papers.proofs.Verdict.{placed-good, placed-faulty}
+use Rattle.reader.proofs.Good.{told}
+use Rattle.papers.proofs.Verdict.{placed-refused, placed-paper}
 use Rattle.strikecheck.specs.Strikes.{PaperChecked}
 use Rattle.strikecheck.proofs.check.Statement.{statement}
 use Rattle.strikecheck.proofs.check.Tie as tie
 
--- the reader's fault
-bad : (c : tie.After-f) → Faulty (c .before .before .before .before .before .before .before .before .args .sheet .now) (c .f .given .0 .0)
-bad c = told _ (c .before .before .read .ensures) (c .f .given .1)
-
 returns : tie.Need-returns
 unfolding PaperChecked
-returns c = placed-good _ (told _ (c .before .before .before .read .ensures) (c .before .enum-told .given .1)) (c .check-paper .ensures)
+returns c =
+    let paper = c .before in
+    let known = paper .before in
+    placed-paper _ (told _ (known .before .before .read-in-numbers .ensures) (known .enum-told .given .1))
+    (paper .paper-accepted .ensures) (c .on-paper .ensures)
 
 returns-2 : tie.Need-returns-2
 unfolding PaperChecked
-returns-2 c = placed-faulty _ (bad (c .before .before .before)) (c .before .number .ensures) refl
+returns-2 c = placed-refused _ (told _ (c .before .before .before .read-in-numbers .ensures) (c .before .v .given .1))
 
 pub check-spec : {M : Type 1} → statement M
 check-spec =
@@ -26,9 +24,8 @@ check-spec =
     (tie.spec
     (λ c κs. search needs)
     (λ c. search needs)
-    (λ c κs. told _ (c .before .before .read .ensures) (c .enum-told .given .1))
-    (λ c. search needs)
+    (λ c κs. told _ (c .before .before .read-in-numbers .ensures) (c .enum-told .given .1))
     (λ c κs. search needs)
-    (λ c. omega (arith, bad (c .before .before .before) .small))
+    (λ c. search needs)
     returns
     returns-2)

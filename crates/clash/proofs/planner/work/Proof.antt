@@ -1,14 +1,18 @@
 -- `work` meets its contract. Assumes nothing.
-use mathlib.Core.Path.{refl}
+use mathlib.Core.Path.{ap}
 use native.Mathlib.Omega.{arith}
+use Rattle.clash_trials.specs.Parts.{answerFor}
 use Rattle.clash.proofs.Answers.{has-count, drops-long, works-at-once, works-kept, works-dropping, works-at-last, works-found}
 use borrow.Author.Needs.{needs}
 use Rattle.clash.proofs.planner.work.Statement.{statement}
 use Rattle.clash.proofs.planner.work.Tie as tie
 
--- the calls, each from the one after it: rules dropped, the whole sheet tried, all rules marked; and the entry
+-- the calls, each from the one after it: rules dropped, what the trial of the whole sheet found, this trial, all rules marked; the entry
 abbrev dropped : tie.After-each-left-out → tie.After-drop-rules
 dropped c = c .before .before .before .before .before .before .before .before .before .before .before .before
+
+abbrev found : tie.After-drop-rules → tie.After-enum-told3
+found c = c .before .before .before .before .before
 
 abbrev tried : tie.After-drop-rules → tie.After-trial
 tried c = c .before .before .before .before .before .before .before .before .before .before .before .before .before
@@ -33,35 +37,46 @@ each-left-out-requires : tie.Need-each-left-out-requires
 each-left-out-requires c κs =
     let less = c .before .before .before .before .before .before .before .before .before .before .before in
     let all = marked (tried less) in
-    let fits = c .before .before .before .before .if3 .taken in
+    let fits = c .before .before .before .before .if1 .taken in
     let small = all .before .before .shared-slice-known2 .given 6 in
     (start all .pre .0, drops-long (less .drop-rules .ensures) fits (all .mark-first .ensures) (omega (arith, small)))
 
+returns : tie.Need-returns
+returns c =
+    let whole = c .before .before .before .before .before .before .before .before in
+    works-at-once (marked whole .mark-first .ensures) (whole .trial .ensures) _ (ap answerFor (c .enum-told .given .1))
+
+returns-2 : tie.Need-returns-2
+returns-2 c =
+    let whole = c .before .before .before .before .before .before .before .before in
+    works-kept (marked whole .mark-first .ensures) (whole .trial .ensures) _ (ap answerFor (c .enum-told2 .given .1))
+
 returns-3 : tie.Need-returns-3
 returns-3 c =
-    let each = c .before .before .before .before .before .before .before in
+    let each = c .before .before .before .before .before .before .before .before in
     let less = dropped each in
     let whole = tried less in
-    let all = marked whole in
-    works-at-last (all .mark-first .ensures) (whole .trial .ensures) (start all .pre .0) refl (less .before .before .before .before .before .before .if1 .left)
-    (less .before .before .before .before .before .if2 .left) (less .drop-rules .ensures) (each .before .before .before .before .before .if3 .taken) (each .each-left-out .ensures) (omega arith)
+    works-at-last (marked whole .mark-first .ensures) (whole .trial .ensures)
+    (ap answerFor (found less .enum-told3 .given .1)) (less .drop-rules .ensures)
+    (each .before .before .before .before .before .if1 .taken) (each .each-left-out .ensures)
+    (c .before .no-room .ensures .yes (c .if2 .taken))
 
 returns-4 : tie.Need-returns-4
 returns-4 c =
-    let each = c .before .before .before .before .before .before .before in
+    let each = c .before .before .before .before .before .before .before .before in
     let less = dropped each in
     let whole = tried less in
-    let all = marked whole in
-    works-found (all .mark-first .ensures) (whole .trial .ensures) (start all .pre .0) refl (less .before .before .before .before .before .before .if1 .left)
-    (less .before .before .before .before .before .if2 .left) (less .drop-rules .ensures) (each .before .before .before .before .before .if3 .taken) (each .each-left-out .ensures) (λ e. omega arith)
+    works-found (marked whole .mark-first .ensures) (whole .trial .ensures)
+    (ap answerFor (found less .enum-told3 .given .1)) (less .drop-rules .ensures)
+    (each .before .before .before .before .before .if1 .taken) (each .each-left-out .ensures)
+    (c .before .no-room .ensures .never (c .if2 .left))
 
 returns-5 : tie.Need-returns-5
 returns-5 c =
     let less = c .before .before .before .before .before .before .before in
     let whole = tried less in
-    let all = marked whole in
-    works-dropping (all .mark-first .ensures) (whole .trial .ensures) (start all .pre .0) refl (less .before .before .before .before .before .before .if1 .left)
-    (less .before .before .before .before .before .if2 .left) (less .drop-rules .ensures) (c .if3 .left)
+    works-dropping (marked whole .mark-first .ensures) (whole .trial .ensures)
+    (ap answerFor (found less .enum-told3 .given .1)) (less .drop-rules .ensures) (c .if1 .left)
 
 pub work-spec : {M : Type 1} → statement M
 work-spec =
@@ -74,13 +89,17 @@ work-spec =
     (λ c. search needs)
     (λ c. search needs)
     (λ c. search needs)
-    (λ c. works-at-once (marked (c .before .before .before .before .before .before .before) .mark-first .ensures) (c .before .before .before .before .before .before .before .trial .ensures) _ (omega arith))
+    (λ c. search needs)
+    returns
     (λ c. search needs)
     (λ c. search needs)
     (λ c. search needs)
-    (λ c. works-kept (marked (c .before .before .before .before .before .before .before .before) .mark-first .ensures) (c .before .before .before .before .before .before .before .before .trial .ensures) _ (omega arith))
+    (λ c. search needs)
+    returns-2
+    (λ c. search needs)
     drop-rules-requires
     each-left-out-requires
+    (λ c κs. search needs)
     (λ c. search needs)
     (λ c. search needs)
     (λ c. search needs)
