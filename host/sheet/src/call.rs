@@ -2,6 +2,24 @@
 
 use crate::text::names;
 
+/// How the command is called in its repository, through the launcher, which hands over this name. The texts of the help are written so.
+const LAUNCHED: &str = "bin/sheet";
+
+/// The command's name as it was called: that of the launcher, else the one that it is installed under.
+pub fn command() -> &'static str {
+    let is_launched = std::env::args_os().next().is_some_and(|name| name == LAUNCHED);
+    if is_launched {
+        LAUNCHED
+    } else {
+        "sheet"
+    }
+}
+
+/// A text of the help, with the command's name as it was called.
+pub fn named_as_called(help: &str) -> String {
+    help.replace(LAUNCHED, command())
+}
+
 /// An option that a verb takes.
 pub struct Choice {
     /// Such as `--paper`.

@@ -3,7 +3,7 @@
 #![deny(warnings)]
 
 use sheet::answers::BAD;
-use sheet::call::Call;
+use sheet::call::{command, named_as_called, Call};
 use sheet::out::{self, Page};
 use sheet::text::names;
 use sheet::verbs::{Verb, ALL};
@@ -31,13 +31,13 @@ fn main() -> ExitCode {
 
 /// Does what the arguments ask for, or says what is wrong with them.
 fn answer(arguments: &[String], page: &mut Page) -> Result<(), String> {
-    let all = "bin/sheet --help tells all verbs";
+    let all = format!("{} --help tells all verbs", command());
     let Some(first) = arguments.first() else {
         return Err(format!("a verb is needed; {all}"));
     };
     if first == "--help" || first == "-h" || first == "help" {
         let verb = arguments.get(1).and_then(|name| ALL.iter().find(|verb| verb.name == name));
-        page.print(&verb.map_or_else(|| HELP.to_string(), |verb| verb_help(verb)));
+        page.print(&verb.map_or_else(|| named_as_called(HELP), |verb| verb_help(verb)));
         return Ok(());
     }
     if first == "--version" {
@@ -54,7 +54,7 @@ fn answer(arguments: &[String], page: &mut Page) -> Result<(), String> {
         page.print(&verb_help(verb));
         return Ok(());
     }
-    let more = format!("; bin/sheet {} --help tells more", verb.name);
+    let more = format!("; {} {} --help tells more", command(), verb.name);
     let call = Call::new(rest, &verb.all_choices()).map_err(|said| format!("{}: {said}{more}", verb.name))?;
     let (least, most) = verb.files;
     if call.files.len() < least || call.files.len() > most {
@@ -73,7 +73,8 @@ fn version() -> String {
 
 /// A verb's help.
 fn verb_help(verb: &Verb) -> String {
-    let mut help = format!("bin/sheet {} {}: {}\n\n{}\nOptions:\n", verb.name, verb.usage, verb.about, verb.help);
+    let text = named_as_called(verb.help);
+    let mut help = format!("{} {} {}: {}\n\n{text}\nOptions:\n", command(), verb.name, verb.usage, verb.about);
     for choice in verb.all_choices() {
         let name = choice.value.map_or(choice.name.to_string(), |value| format!("{} {value}", choice.name));
         help += &format!("  {name:<22} {}\n", choice.about);

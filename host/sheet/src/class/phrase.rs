@@ -1,9 +1,9 @@
 //! Why a sheet cannot be kept, in one phrase: how its strike list begins.
 
-use crate::model::Sheet;
+use crate::model::{Rule, Sheet};
 use crate::paper::REASONS;
 use crate::proved::Judged;
-use crate::story::clash::{after, on_first, smallest, Demand, PATIENCE};
+use crate::story::clash::{after, on_first, smallest, PATIENCE};
 use crate::text::print;
 use std::cell::Cell;
 
@@ -27,20 +27,12 @@ pub fn first_clash(sheet: &Sheet, judged: &Judged) -> String {
 }
 
 /// The rules that leave no state.
-fn clash(demands: &[Demand]) -> String {
-    let names: Vec<String> = demands.iter().map(|&demand| name(demand)).collect();
+fn clash(demands: &[Rule]) -> String {
+    let names: Vec<String> = demands.iter().map(|demand| format!("{} {}", demand.kind(), demand.number())).collect();
     match names.split_last() {
         None => "the limits and rules leave no state".to_string(),
         Some((last, [])) => format!("{last} leaves no state"),
         Some(_) if names.len() > MOST_NAMED => format!("{} limits and rules clash", names.len()),
         Some((last, others)) => format!("{} and {last} clash", others.join(", ")),
-    }
-}
-
-fn name(demand: Demand) -> String {
-    match demand {
-        Demand::Limit(at) => format!("limit {}", at + 1),
-        Demand::First(at) => format!("first rule {}", at + 1),
-        Demand::Step(at) => format!("step {}", at + 1),
     }
 }

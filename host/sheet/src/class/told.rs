@@ -1,7 +1,7 @@
 //! A class as a table for people, as CSV and as JSON. docs/GUIDE.md has the names.
 
 use crate::class::look::{Seen, Verdict, WORDS};
-use crate::json;
+use crate::json::Json;
 use crate::story::count;
 use crate::text::width;
 
@@ -84,13 +84,14 @@ fn cell(text: &str) -> String {
     }
 }
 
-/// The class as JSON, in one line.
-pub fn as_json(class: &[Seen]) -> String {
+/// The class as JSON.
+pub fn as_json(class: &[Seen]) -> Json {
     let files = class.iter().map(|seen| {
-        let numbers = numbers(seen.verdict).map(|number| json::optional(number.map(|number| number.to_string())));
-        let front = [("file", json::string(&seen.file)), ("verdict", json::string(WORDS[seen.verdict.kind()]))];
-        json::object(front.into_iter().chain(NUMBERS.into_iter().zip(numbers)).chain([("why", json::string(&seen.why))]))
+        let front = [("file", Json::text(&*seen.file)), ("verdict", Json::text(WORDS[seen.verdict.kind()]))];
+        let numbers = numbers(seen.verdict).map(|number| Json::or_null(number.map(Json::Number)));
+        let members = front.into_iter().chain(NUMBERS.into_iter().zip(numbers)).chain([("why", Json::text(&*seen.why))]);
+        Json::Object(members.collect())
     });
-    let sums = json::object(WORDS.into_iter().zip(counts(class).map(|many| many.to_string())));
-    json::object([("files", json::list(files)), ("sums", sums)]) + "\n"
+    let sums = WORDS.into_iter().zip(counts(class).map(Json::number)).collect();
+    Json::Object(vec![("files", Json::list(files)), ("sums", Json::Object(sums))])
 }

@@ -6,7 +6,7 @@ mod run;
 mod strikes;
 
 use crate::input::Source;
-use crate::model::{count_true, Limit, Sheet, State};
+use crate::model::{count_true, Limit, Rule, Sheet, State};
 use crate::paper::Paper;
 use crate::text::print;
 use plain::rules::Rules;
@@ -37,8 +37,7 @@ pub fn unlawful(sheet: &Sheet, state: State) -> Option<String> {
         return Some(format!("{state} is no state of this sheet: with {letters} letters, states are the numbers 0 to {most}"));
     }
     let limit = sheet.broken_limit(state)?;
-    let (number, limit) = (limit + 1, &sheet.limits[limit]);
-    Some(format!("limit {number} is broken: {} ({})", print::limit(sheet, limit), held(limit, state)))
+    Some(format!("{} ({})", print::broken(sheet, Rule::Limit(limit)), held(&sheet.limits[limit], state)))
 }
 
 /// How many of a limit's list hold in a state, and how many may or must.

@@ -2,7 +2,7 @@
 //! it says of a breach set to 0, and the next state is then held against the sheet as if nothing had happened.
 
 use crate::log::read::Piece;
-use crate::model::{Sheet, State};
+use crate::model::{Rule, Sheet, State};
 use crate::proved::{self, Account};
 use std::collections::BTreeMap;
 
@@ -22,6 +22,19 @@ pub enum What {
     First(usize),
     /// A step rule.
     Step(usize),
+}
+
+impl What {
+    /// The rule of the sheet that was broken.
+    pub fn rule(self, sheet: &Sheet) -> Option<Rule> {
+        let (rule, many) = match self {
+            What::NoState => return None,
+            What::Limit(number) => (Rule::Limit(number.checked_sub(1)?), sheet.limits.len()),
+            What::First(number) => (Rule::First(number.checked_sub(1)?), sheet.first.len()),
+            What::Step(number) => (Rule::Step(number.checked_sub(1)?), sheet.steps.len()),
+        };
+        (rule.number() <= many).then_some(rule)
+    }
 }
 
 /// A moment of a log: its time if it has one, and its state.

@@ -1,59 +1,53 @@
 //! A log's audit as JSON. docs/GUIDE.md has the names.
 
-use crate::json::{list, object, optional, state, string};
-use crate::log::breach::{Audit, Breach, Moment, What};
-use crate::log::told::text;
-use crate::model::Sheet;
+use crate::as_json::{self, Members};
+use crate::json::Json;
+use crate::log::breach::{Audit, Breach, Moment, Tally, What};
+use crate::model::{Rule, Sheet};
 
-/// The whole audit, in one line.
-pub fn whole(sheet: &Sheet, audit: &Audit<'_>, sheet_file: &str, log_file: &str) -> String {
-    let account = &audit.account;
-    let broken = audit.tallies.iter().map(|(&what, tally)| {
-        object(rule(sheet, what).into_iter().chain([
-            ("breaches", tally.count.to_string()),
-            ("first", tally.first.to_string()),
-            ("last", tally.last.to_string()),
-        ]))
-    });
-    let steps = (0..sheet.steps.len()).map(|at| {
-        object(
-            rule(sheet, What::Step(at + 1))
-                .into_iter()
-                .chain([("kept", account.kept()[at].to_string()), ("broken", account.broken()[at].to_string())]),
-        )
-    });
-    let members = [
-        ("sheet", string(sheet_file)),
-        ("log", string(log_file)),
-        ("moments", account.count().to_string()),
-        ("breaches", audit.count().to_string()),
-        ("broken", list(broken)),
-        ("list", list(audit.told.iter().map(|breach| one(sheet, breach)))),
-        ("steps", list(steps)),
-        ("promises_judged", false.to_string()),
-    ];
-    object(members) + "\n"
+/// The whole audit.
+pub fn whole(sheet: &Sheet, audit: &Audit<'_>, sheet_file: &str, log_file: &str) -> Json {
+    let broken = audit.tallies.iter().map(|(&what, tally)| tallied(sheet, what, tally));
+    Json::Object(vec![
+        ("sheet", Json::text(sheet_file)),
+        ("log", Json::text(log_file)),
+        ("moments", Json::number(audit.account.count())),
+        ("breaches", Json::number(audit.count())),
+        ("broken", Json::list(broken)),
+        ("list", Json::list(audit.told.iter().map(|breach| one(sheet, breach)))),
+        ("steps", Json::list((0..sheet.steps.len()).map(|at| step(sheet, audit, at)))),
+        ("promises_judged", Json::Bool(false)),
+    ])
 }
 
-/// Kind, number and text of what was broken.
-fn rule(sheet: &Sheet, what: What) -> [(&'static str, String); 3] {
-    let (kind, number) = match what {
-        What::NoState => ("no state", None),
-        What::Limit(number) => ("limit", Some(number)),
-        What::First(number) => ("first", Some(number)),
-        What::Step(number) => ("step", Some(number)),
-    };
-    let text = number.map(|_| string(&text(sheet, what)));
-    [("kind", string(kind)), ("number", optional(number.map(|number| number.to_string()))), ("text", optional(text))]
+/// What was broken how often, and when first and last.
+fn tallied(sheet: &Sheet, what: What, tally: &Tally) -> Json {
+    let when = vec![("breaches", Json::number(tally.count)), ("first", Json::number(tally.first)), ("last", Json::number(tally.last))];
+    Json::Object([rule(sheet, what), when].concat())
 }
 
-fn one(sheet: &Sheet, breach: &Breach) -> String {
-    let moments = [("moment", breach.number.to_string()), ("at", moment(sheet, &breach.at))];
+/// How many moves kept and broke a step rule, counted from 0.
+fn step(sheet: &Sheet, audit: &Audit<'_>, at: usize) -> Json {
+    let (kept, broken) = (audit.account.kept()[at], audit.account.broken()[at]);
+    let tally = vec![("kept", Json::number(kept)), ("broken", Json::number(broken))];
+    Json::Object([as_json::rule_members(sheet, Rule::Step(at)), tally].concat())
+}
+
+/// Kind, number, line and text of what was broken.
+fn rule(sheet: &Sheet, what: What) -> Members {
+    what.rule(sheet).map_or_else(
+        || vec![("kind", Json::text("no state")), ("number", Json::Null), ("line", Json::Null), ("text", Json::Null)],
+        |rule| as_json::rule_members(sheet, rule),
+    )
+}
+
+fn one(sheet: &Sheet, breach: &Breach) -> Json {
     let before = breach.before.as_ref().map(|before| moment(sheet, before));
-    object(moments.into_iter().chain([("before", optional(before))]).chain(rule(sheet, breach.what)))
+    let moments = vec![("moment", Json::number(breach.number)), ("at", moment(sheet, &breach.at)), ("before", Json::or_null(before))];
+    Json::Object([moments, rule(sheet, breach.what)].concat())
 }
 
-fn moment(sheet: &Sheet, moment: &Moment) -> String {
-    let time = moment.time.as_ref().map(|time| string(time));
-    object([("time", optional(time))].into_iter().chain(state(sheet, moment.state)))
+fn moment(sheet: &Sheet, moment: &Moment) -> Json {
+    let time = vec![("time", Json::or_null(moment.time.as_deref().map(Json::text)))];
+    Json::Object([time, as_json::state(sheet, moment.state)].concat())
 }

@@ -2,7 +2,7 @@
 
 use crate::explain::unlawful;
 use crate::log::breach::{Audit, Breach, Moment, Tally, What};
-use crate::model::Sheet;
+use crate::model::{Rule, Sheet};
 use crate::out::Colour;
 use crate::proved::Account;
 use crate::story::{count, parted};
@@ -48,21 +48,11 @@ fn harmless(time: &str) -> String {
 
 /// What a breach broke, as a sentence without its full stop.
 fn said(sheet: &Sheet, breach: &Breach) -> String {
-    match breach.what {
-        What::NoState | What::Limit(_) => unlawful(sheet, breach.at.state).unwrap_or_else(|| "the state is unlawful".to_string()),
-        What::First(number) => format!("first rule {number} is broken: {}", text(sheet, breach.what)),
-        What::Step(number) => format!("step {number} is broken: {}", text(sheet, breach.what)),
-    }
-}
-
-/// The text of what was broken.
-pub fn text(sheet: &Sheet, what: What) -> String {
-    let at = |number: usize| number.wrapping_sub(1);
-    match what {
-        What::NoState => String::new(),
-        What::Limit(number) => sheet.limits.get(at(number)).map(|limit| print::limit(sheet, limit)).unwrap_or_default(),
-        What::First(number) => sheet.first.get(at(number)).map(|rule| print::first(sheet, rule)).unwrap_or_default(),
-        What::Step(number) => sheet.steps.get(at(number)).map(|step| print::step(sheet, step)).unwrap_or_default(),
+    match (breach.what, breach.what.rule(sheet)) {
+        (What::First(_) | What::Step(_), Some(rule)) => print::broken(sheet, rule),
+        (What::First(number), None) => format!("first rule {number} is broken"),
+        (What::Step(number), None) => format!("step {number} is broken"),
+        _ => unlawful(sheet, breach.at.state).unwrap_or_else(|| "the state is unlawful".to_string()),
     }
 }
 
@@ -71,11 +61,9 @@ pub fn broken(sheet: &Sheet, audit: &Audit<'_>) -> String {
     if audit.count() < 2 {
         return String::new();
     }
-    let name = |what: What| match what {
-        What::NoState => "a number that is no state of this sheet".to_string(),
-        What::Limit(number) => format!("limit {number}: {}", text(sheet, what)),
-        What::First(number) => format!("first rule {number}: {}", text(sheet, what)),
-        What::Step(number) => format!("step {number}: {}", text(sheet, what)),
+    let name = |what: What| match what.rule(sheet) {
+        Some(rule) => format!("{}: {}", print::numbered(sheet, rule), print::rule(sheet, rule)),
+        None => "a number that is no state of this sheet".to_string(),
     };
     let mut tallies: Vec<(&What, &Tally)> = audit.tallies.iter().collect();
     tallies.sort_by_key(|(_, tally)| std::cmp::Reverse(tally.count));
@@ -100,17 +88,22 @@ pub fn tallies(sheet: &Sheet, account: &Account) -> String {
     };
     let mut rules: Vec<usize> = (0..sheet.steps.len()).collect();
     rules.sort_by_key(|&at| group(at));
-    let rows: Vec<[String; 4]> = rules
+    let rows: Vec<[String; 5]> = rules
         .iter()
         .map(|&at| {
             let (kept, broken) = tally(at);
-            let text = print::step(sheet, &sheet.steps[at]);
+            let text = print::rule(sheet, Rule::Step(at));
             let remark = if group(at) == 1 { "  (never asked)" } else { "" };
-            [(at + 1).to_string(), parted(kept as usize), parted(broken as usize), text + remark]
+            [(at + 1).to_string(), line_of(sheet, at), parted(kept as usize), parted(broken as usize), text + remark]
         })
         .collect();
     let head = "Moves that kept and broke each step rule, of those before which its left side held:\n";
-    head.to_string() + &table(["step", "kept", "broken", "rule"], &rows)
+    head.to_string() + &table(["step", if sheet.written.is_empty() { "" } else { "line" }, "kept", "broken", "rule"], &rows)
+}
+
+/// The line of a step rule, or nothing.
+fn line_of(sheet: &Sheet, at: usize) -> String {
+    sheet.written.get(&Rule::Step(at)).map(|written| written.line.to_string()).unwrap_or_default()
 }
 
 /// What a log cannot say.
@@ -122,11 +115,14 @@ pub fn promises(sheet: &Sheet) -> String {
     }
 }
 
-/// Three columns of numbers and a text, under their heads.
-fn table(heads: [&str; 4], rows: &[[String; 4]]) -> String {
+/// Columns of numbers and a text behind them, under their heads. A column without a head is left out: a sheet of bytes has no lines.
+fn table<const COLUMNS: usize>(heads: [&str; COLUMNS], rows: &[[String; COLUMNS]]) -> String {
     let width = |column: usize| rows.iter().map(|row| row[column].len()).chain([heads[column].len()]).max().unwrap_or(0);
-    let [a, b, c] = [width(0), width(1), width(2)];
-    let line = |cells: [&str; 4]| format!("  {:>a$}  {:>b$}  {:>c$}  {}\n", cells[0], cells[1], cells[2], cells[3]);
-    let lines: String = rows.iter().map(|row| line([&row[0], &row[1], &row[2], &row[3]])).collect();
+    let line = |cells: [&str; COLUMNS]| {
+        let shown = (0..COLUMNS - 1).filter(|&column| !heads[column].is_empty());
+        let numbers: String = shown.map(|column| format!("  {:>wide$}", cells[column], wide = width(column))).collect();
+        format!("{numbers}  {}\n", cells[COLUMNS - 1])
+    };
+    let lines: String = rows.iter().map(|row| line(row.each_ref().map(String::as_str))).collect();
     line(heads) + &lines
 }

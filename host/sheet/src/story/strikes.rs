@@ -1,6 +1,6 @@
 //! The strike list as a story by rounds.
 
-use crate::model::{Sheet, State};
+use crate::model::{Rule, Sheet, State};
 use crate::paper::REASONS;
 use crate::story::{clash, count};
 use crate::text::print;
@@ -29,7 +29,7 @@ struct Story<'s> {
 pub fn tell(sheet: &Sheet, rules: &Rules, states: &[State], words: &[u32], all: bool) -> String {
     if states.is_empty() {
         let clash = clash::smallest(sheet, clash::on_first(sheet), &Cell::new(clash::PATIENCE));
-        return format!("  There is no first state.\n{}", clash::sentence(sheet, &clash, "  "));
+        return format!("  There is no first state.\n{}", clash::sentence(sheet, &clash, "  ", clash::MOST_NAMED));
     }
     let story = Story {
         sheet,
@@ -84,10 +84,10 @@ impl Story<'_> {
             (0, 1) => format!("    From {these} there is no way on:\n{}", self.dead_ends(states)),
             (0, _) => format!("    From {these} every way on leads to a struck state:\n{}", self.led_astray(states)),
             (promise, _) => {
-                let literal = print::literal(self.sheet, self.sheet.promises[promise as usize - 1]);
+                let name = print::named(self.sheet, Rule::Promise(promise as usize - 1));
                 let shown = self.shown(states).map(|&state| format!("      {}\n", print::state(self.sheet, state)));
                 let shown: String = shown.collect();
-                format!("    From {these} promise {promise} ({literal}) can no longer be kept:\n{shown}{}", self.more(states))
+                format!("    From {these} {name} can no longer be kept:\n{shown}{}", self.more(states))
             }
         }
     }
@@ -111,7 +111,7 @@ impl Story<'_> {
             let asked: Vec<usize> = (0..self.sheet.steps.len()).filter(|&step| self.sheet.steps[step].asks(state)).collect();
             let why = found.entry(asked).or_insert_with(|| {
                 let clash = clash::smallest(self.sheet, clash::after(self.sheet, state), &self.patience);
-                clash::sentence(self.sheet, &clash, "        ")
+                clash::sentence(self.sheet, &clash, "        ", clash::MOST_NAMED)
             });
             match gathered.iter_mut().find(|(other, _)| other == why) {
                 Some((_, group)) => group.push(state),

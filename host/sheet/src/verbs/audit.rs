@@ -79,7 +79,7 @@ fn audited(call: &Call, form: Option<Form>, page: &mut Page) -> Result<(), Troub
     }
     page.raise(if audit.count() > 0 { REFUSED } else { 0 });
     if call.has("--json") {
-        page.print(&json::whole(sheet, &audit, &source.name, &name));
+        page.print(&format!("{}\n", json::whole(sheet, &audit, &source.name, &name)));
         return Ok(());
     }
     page.print(&told::verdict(sheet, &audit, page.colour));

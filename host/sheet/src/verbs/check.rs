@@ -4,7 +4,7 @@ use crate::answers::{GOOD, REFUSED};
 use crate::call::{Call, Choice};
 use crate::explain;
 use crate::input::{self, Source};
-use crate::json;
+use crate::json::Json;
 use crate::out::Page;
 use crate::paper::{parse, Paper};
 use crate::proved;
@@ -78,22 +78,22 @@ fn answer(source: &Source, paper: &Paper) -> u32 {
 fn as_json(source: &Source, paper: &Paper, paper_file: &str, page: &mut Page) {
     let answer = answer(source, paper);
     let (kind, size, back) = match paper {
-        Paper::Run(states, a) => ("run", states.len(), Some(a.to_string())),
+        Paper::Run(states, a) => ("run", states.len(), Some(Json::number(*a))),
         Paper::Strikes(states, _) => ("strikes", states.len(), None),
     };
     let why = if answer == 0 { Vec::new() } else { explain::reason(source, paper).unwrap_or_default() };
-    let members = [
-        ("sheet", json::string(&source.name)),
-        ("paper", json::string(paper_file)),
-        ("kind", json::string(kind)),
-        ("states", size.to_string()),
-        ("back_to", json::optional(back)),
-        ("answer", answer.to_string()),
-        ("accepted", (answer == 0).to_string()),
-        ("why", json::list(why.iter().map(|line| json::string(line.trim())))),
+    let members = vec![
+        ("sheet", Json::text(&*source.name)),
+        ("paper", Json::text(paper_file)),
+        ("kind", Json::text(kind)),
+        ("states", Json::number(size)),
+        ("back_to", Json::or_null(back)),
+        ("answer", Json::number(answer)),
+        ("accepted", Json::Bool(answer == 0)),
+        ("why", Json::list(why.iter().map(|line| Json::text(line.trim())))),
     ];
     page.raise(if answer == 0 { GOOD } else { REFUSED });
-    page.print(&(json::object(members) + "\n"));
+    page.print(&format!("{}\n", Json::Object(members)));
 }
 
 /// The proved checker's answer, and then, if it does not accept, this command's reason.

@@ -70,7 +70,7 @@ fn judged(files: &Files, call: &Call, page: &mut Page) {
     if call.has("--csv") {
         page.print(&told::csv(&class));
     } else if call.has("--json") {
-        page.print(&told::as_json(&class));
+        page.print(&format!("{}\n", told::as_json(&class)));
     } else {
         page.print(&told::table(&class));
         page.print(&told::sums(&class));

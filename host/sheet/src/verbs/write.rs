@@ -1,6 +1,6 @@
 //! `write FILE`: a sheet's bytes.
 
-use crate::call::Call;
+use crate::call::{command, Call};
 use crate::input;
 use crate::out::Page;
 use crate::verbs::Verb;
@@ -22,7 +22,7 @@ docs/FORMAT.md the bytes. Literals are put in the order that the bytes want.
 
 fn act(call: &Call, page: &mut Page) -> Result<(), String> {
     if page.on_terminal() {
-        return Err("a terminal cannot show bytes; send them to a file: bin/sheet write FILE > FILE.sheet".to_string());
+        return Err(format!("a terminal cannot show bytes; send them to a file: {} write FILE > FILE.sheet", command()));
     }
     match input::sheet(&call.files[0], call, page.message_colour) {
         Ok(source) => page.write(&source.bytes),
