@@ -10,6 +10,7 @@ pub mod bytes;
 pub mod call;
 pub mod explain;
 pub mod input;
+pub mod json;
 pub mod log;
 pub mod model;
 pub mod out;
