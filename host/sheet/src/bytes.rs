@@ -47,5 +47,6 @@ pub fn read(bytes: &[u8]) -> Result<Sheet, Fault> {
         first: good.first_rules().map(<[Literal]>::to_vec).collect(),
         steps: good.step_rules().map(|s| Step { left: s.left.to_vec(), right: s.right.to_vec() }).collect(),
         promises: good.promises().to_vec(),
+        ..Sheet::default()
     })
 }

@@ -1,6 +1,7 @@
 //! A rule sheet with names for its letters: exactly what the bytes say, and the names.
 
 use plain::sheet::MOST_LETTERS;
+use std::collections::BTreeMap;
 
 /// A state: letter k holds when the bit worth 2^(k-1) is set.
 pub type State = u32;
@@ -28,6 +29,46 @@ pub struct Step {
     pub right: Vec<Literal>,
 }
 
+/// A rule of a sheet: its kind, and its place among those of its kind, counted from 0.
+#[derive(Clone, Copy, Debug, PartialEq, Eq, PartialOrd, Ord)]
+pub enum Rule {
+    /// A limit.
+    Limit(usize),
+    /// A first rule.
+    First(usize),
+    /// A step rule.
+    Step(usize),
+    /// A promise.
+    Promise(usize),
+}
+
+impl Rule {
+    /// The kind, in the word that stands before the number.
+    pub fn kind(self) -> &'static str {
+        match self {
+            Rule::Limit(_) => "limit",
+            Rule::First(_) => "first rule",
+            Rule::Step(_) => "step",
+            Rule::Promise(_) => "promise",
+        }
+    }
+
+    /// The place, counted from 1, as people count.
+    pub fn number(self) -> usize {
+        let (Rule::Limit(at) | Rule::First(at) | Rule::Step(at) | Rule::Promise(at)) = self;
+        at + 1
+    }
+}
+
+/// How a rule stands in the text that it was read from.
+#[derive(Clone, Debug, PartialEq, Eq)]
+pub struct Written {
+    /// The line, counted from 1.
+    pub line: usize,
+    /// The writer's words behind the first one.
+    pub text: String,
+}
+
 /// A sheet.
 #[derive(Clone, Debug, Default, PartialEq, Eq)]
 pub struct Sheet {
@@ -41,6 +82,8 @@ pub struct Sheet {
     pub steps: Vec<Step>,
     /// The promises.
     pub promises: Vec<Literal>,
+    /// How its rules stand in their text; of a sheet that was read from bytes, nothing.
+    pub written: BTreeMap<Rule, Written>,
 }
 
 /// Is the literal true in the state?
@@ -73,6 +116,12 @@ impl Step {
     }
 }
 
+/// Adds a rule to those of its kind; its place among them.
+fn added<T: Clone>(rules: &mut Vec<T>, rule: &T) -> usize {
+    rules.push(rule.clone());
+    rules.len() - 1
+}
+
 /// Is some literal of the list true in the state?
 pub fn any_true(list: &[Literal], state: State) -> bool {
     list.iter().any(|&literal| is_true(literal, state))
@@ -84,10 +133,39 @@ impl Sheet {
         self.names.len() <= usize::from(MOST_LETTERS) && state >> self.names.len() == 0
     }
 
+    /// Every rule, kind by kind as in the bytes.
+    pub fn rules(&self) -> Vec<Rule> {
+        let limits = (0..self.limits.len()).map(Rule::Limit);
+        let first = (0..self.first.len()).map(Rule::First);
+        let steps = (0..self.steps.len()).map(Rule::Step);
+        limits.chain(first).chain(steps).chain((0..self.promises.len()).map(Rule::Promise)).collect()
+    }
+
+    /// The sheet with only the rules that are kept; each stays as it is written.
+    pub fn only(&self, keep: impl Fn(Rule) -> bool) -> Sheet {
+        let mut sheet = Sheet { names: self.names.clone(), ..Sheet::default() };
+        for rule in self.rules().into_iter().filter(|&rule| keep(rule)) {
+            let new = match rule {
+                Rule::Limit(at) => Rule::Limit(added(&mut sheet.limits, &self.limits[at])),
+                Rule::First(at) => Rule::First(added(&mut sheet.first, &self.first[at])),
+                Rule::Step(at) => Rule::Step(added(&mut sheet.steps, &self.steps[at])),
+                Rule::Promise(at) => Rule::Promise(added(&mut sheet.promises, &self.promises[at])),
+            };
+            if let Some(written) = self.written.get(&rule) {
+                sheet.written.insert(new, written.clone());
+            }
+        }
+        sheet
+    }
+
     /// The sheet with only these step rules, counted from 0.
     pub fn with_steps(&self, chosen: &[usize]) -> Sheet {
-        let steps = chosen.iter().map(|&step| self.steps[step].clone()).collect();
-        Sheet { steps, ..self.clone() }
+        self.only(|rule| !matches!(rule, Rule::Step(at) if !chosen.contains(&at)))
+    }
+
+    /// What the sheet says, without how it is written.
+    pub fn unwritten(&self) -> Sheet {
+        Sheet { written: BTreeMap::new(), ..self.clone() }
     }
 
     /// The first limit, counted from 0, that does not hold in the state.

@@ -6,7 +6,7 @@ mod run;
 mod strikes;
 
 use crate::input::Source;
-use crate::model::{Sheet, State};
+use crate::model::{Rule, Sheet, State};
 use crate::paper::Paper;
 use crate::text::print;
 use plain::rules::Rules;
@@ -37,5 +37,5 @@ pub fn unlawful(sheet: &Sheet, state: State) -> Option<String> {
         return Some(format!("{state} is no state of this sheet: with {letters} letters, states are the numbers 0 to {most}"));
     }
     let limit = sheet.broken_limit(state)?;
-    Some(format!("limit {} is broken: {}", limit + 1, print::limit(sheet, &sheet.limits[limit])))
+    Some(print::broken(sheet, Rule::Limit(limit)))
 }

@@ -1,7 +1,7 @@
 //! Why a run is not accepted: the first thing wrong, from its first moment to its last.
 
 use crate::explain::unlawful;
-use crate::model::{is_true, Sheet, State};
+use crate::model::{is_true, Rule, Sheet, State};
 use crate::text::print;
 
 /// The first reason against a run.
@@ -21,7 +21,7 @@ pub fn reason(sheet: &Sheet, states: &[State], a: u32) -> Option<Vec<String>> {
 fn bad_start(sheet: &Sheet, start: State) -> Option<Vec<String>> {
     let said = unlawful(sheet, start).or_else(|| {
         let rule = sheet.broken_first(start)?;
-        Some(format!("first rule {} is broken: {}", rule + 1, print::first(sheet, &sheet.first[rule])))
+        Some(print::broken(sheet, Rule::First(rule)))
     })?;
     Some(vec![format!("at moment 0, {said}"), at(sheet, 0, start)])
 }
@@ -34,7 +34,7 @@ fn bad_move(sheet: &Sheet, states: &[State], back: usize) -> Option<Vec<String>>
         let (from, to) = (states[moment], states[next]);
         let said = unlawful(sheet, to).or_else(|| {
             let step = sheet.broken_step(from, to)?;
-            Some(format!("step {} is broken: {}", step + 1, print::step(sheet, &sheet.steps[step])))
+            Some(print::broken(sheet, Rule::Step(step)))
         })?;
         let going = if is_last { "back to" } else { "to" };
         Some(vec![format!("from moment {moment} {going} moment {next}, {said}"), at(sheet, moment, from), at(sheet, next, to)])
@@ -50,8 +50,8 @@ fn unkept(sheet: &Sheet, states: &[State], back: usize) -> Option<Vec<String>> {
         Some(moment) => format!("; it is kept last at moment {moment}, to which the run never comes back"),
         None => String::new(),
     };
-    let name = print::literal(sheet, literal);
-    Some(vec![format!("promise {} ({name}) is never kept from moment {back} on{before}", promise + 1)])
+    let name = print::named(sheet, Rule::Promise(promise));
+    Some(vec![format!("{name} is never kept from moment {back} on{before}")])
 }
 
 /// A moment and its letters.

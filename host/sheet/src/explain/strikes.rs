@@ -1,7 +1,7 @@
 //! Why a strike list is not accepted: the first thing wrong, in the order of document 01's sentence.
 
 use crate::explain::unlawful;
-use crate::model::{is_true, Sheet, State};
+use crate::model::{is_true, Rule, Sheet, State};
 use crate::paper::{print::heading, REASONS};
 use crate::text::print;
 use plain::list::{each_first, each_next};
@@ -62,10 +62,10 @@ impl List<'_> {
 
     /// The entry's promise is true in its own state.
     fn kept_here(&self, at: usize) -> Option<Vec<String>> {
-        let promise = (self.words[at] % REASONS) as usize;
-        let &literal = self.sheet.promises.get(promise.checked_sub(1)?)?;
-        let name = print::literal(self.sheet, literal);
-        is_true(literal, self.states[at]).then(|| self.against(at, format!("promise {promise} ({name}) is kept in this very state")))
+        let promise = ((self.words[at] % REASONS) as usize).checked_sub(1)?;
+        let &literal = self.sheet.promises.get(promise)?;
+        let name = print::named(self.sheet, Rule::Promise(promise));
+        is_true(literal, self.states[at]).then(|| self.against(at, format!("{name} is kept in this very state")))
     }
 
     /// A next state of the entry that is not listed early enough.

@@ -1,7 +1,7 @@
 //! A log's account in words: the first breach, and the tallies as a table.
 
 use crate::explain::unlawful;
-use crate::model::{Sheet, State};
+use crate::model::{Rule, Sheet, State};
 use crate::out::Colour;
 use crate::proved::Account;
 use crate::story::{count, parted};
@@ -35,13 +35,15 @@ fn what(sheet: &Sheet, account: &Account, breach: Breach) -> String {
     match account.what() {
         1 => format!("the state is unlawful: {}", unlawful(sheet, breach.state).unwrap_or_default()),
         2 => match sheet.broken_first(breach.state) {
-            Some(rule) => format!("first rule {} is broken: {}", rule + 1, print::first(sheet, &sheet.first[rule])),
+            Some(rule) => print::broken(sheet, Rule::First(rule)),
             None => "a first rule is broken".to_string(),
         },
         _ => {
             let rule = account.rule() as usize;
-            let text = sheet.steps.get(rule.wrapping_sub(1)).map(|step| print::step(sheet, step)).unwrap_or_default();
-            format!("step {rule} is broken: {text}")
+            match rule.checked_sub(1).filter(|&at| at < sheet.steps.len()) {
+                Some(at) => print::broken(sheet, Rule::Step(at)),
+                None => format!("step {rule} is broken"),
+            }
         }
     }
 }
@@ -59,23 +61,31 @@ pub fn tallies(sheet: &Sheet, account: &Account) -> String {
     };
     let mut rules: Vec<usize> = (0..sheet.steps.len()).collect();
     rules.sort_by_key(|&at| group(at));
-    let rows: Vec<[String; 4]> = rules
+    let rows: Vec<[String; 5]> = rules
         .iter()
         .map(|&at| {
             let (kept, broken) = tally(at);
-            let text = print::step(sheet, &sheet.steps[at]);
+            let text = print::rule(sheet, Rule::Step(at));
             let remark = if group(at) == 1 { "  (never asked)" } else { "" };
-            [(at + 1).to_string(), parted(kept as usize), parted(broken as usize), text + remark]
+            [(at + 1).to_string(), line_of(sheet, at), parted(kept as usize), parted(broken as usize), text + remark]
         })
         .collect();
-    let width = |column: usize, head: &str| rows.iter().map(|row| row[column].len()).chain([head.len()]).max().unwrap_or(0);
-    let widths = [width(0, "step"), width(1, "kept"), width(2, "broken")];
-    let line = |cells: [&str; 4]| {
-        let [a, b, c] = widths;
-        format!("  {:>a$}  {:>b$}  {:>c$}  {}\n", cells[0], cells[1], cells[2], cells[3])
+    let heads = ["step", if sheet.written.is_empty() { "" } else { "line" }, "kept", "broken", "rule"];
+    let width = |column: usize| rows.iter().map(|row| row[column].len()).chain([heads[column].len()]).max().unwrap_or(0);
+    let widths = [width(0), width(1), width(2), width(3)];
+    let line = |cells: [&str; 5]| {
+        let [a, l, b, c] = widths;
+        // A sheet of bytes has no lines, and then there is no column for them.
+        let line = if l == 0 { String::new() } else { format!("  {:>l$}", cells[1]) };
+        format!("  {:>a$}{line}  {:>b$}  {:>c$}  {}\n", cells[0], cells[2], cells[3], cells[4])
     };
     let mut table = "Moves that kept and broke each step rule, of those before which its left side held:\n".to_string();
-    table += &line(["step", "kept", "broken", "rule"]);
-    rows.iter().for_each(|row| table += &line([&row[0], &row[1], &row[2], &row[3]]));
+    table += &line(heads);
+    rows.iter().for_each(|row| table += &line([&row[0], &row[1], &row[2], &row[3], &row[4]]));
     table
+}
+
+/// The line of a step rule, or nothing.
+fn line_of(sheet: &Sheet, at: usize) -> String {
+    sheet.written.get(&Rule::Step(at)).map(|written| written.line.to_string()).unwrap_or_default()
 }

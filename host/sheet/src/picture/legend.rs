@@ -1,5 +1,6 @@
 //! What the colours and signs mean, below the picture: only those that occur in it.
 
+use crate::model::Rule;
 use crate::picture::svg::{colours, escape, Picture};
 use crate::text::print;
 
@@ -37,9 +38,9 @@ pub fn lines(picture: &Picture<'_>) -> Vec<Note> {
         notes.push(note(Sign::Arrow("run"), "the sample run"));
         notes.push(note(Sign::Pill, "moments of the sample run"));
     }
-    for (at, &promise) in picture.sheet.promises.iter().enumerate() {
-        let name = print::literal(picture.sheet, promise);
-        notes.push(note(Sign::Star, &format!("{}: promise {} ({name}) is kept here", at + 1, at + 1)));
+    for at in 0..picture.sheet.promises.len() {
+        let name = print::named(picture.sheet, Rule::Promise(at));
+        notes.push(note(Sign::Star, &format!("{}: {name} is kept here", at + 1)));
     }
     notes
 }

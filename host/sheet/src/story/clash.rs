@@ -1,21 +1,11 @@
 //! Which rules leave no state: as few limits and rules as clash.
 //!
-//! That there is no such state is the judge's word; which rules forbid it is found here, by leaving out one after the other.
+//! That there is no such state is the judge's word; which rules forbid it is found here, by leaving out one after the other. What a moment has
+//! to meet are the limits, at first the first rules, and after a state the right sides of the step rules that ask something there.
 
-use crate::model::{any_true, is_true, Literal, Sheet, State};
+use crate::model::{any_true, is_true, Literal, Rule, Sheet, State};
 use crate::text::print;
 use std::cell::Cell;
-
-/// What one moment has to meet.
-#[derive(Clone, Copy, Debug, PartialEq, Eq)]
-pub enum Demand {
-    /// A limit.
-    Limit(usize),
-    /// A first rule.
-    First(usize),
-    /// The right side of a step rule.
-    Step(usize),
-}
 
 /// So many half-settled states are looked at in all; after that, what is left counts as needed.
 pub const PATIENCE: usize = 4_000_000;
@@ -25,19 +15,19 @@ const PATIENCE_AT_ONCE: usize = 200_000;
 const MOST_NAMED: usize = 24;
 
 /// The demands on a first state.
-pub fn on_first(sheet: &Sheet) -> Vec<Demand> {
-    (0..sheet.limits.len()).map(Demand::Limit).chain((0..sheet.first.len()).map(Demand::First)).collect()
+pub fn on_first(sheet: &Sheet) -> Vec<Rule> {
+    (0..sheet.limits.len()).map(Rule::Limit).chain((0..sheet.first.len()).map(Rule::First)).collect()
 }
 
 /// The demands on what follows a state.
-pub fn after(sheet: &Sheet, state: State) -> Vec<Demand> {
+pub fn after(sheet: &Sheet, state: State) -> Vec<Rule> {
     let asked = (0..sheet.steps.len()).filter(|&step| sheet.steps[step].asks(state));
-    (0..sheet.limits.len()).map(Demand::Limit).chain(asked.map(Demand::Step)).collect()
+    (0..sheet.limits.len()).map(Rule::Limit).chain(asked.map(Rule::Step)).collect()
 }
 
 /// Demands that clash and of which none can be left out. Two orders of leaving out are tried, and the shorter clash is told.
-pub fn smallest(sheet: &Sheet, demands: Vec<Demand>, patience: &Cell<usize>) -> Vec<Demand> {
-    let (limits, rules): (Vec<Demand>, Vec<Demand>) = demands.iter().partition(|demand| matches!(demand, Demand::Limit(_)));
+pub fn smallest(sheet: &Sheet, demands: Vec<Rule>, patience: &Cell<usize>) -> Vec<Rule> {
+    let (limits, rules): (Vec<Rule>, Vec<Rule>) = demands.iter().partition(|demand| matches!(demand, Rule::Limit(_)));
     let forward = needed(sheet, demands.clone(), patience, limits.iter().chain(&rules));
     let backward = needed(sheet, demands, patience, limits.iter().rev().chain(rules.iter().rev()));
     if forward.len() < backward.len() {
@@ -48,12 +38,12 @@ pub fn smallest(sheet: &Sheet, demands: Vec<Demand>, patience: &Cell<usize>) -> 
 }
 
 /// What is left when each demand in turn is left out wherever the rest still clash.
-fn needed<'d>(sheet: &Sheet, demands: Vec<Demand>, patience: &Cell<usize>, turns: impl Iterator<Item = &'d Demand>) -> Vec<Demand> {
+fn needed<'d>(sheet: &Sheet, demands: Vec<Rule>, patience: &Cell<usize>, turns: impl Iterator<Item = &'d Rule>) -> Vec<Rule> {
     let allowed = patience.get().min(PATIENCE_AT_ONCE);
     let mut search = Search { sheet, left: allowed };
     let mut needed = demands;
     for one in turns {
-        let without: Vec<Demand> = needed.iter().copied().filter(|other| other != one).collect();
+        let without: Vec<Rule> = needed.iter().copied().filter(|other| other != one).collect();
         if search.clash(&without) {
             needed = without;
         }
@@ -63,11 +53,11 @@ fn needed<'d>(sheet: &Sheet, demands: Vec<Demand>, patience: &Cell<usize>, turns
 }
 
 /// The demands in words, each line behind this margin; many stand one below the other.
-pub fn sentence(sheet: &Sheet, demands: &[Demand], margin: &str) -> String {
-    let names: Vec<String> = demands.iter().map(|&demand| name(sheet, demand)).collect();
+pub fn sentence(sheet: &Sheet, demands: &[Rule], margin: &str) -> String {
+    let names: Vec<String> = demands.iter().map(|&demand| print::named(sheet, demand)).collect();
     let said = match demands {
         [] => "The limits and rules leave no state.".to_string(),
-        [Demand::Step(step)] if sheet.steps[*step].right.is_empty() => format!("{} forbids a next moment.", capital(&names[0])),
+        [Rule::Step(step)] if sheet.steps[*step].right.is_empty() => format!("{} forbids a next moment.", capital(&names[0])),
         [_] => format!("{} can never be met.", capital(&names[0])),
         [_, _] => format!("{} and {} cannot be met together.", capital(&names[0]), names[1]),
         many if many.len() > MOST_NAMED => format!("The {} limits and rules that apply here cannot be met together.", many.len()),
@@ -81,15 +71,6 @@ pub fn capital(text: &str) -> String {
     text[..1].to_uppercase() + &text[1..]
 }
 
-/// A demand by its number and its text.
-fn name(sheet: &Sheet, demand: Demand) -> String {
-    match demand {
-        Demand::Limit(at) => format!("limit {} ({})", at + 1, print::limit(sheet, &sheet.limits[at])),
-        Demand::First(at) => format!("first rule {} ({})", at + 1, print::first(sheet, &sheet.first[at])),
-        Demand::Step(at) => format!("step {} ({})", at + 1, print::step(sheet, &sheet.steps[at])),
-    }
-}
-
 /// A search for a state, letter by letter, that gives up after some patience.
 struct Search<'s> {
     sheet: &'s Sheet,
@@ -98,7 +79,7 @@ struct Search<'s> {
 
 impl Search<'_> {
     /// Is it certain that no state meets all of these?
-    fn clash(&mut self, demands: &[Demand]) -> bool {
+    fn clash(&mut self, demands: &[Rule]) -> bool {
         let mut named = 0;
         for &demand in demands {
             self.list(demand).iter().for_each(|literal| named |= 1 << (literal.unsigned_abs() - 1));
@@ -106,16 +87,17 @@ impl Search<'_> {
         !self.some(demands, 0, named)
     }
 
-    fn list(&self, demand: Demand) -> &[Literal] {
+    fn list(&self, demand: Rule) -> &[Literal] {
         match demand {
-            Demand::Limit(at) => &self.sheet.limits[at].list,
-            Demand::First(at) => &self.sheet.first[at],
-            Demand::Step(at) => &self.sheet.steps[at].right,
+            Rule::Limit(at) => &self.sheet.limits[at].list,
+            Rule::First(at) => &self.sheet.first[at],
+            Rule::Step(at) => &self.sheet.steps[at].right,
+            Rule::Promise(at) => std::slice::from_ref(&self.sheet.promises[at]),
         }
     }
 
     /// May some state that settles the open letters meet all demands? True, too, when patience is at its end.
-    fn some(&mut self, demands: &[Demand], state: State, open: State) -> bool {
+    fn some(&mut self, demands: &[Rule], state: State, open: State) -> bool {
         if self.left == 0 {
             return true;
         }
@@ -131,10 +113,10 @@ impl Search<'_> {
     }
 
     /// Can the demand still be met?
-    fn possible(&self, demand: Demand, state: State, open: State) -> bool {
+    fn possible(&self, demand: Rule, state: State, open: State) -> bool {
         let list = self.list(demand);
         let is_open = |literal: Literal| open >> (literal.unsigned_abs() - 1) & 1 == 1;
-        let Demand::Limit(at) = demand else {
+        let Rule::Limit(at) = demand else {
             return any_true(list, state) || list.iter().any(|&literal| is_open(literal));
         };
         let settled = list.iter().filter(|&&literal| !is_open(literal) && is_true(literal, state)).count();

@@ -1,6 +1,6 @@
 //! Step rules that fight, and a search for them that found no room, in words. Rules are counted from 0 here and from 1 in the words.
 
-use crate::model::Sheet;
+use crate::model::{Rule, Sheet};
 use crate::plan::Trial;
 use crate::proved::MOST_STATES;
 use crate::story::{clash, count};
@@ -35,12 +35,15 @@ fn one(of: usize) -> String {
 
 /// The rules, a line for each, and an empty line behind them.
 fn rules(sheet: &Sheet, chosen: &[usize]) -> String {
-    let Some(last) = chosen.last() else {
+    if chosen.is_empty() {
         return String::new();
-    };
-    let width = (last + 1).to_string().len();
-    let lines = chosen.iter().map(|&rule| format!("  step {:>width$}: {}\n", rule + 1, print::step(sheet, &sheet.steps[rule])));
-    lines.collect::<String>() + "\n"
+    }
+    listed(sheet, chosen.iter().map(|&rule| Rule::Step(rule))) + "\n"
+}
+
+/// Rules one below the other, each with its number, its line and its text.
+pub fn listed(sheet: &Sheet, rules: impl IntoIterator<Item = Rule>) -> String {
+    rules.into_iter().map(|rule| format!("  {}: {}\n", print::numbered(sheet, rule), print::rule(sheet, rule))).collect()
 }
 
 /// What is said of the rules that do not fight here.
@@ -75,7 +78,7 @@ pub fn crowded(sheet: &Sheet, trial: &Trial) -> String {
 
 /// A rule by its number and its text.
 fn name(sheet: &Sheet, rule: usize) -> String {
-    format!("step {} ({})", rule + 1, print::step(sheet, &sheet.steps[rule]))
+    print::named(sheet, Rule::Step(rule))
 }
 
 /// Rules by their numbers, those in a row as `2 to 5`.

@@ -1,6 +1,6 @@
 //! The strike list as a story by rounds.
 
-use crate::model::{Sheet, State};
+use crate::model::{Rule, Sheet, State};
 use crate::paper::REASONS;
 use crate::story::{clash, count};
 use crate::text::print;
@@ -84,10 +84,10 @@ impl Story<'_> {
             (0, 1) => format!("    From {these} there is no way on:\n{}", self.dead_ends(states)),
             (0, _) => format!("    From {these} every way on leads to a struck state:\n{}", self.led_astray(states)),
             (promise, _) => {
-                let literal = print::literal(self.sheet, self.sheet.promises[promise as usize - 1]);
+                let name = print::named(self.sheet, Rule::Promise(promise as usize - 1));
                 let shown = self.shown(states).map(|&state| format!("      {}\n", print::state(self.sheet, state)));
                 let shown: String = shown.collect();
-                format!("    From {these} promise {promise} ({literal}) can no longer be kept:\n{shown}{}", self.more(states))
+                format!("    From {these} {name} can no longer be kept:\n{shown}{}", self.more(states))
             }
         }
     }

@@ -102,6 +102,12 @@ impl<'t> Line<'t> {
         Fault { place: Some(place), ..Fault::whole(said) }
     }
 
+    /// The words behind the first, as they are written, but for spaces and comments.
+    pub fn behind_the_first(&self) -> String {
+        let words = self.words.iter().skip(1).map(|word| if word.text == "," { ",".to_string() } else { format!(" {}", word.text) });
+        words.collect::<String>().trim_start().to_string()
+    }
+
     /// The line with its first word the next.
     pub fn from_start(&self) -> Line<'t> {
         Line { next: 0, ..self.clone() }

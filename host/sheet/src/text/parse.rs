@@ -1,6 +1,6 @@
 //! From text to a sheet, or to its faults: one for each bad line.
 
-use crate::model::{Limit, Literal, Sheet, Step};
+use crate::model::{Limit, Literal, Rule, Sheet, Step, Written};
 use crate::text::fault::Fault;
 use crate::text::line::{lines, Line};
 use crate::text::names;
@@ -73,32 +73,39 @@ fn letters(mut line: Line<'_>) -> Result<Vec<String>, Fault> {
 
 /// Takes in one record; how many bytes it has.
 fn read_record(line: &mut Line<'_>, sheet: &mut Sheet, letters_line: usize) -> Result<usize, Fault> {
+    let (rule, bytes) = add_record(line, sheet, letters_line)?;
+    sheet.written.insert(rule, Written { line: line.number, text: line.behind_the_first() });
+    Ok(bytes)
+}
+
+/// Adds one record to those of its kind; which it is, and how many bytes it has.
+fn add_record(line: &mut Line<'_>, sheet: &mut Sheet, letters_line: usize) -> Result<(Rule, usize), Fault> {
     match line.take() {
         Some("limit") => {
             let limit = limit(line, &sheet.names)?;
             let bytes = 3 + limit.list.len();
             sheet.limits.push(limit);
             fits(line, sheet.limits.len(), MOST_LIMITS.into(), "limit")?;
-            Ok(bytes)
+            Ok((Rule::Limit(sheet.limits.len() - 1), bytes))
         }
         Some("first") => {
             let rule = list(line, &sheet.names, &OR)?;
             let bytes = 1 + rule.len();
             sheet.first.push(rule);
             fits(line, sheet.first.len(), MOST_RULES, "first rule")?;
-            Ok(bytes)
+            Ok((Rule::First(sheet.first.len() - 1), bytes))
         }
         Some("step") => {
             let step = step(line, &sheet.names)?;
             let bytes = 2 + step.left.len() + step.right.len();
             sheet.steps.push(step);
             fits(line, sheet.steps.len(), MOST_RULES, "step rule")?;
-            Ok(bytes)
+            Ok((Rule::Step(sheet.steps.len() - 1), bytes))
         }
         Some("promise") => {
             sheet.promises.push(promise(line, &sheet.names)?);
             fits(line, sheet.promises.len(), MOST_PROMISES.into(), "promise")?;
-            Ok(2)
+            Ok((Rule::Promise(sheet.promises.len() - 1), 2))
         }
         Some("letters") => {
             Err(line.from_start().fault(format!("the letters are named in line {letters_line}")).expected("all names in that line"))

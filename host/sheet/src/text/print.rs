@@ -1,38 +1,58 @@
 //! From a sheet to its text, and single records, literals and states in the text's words.
 
-use crate::model::{Limit, Literal, Sheet, State, Step};
+use crate::model::{Limit, Literal, Rule, Sheet, State, Step};
 
 /// The whole sheet as text; reading it gives the same sheet.
 pub fn print(sheet: &Sheet) -> String {
-    let mut text = format!("letters {}\n", sheet.names.join(", "));
-    for at in 0..sheet.limits.len() {
-        text += &format!("limit {}\n", limit(sheet, &sheet.limits[at]));
+    let lines = sheet.rules().into_iter().map(|one| {
+        // The first word of a first rule's line is `first`; in every other kind it is the kind.
+        let first_word = one.kind().split(' ').next().unwrap_or_default();
+        format!("{first_word} {}\n", rule(sheet, one))
+    });
+    format!("letters {}\n{}", sheet.names.join(", "), lines.collect::<String>())
+}
+
+/// A rule without its first word, in the writer's words if it was read from a text.
+pub fn rule(sheet: &Sheet, rule: Rule) -> String {
+    match (sheet.written.get(&rule), rule) {
+        (Some(written), _) => written.text.clone(),
+        (None, Rule::Limit(at)) => limit(sheet, &sheet.limits[at]),
+        (None, Rule::First(at)) => first(sheet, &sheet.first[at]),
+        (None, Rule::Step(at)) => step(sheet, &sheet.steps[at]),
+        (None, Rule::Promise(at)) => literal(sheet, sheet.promises[at]),
     }
-    for rule in &sheet.first {
-        text += &format!("first {}\n", first(sheet, rule));
-    }
-    for rule in &sheet.steps {
-        text += &format!("step {}\n", step(sheet, rule));
-    }
-    for &promise in &sheet.promises {
-        text += &format!("promise {}\n", literal(sheet, promise));
-    }
-    text
+}
+
+/// A rule by its number and its line, such as `step 2, line 15`; without a line if it was read from bytes.
+pub fn numbered(sheet: &Sheet, rule: Rule) -> String {
+    let line = sheet.written.get(&rule).map(|written| format!(", line {}", written.line)).unwrap_or_default();
+    format!("{} {}{line}", rule.kind(), rule.number())
+}
+
+/// A rule within a sentence: its number and line, its text behind them.
+pub fn named(sheet: &Sheet, one: Rule) -> String {
+    format!("{} ({})", numbered(sheet, one), rule(sheet, one))
+}
+
+/// That a rule is broken, and what it says.
+pub fn broken(sheet: &Sheet, one: Rule) -> String {
+    let comma = if sheet.written.contains_key(&one) { "," } else { "" };
+    format!("{}{comma} is broken: {}", numbered(sheet, one), rule(sheet, one))
 }
 
 /// A limit without its first word.
-pub fn limit(sheet: &Sheet, limit: &Limit) -> String {
+fn limit(sheet: &Sheet, limit: &Limit) -> String {
     let kind = if limit.exactly { "exactly" } else { "at most" };
     format!("{kind} {} of {}", limit.bound, list(sheet, &limit.list, ", ", "nothing"))
 }
 
 /// A first rule without its first word.
-pub fn first(sheet: &Sheet, rule: &[Literal]) -> String {
+fn first(sheet: &Sheet, rule: &[Literal]) -> String {
     list(sheet, rule, " or ", "nothing")
 }
 
 /// A step rule without its first word.
-pub fn step(sheet: &Sheet, step: &Step) -> String {
+fn step(sheet: &Sheet, step: &Step) -> String {
     format!("{} leads to {}", list(sheet, &step.left, " and ", "always"), list(sheet, &step.right, " or ", "nothing"))
 }
 
