@@ -84,6 +84,8 @@ pub struct Sheet {
     pub promises: Vec<Literal>,
     /// How its rules stand in their text; of a sheet that was read from bytes, nothing.
     pub written: BTreeMap<Rule, Written>,
+    /// The line of the text that names its letters, counted from 1.
+    pub letters_line: Option<usize>,
 }
 
 /// Is the literal true in the state?
@@ -143,7 +145,7 @@ impl Sheet {
 
     /// The sheet with only the rules that are kept; each stays as it is written.
     pub fn only(&self, keep: impl Fn(Rule) -> bool) -> Sheet {
-        let mut sheet = Sheet { names: self.names.clone(), ..Sheet::default() };
+        let mut sheet = Sheet { names: self.names.clone(), letters_line: self.letters_line, ..Sheet::default() };
         for rule in self.rules().into_iter().filter(|&rule| keep(rule)) {
             let new = match rule {
                 Rule::Limit(at) => Rule::Limit(added(&mut sheet.limits, &self.limits[at])),
@@ -165,7 +167,7 @@ impl Sheet {
 
     /// What the sheet says, without how it is written.
     pub fn unwritten(&self) -> Sheet {
-        Sheet { written: BTreeMap::new(), ..self.clone() }
+        Sheet { written: BTreeMap::new(), letters_line: None, ..self.clone() }
     }
 
     /// The first limit, counted from 0, that does not hold in the state.

@@ -36,6 +36,11 @@ impl Colour {
         self.paint("1;31", text)
     }
 
+    /// Yellow and bold.
+    pub fn yellow(self, text: &str) -> String {
+        self.paint("1;33", text)
+    }
+
     /// Green and bold.
     pub fn green(self, text: &str) -> String {
         self.paint("1;32", text)
@@ -117,10 +122,45 @@ impl Default for Page {
 }
 
 impl Page {
+    /// What this command found is not what the proved library says. That cannot be as long as this command writes sheets rightly.
+    pub fn went_wrong(&mut self, file: &str, said: &str) {
+        self.say(&format!("{file}: this command went wrong: {said}; please show this sheet to the makers\n"));
+        self.raise(BAD);
+    }
+
     /// Says why there is no sheet.
     pub fn trouble(&mut self, trouble: &crate::input::Trouble) {
         self.say(&trouble.message);
         self.raise(trouble.status);
+    }
+}
+
+/// Does something that may take long and cannot say how far it is. On a terminal, from its second second on, tells how long it takes; the
+/// line goes away at the end.
+pub fn with_clock<T>(what: &str, work: impl FnOnce() -> T) -> T {
+    if !std::io::stderr().is_terminal() {
+        return work();
+    }
+    let (done, waiting) = std::sync::mpsc::channel::<()>();
+    std::thread::scope(|scope| {
+        scope.spawn(move || tick(what, &waiting));
+        let result = work();
+        // The ticker waits for a message and sees that nobody is left who could send one.
+        drop(done);
+        result
+    })
+}
+
+/// Tells the seconds on one line, again and again, until the work is done.
+fn tick(what: &str, waiting: &std::sync::mpsc::Receiver<()>) {
+    let (begun, mut width) = (Instant::now(), 0);
+    while waiting.recv_timeout(Duration::from_secs(1)) == Err(std::sync::mpsc::RecvTimeoutError::Timeout) {
+        let line = format!("{what}: {} s so far", begun.elapsed().as_secs());
+        width = line.len();
+        let _ = write!(std::io::stderr().lock(), "\r{line}");
+    }
+    if width > 0 {
+        let _ = write!(std::io::stderr().lock(), "\r{}\r", " ".repeat(width));
     }
 }
 

@@ -20,6 +20,14 @@ pub enum Plan {
     Crowded(Trial),
     /// With these rules alone the sheet cannot be kept, and with each single one left out it can.
     Fight(Vec<usize>),
+    /// Whoever asked wanted no more trials.
+    Stopped,
+}
+
+/// Why the trials ended before their end.
+enum End {
+    Crowded(Trial),
+    Stopped,
 }
 
 /// A sheet that was tried: without the rules dropped so far, and without one more.
@@ -41,24 +49,27 @@ pub enum Stage {
 }
 
 /// Drops rules from the last to the first wherever the sheet still cannot be kept, then tries the choice with each rule left out. Tells each
-/// of these trials before it is made.
-pub fn plan(source: &Source, room: &mut Room, tell: &mut impl FnMut(Stage)) -> Plan {
+/// of these trials before it is made, and makes it only if it is told to go on.
+pub fn plan(source: &Source, room: &mut Room, go_on: &mut impl FnMut(Stage) -> bool) -> Plan {
     match room.answer(&source.bytes) {
         MORE_STATES => Plan::Crowded(Trial { dropped: Vec::new(), left_out: None }),
         CAN_BE_KEPT => Plan::Kept,
-        _ => match needed(source, room, tell).and_then(|chosen| each_left_out(source, chosen, room, tell)) {
+        _ => match needed(source, room, go_on).and_then(|chosen| each_left_out(source, chosen, room, go_on)) {
             Ok(chosen) => Plan::Fight(chosen),
-            Err(trial) => Plan::Crowded(trial),
+            Err(End::Crowded(trial)) => Plan::Crowded(trial),
+            Err(End::Stopped) => Plan::Stopped,
         },
     }
 }
 
 /// The rules that are left when each, from the last to the first, is dropped wherever the rest cannot be kept; or the trial without room.
-fn needed(source: &Source, room: &mut Room, tell: &mut impl FnMut(Stage)) -> Result<Vec<usize>, Trial> {
+fn needed(source: &Source, room: &mut Room, go_on: &mut impl FnMut(Stage) -> bool) -> Result<Vec<usize>, End> {
     let rules = source.sheet.steps.len();
     let mut chosen: Vec<usize> = (0..rules).collect();
     for rule in (0..rules).rev() {
-        tell(Stage::Dropping(rule + 1, rules));
+        if !go_on(Stage::Dropping(rule + 1, rules)) {
+            return Err(End::Stopped);
+        }
         if answer_without(source, &chosen, rule, room)? == CANNOT_BE_KEPT {
             chosen = without(&chosen, rule);
         }
@@ -68,21 +79,23 @@ fn needed(source: &Source, room: &mut Room, tell: &mut impl FnMut(Stage)) -> Res
 
 /// The same choice, if there is room to judge it with each rule left out. With fewer of the other rules than before, a rule that was needed
 /// is needed still, but more states may be reached.
-fn each_left_out(source: &Source, chosen: Vec<usize>, room: &mut Room, tell: &mut impl FnMut(Stage)) -> Result<Vec<usize>, Trial> {
+fn each_left_out(source: &Source, chosen: Vec<usize>, room: &mut Room, go_on: &mut impl FnMut(Stage) -> bool) -> Result<Vec<usize>, End> {
     for (at, &rule) in chosen.iter().enumerate() {
-        tell(Stage::LeavingOut(at + 1, chosen.len()));
+        if !go_on(Stage::LeavingOut(at + 1, chosen.len())) {
+            return Err(End::Stopped);
+        }
         answer_without(source, &chosen, rule, room)?;
     }
     Ok(chosen)
 }
 
 /// The judge's answer for the chosen rules without this one, or the trial if there is no room.
-fn answer_without(source: &Source, chosen: &[usize], rule: usize, room: &mut Room) -> Result<u32, Trial> {
+fn answer_without(source: &Source, chosen: &[usize], rule: usize, room: &mut Room) -> Result<u32, End> {
     let sheet = source.sheet.with_steps(&without(chosen, rule));
     match room.answer(&bytes::write(&sheet)) {
         MORE_STATES => {
             let dropped = (0..source.sheet.steps.len()).filter(|other| !chosen.contains(other)).collect();
-            Err(Trial { dropped, left_out: Some(rule) })
+            Err(End::Crowded(Trial { dropped, left_out: Some(rule) }))
         }
         answer => Ok(answer),
     }

@@ -7,19 +7,24 @@
 use plain::edges::edges;
 use plain::make::{random_sheet, Rng, DAMAGES};
 use plain::rules::Rules;
+use sheet::brief::{self, Brief, Fight};
 use sheet::explain;
 use sheet::input::Source;
+use sheet::mends;
+use sheet::model::{is_true, Rule, State};
 use sheet::paper::{self, Paper};
 use sheet::picture::graph::explore;
 use sheet::plan::{plan, Plan};
 use sheet::proved::Room;
+use sheet::story;
 use sheet::text::{names, parse, print};
 use sheet::{bytes, proved};
+use std::collections::BTreeSet;
 
 /// A part of the test: so many sheets; what is wrong, if something is.
 type Part = (&'static str, fn(&mut Rng, usize) -> Result<String, String>);
 
-const PARTS: [Part; 7] = [
+const PARTS: [Part; 9] = [
     ("bytes to text and back", round_trip),
     ("damaged text", damaged_text),
     ("damaged bytes", damaged_bytes),
@@ -27,6 +32,8 @@ const PARTS: [Part; 7] = [
     ("reasons against papers", reasons),
     ("states struck in pictures", pictures),
     ("rules that fight", fights),
+    ("what mends a sheet", mended),
+    ("verdicts in brief", in_brief),
 ];
 
 fn main() {
@@ -291,11 +298,11 @@ fn fights(rng: &mut Rng, sheets: usize) -> Result<String, String> {
     let mut seen = [0; 3];
     for _ in 0..sheets / 100 {
         let source = source(rng, 6);
-        let plan = plan(&source, &mut room, &mut |_| ());
+        let plan = plan(&source, &mut room, &mut |_| true);
         let (answer, marked) = room.clash(&source.bytes);
         let same = match &plan {
             Plan::Kept => answer == 12 && marked.is_empty(),
-            Plan::Crowded(_) => false,
+            Plan::Crowded(_) | Plan::Stopped => false,
             Plan::Fight(chosen) => {
                 let found: Vec<u32> = chosen.iter().map(|&rule| rule as u32 + 1).collect();
                 answer == 0 && marked == found && room.check_clash(&source.bytes, &found) == 0
@@ -310,4 +317,82 @@ fn fights(rng: &mut Rng, sheets: usize) -> Result<String, String> {
         return Err(format!("saw {seen:?}"));
     }
     Ok(format!("{} sheets that can be kept, {} without a rule that fights, {} with some", seen[0], seen[1], seen[2]))
+}
+
+/// Can the sheet with only the rules that are kept be kept?
+fn can_be_kept(source: &Source, keep: impl Fn(Rule) -> bool) -> bool {
+    proved::judge(&bytes::write(&source.sheet.only(keep))).numbers.answer == 0
+}
+
+/// The rules that fight, with what they fight against, cannot be kept, and with any one of all these left out they can. Exactly those rules
+/// mend a sheet without which it can be kept.
+fn mended(rng: &mut Rng, sheets: usize) -> Result<String, String> {
+    let (mut room, mut seen) = (Room::new(), [0; 3]);
+    for _ in 0..sheets / 200 {
+        let source = source(rng, 6);
+        let Plan::Fight(chosen) = plan(&source, &mut room, &mut |_| true) else { continue };
+        let against = mends::against(&source, &chosen, &mut room, &mut |_, _| ());
+        let all: Vec<Rule> = chosen.iter().map(|&step| Rule::Step(step)).chain(against.yes.iter().copied()).collect();
+        let needed = !can_be_kept(&source, |rule| all.contains(&rule))
+            && all.iter().all(|&left| can_be_kept(&source, |rule| rule != left && all.contains(&rule)));
+        let told = mends::mends(&source, &all, &mut room, &mut |_, _| ());
+        let mends = source.sheet.rules().into_iter().filter(|&left| can_be_kept(&source, |rule| rule != left));
+        let same = told.yes.iter().copied().collect::<BTreeSet<_>>() == mends.collect();
+        if !needed || !same || !against.unknown.is_empty() || !told.unknown.is_empty() {
+            return Err(format!("{chosen:?} against {against:?}, mended by {told:?}\n{}", print::print(&source.sheet)));
+        }
+        seen[told.yes.len().min(2)] += 1;
+    }
+    if seen.contains(&0) {
+        return Err(format!("saw {seen:?}"));
+    }
+    Ok(format!("{} sheets that no rule mends, {} that one does, {} that any one of several does", seen[0], seen[1], seen[2]))
+}
+
+/// A verdict in brief has at most 24 lines, so that a line for warnings fits the screen, too. The rules behind a promise hold its states, and
+/// without any one of them they do not.
+fn in_brief(rng: &mut Rng, sheets: usize) -> Result<String, String> {
+    let (mut seen, mut longest) = ([0; 2], 0);
+    for _ in 0..sheets / 100 {
+        let source = source(rng, 6);
+        let judged = proved::judge(&source.bytes);
+        if judged.numbers.answer != 13 {
+            continue;
+        }
+        let brief = brief::of(&source, &judged, 60);
+        // The verdict's own line stands before, and behind it an empty one and the one that tells where more is told.
+        let lines = 3 + story::brief::tell(&source.sheet, &brief).lines().count();
+        longest = longest.max(lines);
+        if lines > 24 || !holds(&source, &judged, &brief) || !matches!(brief.fight, Fight::Rules(_) | Fight::NotAsked) {
+            return Err(format!("{lines} lines, {brief:?}\n{}", print::print(&source.sheet)));
+        }
+        seen[usize::from(brief.unkept.is_some())] += 1;
+    }
+    if seen.contains(&0) {
+        return Err(format!("saw {seen:?}"));
+    }
+    Ok(format!("{} without a promise that fails, {} with one; at most {longest} lines", seen[0], seen[1]))
+}
+
+/// Are the rules behind a promise right? Looked at state by state.
+fn holds(source: &Source, judged: &proved::Judged, brief: &Brief) -> bool {
+    let Some(unkept) = &brief.unkept else { return true };
+    let word = judged.words[judged.table.iter().position(|&state| state == unkept.state).expect("a struck state")];
+    let before: BTreeSet<State> = judged.table.iter().zip(&judged.words).filter(|(_, &w)| w < word).map(|(&s, _)| s).collect();
+    let inside = judged.table.iter().zip(&judged.words).filter(|(_, &w)| w == word).map(|(&s, _)| s);
+    let inside: Vec<State> = inside.collect();
+    let held = |steps: &[usize]| {
+        let (mut seen, mut open) = (inside.iter().copied().collect::<BTreeSet<State>>(), inside.clone());
+        while let Some(from) = open.pop() {
+            for to in 0..1 << source.sheet.names.len() {
+                let moves = steps.iter().all(|&step| !source.sheet.steps[step].asks(from) || source.sheet.steps[step].met(to));
+                if moves && source.sheet.broken_limit(to).is_none() && !before.contains(&to) && seen.insert(to) {
+                    open.push(to);
+                }
+            }
+        }
+        !seen.iter().any(|&state| is_true(source.sheet.promises[unkept.promise], state))
+    };
+    let without = |rule: usize| -> Vec<usize> { unkept.rules.iter().copied().filter(|&other| other != rule).collect() };
+    unkept.certain && held(&unkept.rules) && unkept.rules.iter().all(|&rule| !held(&without(rule)))
 }

@@ -1,7 +1,7 @@
 //! Which rules leave no state: as few limits and rules as clash.
 //!
-//! That there is no such state is the judge's word; which rules forbid it is found here, by leaving out one after the other. What a moment has
-//! to meet are the limits, at first the first rules, and after a state the right sides of the step rules that ask something there.
+//! That there is no such state is the judge's word; which rules forbid it is found here, by leaving out one after the other. What a moment
+//! has to meet are the limits, at first the first rules, and after a state the right sides of the step rules that ask something there.
 
 use crate::model::{any_true, is_true, Literal, Rule, Sheet, State};
 use crate::text::print;
@@ -11,8 +11,8 @@ use std::cell::Cell;
 pub const PATIENCE: usize = 4_000_000;
 /// So many of them for one order of leaving out.
 const PATIENCE_AT_ONCE: usize = 200_000;
-/// More demands than this are counted, not named.
-const MOST_NAMED: usize = 24;
+/// So many demands are named where a strike list is told in full; more are counted.
+pub const MOST_NAMED: usize = 24;
 
 /// The demands on a first state.
 pub fn on_first(sheet: &Sheet) -> Vec<Rule> {
@@ -52,16 +52,22 @@ fn needed<'d>(sheet: &Sheet, demands: Vec<Rule>, patience: &Cell<usize>, turns: 
     needed
 }
 
-/// The demands in words, each line behind this margin; many stand one below the other.
-pub fn sentence(sheet: &Sheet, demands: &[Rule], margin: &str) -> String {
+/// The demands in words, each line behind this margin; many stand one below the other, and at most so many are named.
+pub fn sentence(sheet: &Sheet, demands: &[Rule], margin: &str, most: usize) -> String {
     let names: Vec<String> = demands.iter().map(|&demand| print::named(sheet, demand)).collect();
     let said = match demands {
         [] => "The limits and rules leave no state.".to_string(),
         [Rule::Step(step)] if sheet.steps[*step].right.is_empty() => format!("{} forbids a next moment.", capital(&names[0])),
         [_] => format!("{} can never be met.", capital(&names[0])),
         [_, _] => format!("{} and {} cannot be met together.", capital(&names[0]), names[1]),
-        many if many.len() > MOST_NAMED => format!("The {} limits and rules that apply here cannot be met together.", many.len()),
-        _ => format!("These cannot be met together:\n{margin}  {}", names.join(&format!("\n{margin}  "))),
+        many => {
+            let shown = if many.len() > most { most - 1 } else { many.len() };
+            let more = match many.len() - shown {
+                0 => String::new(),
+                more => format!("\n{margin}  .. and {more} more"),
+            };
+            format!("These cannot be met together:\n{margin}  {}{more}", names[..shown].join(&format!("\n{margin}  ")))
+        }
     };
     format!("{margin}{said}\n")
 }

@@ -1,5 +1,6 @@
 //! The judge's papers in words.
 
+pub mod brief;
 pub mod clash;
 pub mod fight;
 pub mod run;

@@ -29,7 +29,7 @@ struct Story<'s> {
 pub fn tell(sheet: &Sheet, rules: &Rules, states: &[State], words: &[u32], all: bool) -> String {
     if states.is_empty() {
         let clash = clash::smallest(sheet, clash::on_first(sheet), &Cell::new(clash::PATIENCE));
-        return format!("  There is no first state.\n{}", clash::sentence(sheet, &clash, "  "));
+        return format!("  There is no first state.\n{}", clash::sentence(sheet, &clash, "  ", clash::MOST_NAMED));
     }
     let story = Story {
         sheet,
@@ -111,7 +111,7 @@ impl Story<'_> {
             let asked: Vec<usize> = (0..self.sheet.steps.len()).filter(|&step| self.sheet.steps[step].asks(state)).collect();
             let why = found.entry(asked).or_insert_with(|| {
                 let clash = clash::smallest(self.sheet, clash::after(self.sheet, state), &self.patience);
-                clash::sentence(self.sheet, &clash, "        ")
+                clash::sentence(self.sheet, &clash, "        ", clash::MOST_NAMED)
             });
             match gathered.iter_mut().find(|(other, _)| other == why) {
                 Some((_, group)) => group.push(state),

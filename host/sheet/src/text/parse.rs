@@ -18,7 +18,8 @@ pub fn parse(text: &str) -> Result<Sheet, Vec<Fault>> {
     let Some(line) = lines.next() else {
         return Err(vec![Fault::whole("this text names no letters").expected("`letters NAME, NAME, ..` as its first line")]);
     };
-    let mut sheet = Sheet { names: letters(line.clone()).map_err(|fault| vec![fault])?, ..Sheet::default() };
+    let names = letters(line.clone()).map_err(|fault| vec![fault])?;
+    let mut sheet = Sheet { names, letters_line: Some(line.number), ..Sheet::default() };
     let (mut faults, mut size) = (Vec::new(), HEADER);
     for mut record in lines {
         match read_record(&mut record, &mut sheet, line.number) {
