@@ -8,7 +8,7 @@ use crate::bytes;
 use crate::input::Source;
 use crate::model::{is_true, Limit, Literal, Rule, Sheet, State};
 use crate::paper::REASONS;
-use crate::plan::{plan, Plan, Stage, Trial};
+use crate::plan::{plan_of_struck, Plan, Stage, Trial};
 use crate::proved::{Judged, Room};
 use crate::reach::{self, Effort, Found};
 use crate::story::clash;
@@ -100,7 +100,7 @@ pub fn reasons(source: &Source, judged: &Judged) -> Brief {
 /// The step rules that fight, put to the proved check.
 fn fight(source: &Source, until: Instant, seconds: u64) -> Fight {
     let mut room = Room::new();
-    match plan(source, &mut room, &mut |_: Stage| Instant::now() < until) {
+    match plan_of_struck(source, &mut room, &mut |_: Stage| Instant::now() < until) {
         Plan::Fight(chosen) => {
             let numbers: Vec<u32> = chosen.iter().map(|&rule| rule as u32 + 1).collect();
             match room.check_clash(&source.bytes, &numbers) {
@@ -110,7 +110,7 @@ fn fight(source: &Source, until: Instant, seconds: u64) -> Fight {
         }
         Plan::Crowded(trial) => Fight::Crowded(trial),
         Plan::Stopped => Fight::Stopped(seconds),
-        Plan::Kept => Fight::Unaccepted("the judge says now that the sheet can be kept".to_string()),
+        Plan::Kept => Fight::Unaccepted("the sheet can be kept after all".to_string()),
     }
 }
 

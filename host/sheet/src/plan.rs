@@ -54,11 +54,16 @@ pub fn plan(source: &Source, room: &mut Room, go_on: &mut impl FnMut(Stage) -> b
     match room.answer(&source.bytes) {
         MORE_STATES => Plan::Crowded(Trial { dropped: Vec::new(), left_out: None }),
         CAN_BE_KEPT => Plan::Kept,
-        _ => match needed(source, room, go_on).and_then(|chosen| each_left_out(source, chosen, room, go_on)) {
-            Ok(chosen) => Plan::Fight(chosen),
-            Err(End::Crowded(trial)) => Plan::Crowded(trial),
-            Err(End::Stopped) => Plan::Stopped,
-        },
+        _ => plan_of_struck(source, room, go_on),
+    }
+}
+
+/// The same for a sheet that cannot be kept, as is known already.
+pub fn plan_of_struck(source: &Source, room: &mut Room, go_on: &mut impl FnMut(Stage) -> bool) -> Plan {
+    match needed(source, room, go_on).and_then(|chosen| each_left_out(source, chosen, room, go_on)) {
+        Ok(chosen) => Plan::Fight(chosen),
+        Err(End::Crowded(trial)) => Plan::Crowded(trial),
+        Err(End::Stopped) => Plan::Stopped,
     }
 }
 

@@ -349,8 +349,8 @@ fn mended(rng: &mut Rng, sheets: usize) -> Result<String, String> {
     Ok(format!("{} sheets that no rule mends, {} that one does, {} that any one of several does", seen[0], seen[1], seen[2]))
 }
 
-/// A verdict in brief has at most 24 lines, so that a line for warnings fits the screen, too. The rules behind a promise hold its states, and
-/// without any one of them they do not.
+/// A verdict in brief has at most 24 lines, so that a line for warnings fits the screen, too. The rules behind a promise hold its states,
+/// and without any one of them they do not.
 fn in_brief(rng: &mut Rng, sheets: usize) -> Result<String, String> {
     let (mut seen, mut longest) = ([0; 2], 0);
     for _ in 0..sheets / 100 {

@@ -49,10 +49,15 @@ fn fighting(sheet: &Sheet, found: &Fight) -> String {
 
 /// Why there was no room to find the rules that fight.
 fn no_room(sheet: &Sheet, trial: &Trial) -> String {
-    match trial.left_out {
-        Some(rule) => format!("without {} there is no room to judge it.", print::named(sheet, Rule::Step(rule))),
-        None => "there is no room to judge it.".to_string(),
-    }
+    let Some(rule) = trial.left_out else {
+        return "there is no room to judge the sheet.".to_string();
+    };
+    let dropped = match trial.dropped.len() {
+        0 => String::new(),
+        1 => " and another rule".to_string(),
+        many => format!(" and {many} others"),
+    };
+    format!("without {}{dropped}, there is no room to judge.", print::named(sheet, Rule::Step(rule)))
 }
 
 /// The first state with no way on, and the rules that forbid one.

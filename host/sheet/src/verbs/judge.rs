@@ -198,8 +198,9 @@ fn more(source: &Source, brief: &Brief) -> String {
         Fight::Stopped(_) => "goes on looking for the rules that fight",
         _ => "tells what mends the sheet",
     };
+    let file = if source.name == input::shown("-") { "-" } else { &source.name };
     let rounds = if brief.no_first.is_none() { "; --all tells every round" } else { "" };
-    format!("\nMore: bin/sheet clash {} {tells}{rounds}.\n", source.name)
+    format!("\nMore: bin/sheet clash {file} {tells}{rounds}.\n")
 }
 
 /// Writes the paper as text.
