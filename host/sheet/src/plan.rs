@@ -82,6 +82,21 @@ fn needed(source: &Source, room: &mut Room, go_on: &mut impl FnMut(Stage) -> boo
     Ok(chosen)
 }
 
+/// Fewer rules that cannot be kept, for a sheet in whose search there was no room: each, from the last to the first, is dropped wherever
+/// the judge says that the rest cannot be kept. Where there is no room to say it stays, so some of them may not be needed.
+pub fn narrowed(source: &Source, room: &mut Room, tell: &mut impl FnMut(Stage)) -> Vec<usize> {
+    let rules = source.sheet.steps.len();
+    let mut chosen: Vec<usize> = (0..rules).collect();
+    for rule in (0..rules).rev() {
+        tell(Stage::Dropping(rule + 1, rules));
+        let rest = without(&chosen, rule);
+        if room.answer(&bytes::write(&source.sheet.with_steps(&rest))) == CANNOT_BE_KEPT {
+            chosen = rest;
+        }
+    }
+    chosen
+}
+
 /// The same choice, if there is room to judge it with each rule left out. With fewer of the other rules than before, a rule that was needed
 /// is needed still, but more states may be reached.
 fn each_left_out(source: &Source, chosen: Vec<usize>, room: &mut Room, go_on: &mut impl FnMut(Stage) -> bool) -> Result<Vec<usize>, End> {

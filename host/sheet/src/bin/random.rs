@@ -14,7 +14,7 @@ use sheet::mends;
 use sheet::model::{is_true, Rule, State};
 use sheet::paper::{self, Paper};
 use sheet::picture::graph::explore;
-use sheet::plan::{plan, Plan};
+use sheet::plan::{narrowed, plan, Plan};
 use sheet::proved::Room;
 use sheet::story;
 use sheet::text::{names, parse, print};
@@ -325,7 +325,7 @@ fn can_be_kept(source: &Source, keep: impl Fn(Rule) -> bool) -> bool {
 }
 
 /// The rules that fight, with what they fight against, cannot be kept, and with any one of all these left out they can. Exactly those rules
-/// mend a sheet without which it can be kept.
+/// mend a sheet without which it can be kept. Where there is room, narrowing leaves just the rules that fight.
 fn mended(rng: &mut Rng, sheets: usize) -> Result<String, String> {
     let (mut room, mut seen) = (Room::new(), [0; 3]);
     for _ in 0..sheets / 200 {
@@ -337,7 +337,8 @@ fn mended(rng: &mut Rng, sheets: usize) -> Result<String, String> {
             && all.iter().all(|&left| can_be_kept(&source, |rule| rule != left && all.contains(&rule)));
         let told = mends::mends(&source, &all, &mut room, &mut |_, _| ());
         let mends = source.sheet.rules().into_iter().filter(|&left| can_be_kept(&source, |rule| rule != left));
-        let same = told.yes.iter().copied().collect::<BTreeSet<_>>() == mends.collect();
+        let same =
+            told.yes.iter().copied().collect::<BTreeSet<_>>() == mends.collect() && narrowed(&source, &mut room, &mut |_| ()) == chosen;
         if !needed || !same || !against.unknown.is_empty() || !told.unknown.is_empty() {
             return Err(format!("{chosen:?} against {against:?}, mended by {told:?}\n{}", print::print(&source.sheet)));
         }

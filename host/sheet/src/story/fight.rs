@@ -115,6 +115,16 @@ pub fn crowded(sheet: &Sheet, trial: &Trial) -> String {
     )
 }
 
+/// Fewer rules that cannot be kept, where those that fight are not known.
+pub fn narrowed(sheet: &Sheet, chosen: &[usize]) -> String {
+    if chosen.len() == sheet.steps.len() {
+        return String::new();
+    }
+    let perhaps = if chosen.len() > 1 { "; perhaps not all of them are needed" } else { "" };
+    let head = format!("With {} of its {} step rules alone it cannot be kept, either{perhaps}:", chosen.len(), sheet.steps.len());
+    format!("\n{head}\n\n{}", listed(sheet, chosen.iter().map(|&rule| Rule::Step(rule))))
+}
+
 /// Rules by their numbers, those in a row as `2 to 5`.
 fn numbers(rules: &[usize]) -> String {
     let mut rows: Vec<(usize, usize)> = Vec::new();

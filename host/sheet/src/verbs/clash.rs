@@ -233,8 +233,15 @@ fn known(source: &Source, room: &mut Room, progress: &mut Progress, page: &mut P
     };
     page.print(&format!("With all of its rules {reached}.\n"));
     page.print(&story::brief::tell(&source.sheet, &brief::reasons(source, &judged)));
+    let narrowed = narrowed(source, room, progress, page);
+    page.print(&fight::narrowed(&source.sheet, &narrowed));
     let mends = mends(source, source.sheet.rules(), room, progress, page);
     page.print(&format!("\n{}", fight::mends(&source.sheet, &mends)));
+}
+
+/// Fewer rules that cannot be kept, by trials with the proved judge.
+fn narrowed(source: &Source, room: &mut Room, progress: &mut Progress, page: &mut Page) -> Vec<usize> {
+    plan::narrowed(source, room, &mut |stage| progress.tell(page, || told(stage)))
 }
 
 /// The same as JSON.
@@ -247,6 +254,7 @@ fn crowded_json(source: &Source, trial: &Trial, room: &mut Room, progress: &mut 
     members.push(("no_room_without", as_json::rule(&source.sheet, Rule::Step(rule))));
     members.push(("count", Json::number(judged.numbers.count)));
     members.extend(as_json::brief(&source.sheet, &brief::reasons(source, &judged)));
+    members.push(("narrowed", as_json::steps(&source.sheet, &narrowed(source, room, progress, page))));
     members.push(("mends", as_json::tried(&source.sheet, &mends(source, source.sheet.rules(), room, progress, page))));
     page.print(&format!("{}\n", Json::Object(members)));
 }
