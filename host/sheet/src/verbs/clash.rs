@@ -120,24 +120,7 @@ fn fought(source: &Source, chosen: &[usize], room: &mut Room, progress: &mut Pro
     if call.has("--numbers") {
         numbers(0, &numbered(chosen), page);
     } else if call.value("--out") != Some("-") {
-        let verdict = page.colour.red("this sheet cannot be kept");
-        if !call.has("--json") {
-            page.print(&format!("{}: {verdict}. {}", source.name, fight::tell(&source.sheet, chosen)));
-        }
-        let against = against(source, chosen, room, progress, page);
-        let fighting = chosen.iter().map(|&rule| Rule::Step(rule)).chain(against.yes.clone()).chain(against.unknown.clone());
-        let mends = mends(source, fighting.collect(), room, progress, page);
-        let runs = if call.has("--runs") { runs(source, chosen, progress, page) } else { Vec::new() };
-        if call.has("--json") {
-            fought_json(source, chosen, (&against, &mends), &runs, page);
-        } else {
-            let (against, mends) = (fight::against(&source.sheet, chosen.len(), &against), fight::mends(&source.sheet, &mends));
-            page.print(&format!("\n{against}\n{mends}"));
-            for (rule, sheet, judged) in &runs {
-                let table = run::table(sheet, &judged.run, judged.numbers.a, call.has("--all"));
-                page.print(&format!("\n{}{table}", fight::without(&source.sheet, *rule)));
-            }
-        }
+        tell_fight(source, chosen, room, progress, call, page);
     }
     if let Some(file) = call.value("--out") {
         let reduced = source.sheet.with_steps(chosen);
@@ -146,8 +129,29 @@ fn fought(source: &Source, chosen: &[usize], room: &mut Room, progress: &mut Pro
     }
 }
 
+/// The rules that fight at once, for that is known; then what they fight against, what mends the sheet, and the runs if they are wanted.
+fn tell_fight(source: &Source, chosen: &[usize], room: &mut Room, progress: &mut Progress, call: &Call, page: &mut Page) {
+    let sheet = &source.sheet;
+    if !call.has("--json") {
+        let verdict = page.colour.red("this sheet cannot be kept");
+        page.print(&format!("{}: {verdict}. {}", source.name, fight::tell(sheet, chosen)));
+    }
+    let against = against(source, chosen, room, progress, page);
+    let fighting = chosen.iter().map(|&rule| Rule::Step(rule)).chain(against.yes.clone()).chain(against.unknown.clone());
+    let mends = mends(source, fighting.collect(), room, progress, page);
+    let runs = if call.has("--runs") { runs(source, chosen, progress, page) } else { Vec::new() };
+    if call.has("--json") {
+        return fight_json(source, chosen, (&against, &mends), &runs, page);
+    }
+    page.print(&format!("\n{}\n{}", fight::against(sheet, chosen.len(), &against), fight::mends(sheet, &mends)));
+    for (rule, reduced, judged) in &runs {
+        let table = run::table(reduced, &judged.run, judged.numbers.a, call.has("--all"));
+        page.print(&format!("\n{}{table}", fight::without(sheet, *rule)));
+    }
+}
+
 /// The same as JSON.
-fn fought_json(source: &Source, chosen: &[usize], (against, mends): (&Tried, &Tried), runs: &[Run], page: &mut Page) {
+fn fight_json(source: &Source, chosen: &[usize], (against, mends): (&Tried, &Tried), runs: &[Run], page: &mut Page) {
     let mut members = as_json::head(&source.name, 0, "cannot be kept");
     members.push(("rules", as_json::steps(&source.sheet, chosen)));
     members.push(("against", as_json::tried(&source.sheet, against)));
