@@ -77,7 +77,10 @@ fn at_its_bounds() -> Vec<(&'static str, Draft, &'static str)> {
 /// How many of the slices the program's source does not lend as document 01 says. Table and words lent longer change nothing that is
 /// printed, for the room is the least of them and half the scratch; so these numbers are also read where they are written.
 fn lent_otherwise(source: &str) -> usize {
-    let lends = |(slice, places): &(&str, usize)| source.contains(&format!("let mut {slice} = [0u32; {places}];"));
+    let lends = |(slice, places): &(&str, usize)| {
+        let (states, words) = (format!("let mut {slice}: [State; {places}] = [0; {places}];"), format!("let mut {slice} = [0u32; {places}];"));
+        source.contains(&states) || source.contains(&words)
+    };
     LENT.iter().filter(|lent| !lends(lent)).inspect(|(slice, places)| println!("{slice} is not lent {places} places")).count()
 }
 
