@@ -78,7 +78,8 @@ fn at_its_bounds() -> Vec<(&'static str, Draft, &'static str)> {
 /// printed, for the room is the least of them and half the scratch; so these numbers are also read where they are written.
 fn lent_otherwise(source: &str) -> usize {
     let lends = |(slice, places): &(&str, usize)| {
-        let (states, words) = (format!("let mut {slice}: [State; {places}] = [0; {places}];"), format!("let mut {slice} = [0u32; {places}];"));
+        let (states, words) =
+            (format!("let mut {slice}: [State; {places}] = [0; {places}];"), format!("let mut {slice} = [0u32; {places}];"));
         source.contains(&states) || source.contains(&words)
     };
     LENT.iter().filter(|lent| !lends(lent)).inspect(|(slice, places)| println!("{slice} is not lent {places} places")).count()
