@@ -6,15 +6,15 @@ use Prim.Native.Nat.{ℕ}
 use Rattle.meaning.specs.System.{System}
 use Rattle.meaning.specs.Sheet.{first_fault}
 use Rattle.meaning.specs.Promises.{system_in, Checked, accepted, refused, Lent, crowded, short, can, cannot, outcome}
-use Rattle.answers.specs.Answers.{done, tooManyStates, shortRun, cannot_be_kept, notAccepted}
+use Rattle.answers.specs.Answers.{done, too_many_states, short_run, cannot_be_kept, not_accepted}
 
 -- ---- the judge
 
-pub crowded-is : (lent : Lent) → (outcome lent crowded).answer ≡ tooManyStates
+pub crowded-is : (lent : Lent) → (outcome lent crowded).answer ≡ too_many_states
 unfolding outcome
 crowded-is lent = refl
 
-pub short-is : (lent : Lent) (b : ℕ) → (outcome lent (short b)).answer ≡ shortRun
+pub short-is : (lent : Lent) (b : ℕ) → (outcome lent (short b)).answer ≡ short_run
 unfolding outcome
 short-is lent b = refl
 
@@ -32,5 +32,5 @@ pub accepted-is : {sheet : List ℕ} {Ok : System → Type 0} → first_fault sh
 accepted-is good ok = accepted good ok refl
 
 pub refused-is : {sheet : List ℕ} {Ok : System → Type 0} → first_fault sheet ≡ none → (Ok (system_in sheet) → ⊥)
-    → Checked sheet Ok notAccepted
+    → Checked sheet Ok not_accepted
 refused-is good none-ok = refused good none-ok refl

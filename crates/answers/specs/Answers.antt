@@ -7,33 +7,33 @@ abbrev pub done : ℕ
 done = 0
 
 -- "R above C, and only then"
-abbrev pub tooManyStates : ℕ
-tooManyStates = 11
+abbrev pub too_many_states : ℕ
+too_many_states = 11
 
 -- "can be kept, but b above the run's length"
-abbrev pub shortRun : ℕ
-shortRun = 12
+abbrev pub short_run : ℕ
+short_run = 12
 
 -- "cannot be kept"
 abbrev pub cannot_be_kept : ℕ
 cannot_be_kept = 13
 
 -- "paper not accepted"
-abbrev pub notAccepted : ℕ
-notAccepted = 14
+abbrev pub not_accepted : ℕ
+not_accepted = 14
 
 -- "a piece that would pass that .. is refused whole with 15"
-abbrev pub pastTheMostMoments : ℕ
-pastTheMostMoments = 15
+abbrev pub past_the_most_moments : ℕ
+past_the_most_moments = 15
 
 -- "16 before any sheet"
-abbrev pub classRefused : ℕ
-classRefused = 16
+abbrev pub class_refused : ℕ
+class_refused = 16
 
 -- "if any of these sheets gives 11 the proposal gets 17"
-abbrev pub trialWithoutRoom : ℕ
-trialWithoutRoom = 17
+abbrev pub trial_without_room : ℕ
+trial_without_room = 17
 
 -- "a piece or a second closing after closing is refused with 18"
-abbrev pub leadClosed : ℕ
-leadClosed = 18
+abbrev pub lead_closed : ℕ
+lead_closed = 18

@@ -1,6 +1,8 @@
 // The audit of a log: a monitor's recorded states held against a sheet, piece by piece. What an account tells of a whole log is said in
 // crates/audit_account/specs/Account.antt, what the call promises in Carry.antt there, and that cutting a log does not show in
 // crates/audit_account/proofs. It stands on the sheet reader and the compiled rules alone.
+#![tactic(auto)]
+
 ghost use Rattle.std.specs.Prelude.{◌≡◌, length};
 ghost use Rattle.std.proofs.Math.Option.{none};
 ghost use Rattle.meaning.specs.Sheet.{first_fault};
@@ -15,15 +17,16 @@ use reader::InNumbers;
 mod carry;
 mod numbers;
 
-// How many tallies an account has.
+// How many tallies an account has, and how many numbers it is for callers in C.
 pub use audit_follow::TALLIES;
+pub use numbers::NUMBERS;
 
 // The most moments that an account may count.
 pub const MOMENTS: u32 = 1000000;
 
 // The account of a log so far: how many moments; the last state; what the first breach was (0 none, 1 unlawful, 2 first rule, 3 step rule),
 // its moment and its step rule; and for each step rule how often its left side led to a kept move and how often to a broken one.
-#[derive(Drop)]
+#[derive(Clone, Copy)]
 pub struct Account {
     pub count: u32,
     pub last: State,
@@ -35,7 +38,7 @@ pub struct Account {
 }
 
 // What the audit hands back: 0 and the account carried on; 1 to 10 with a place for a bad sheet, or 15, and the account as it was.
-#[derive(Drop)]
+#[derive(Clone, Copy)]
 pub struct Report {
     pub answer: u32,
     pub place: u32,
@@ -137,13 +140,8 @@ pub fn audit(sheet: &[u8], account: Account, states: &[State]) -> Report
     }
 }
 
-// The same for callers in C, without the place: the account's 515 numbers are carried on where they stand.
-#[unsafe(no_mangle)]
-pub extern "C" fn naxxurbi_audit(
-    sheet: &[u8],
-    account: &mut [u32; numbers::NUMBERS],
-    states: &[State],
-) -> u32
+// The same for callers in C, to whom crate audit_c hands it, without the place: the account's 515 numbers are carried on where they stand.
+pub fn naxxurbi_audit(sheet: &[u8], account: &mut [u32; numbers::NUMBERS], states: &[State]) -> u32
     ensures { AuditedOut sheet.now account.old states.now result account.new }
 {
     let before = numbers::account_of(account);

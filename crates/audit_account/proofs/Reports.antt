@@ -1,9 +1,9 @@
 -- What an account tells of a log, in the order's own sentences. Place i of the tallies is step rule i + 1's, and kept plus broken there is
 -- the number of moves whose earlier state made its left side true (rule-tallies); places past the sheet's rules are 0 (no-rule-tallies).
--- The rule told is the first in the sheet that the move into the told moment breaks, and a rule is told then alone (rule-told-first). Bits
--- above n count nowhere in the tallies and step rules (high-bits-ignored). From the empty account on, calls are all answered 0 exactly if
--- the joined log has at most 1,000,000 moments (calls-exactly), so no cutting shows by a refusal. In a sample run written out by the judge
--- no breach is told (judged-run-no-breach). Assumes nothing.
+-- The rule told is the first in the sheet that the move breaks (rule-told-first): the move into the told moment, and a rule is told then
+-- alone (rule-told-exactly). Bits above n count nowhere in the tallies and step rules (high-bits-ignored). From the empty account on, calls
+-- are all answered 0 exactly if the joined log has at most 1,000,000 moments (calls-exactly), so no cutting shows by a refusal. In a sample
+-- run written out by the judge no breach is told (judged-run-no-breach). Assumes nothing.
 use mathlib.Core.Path.{◌≡◌, refl, sym, ◌∙◌, ap, ap₂, subst}
 use mathlib.Core.Logic.{◌⊎◌, inl, inr, ◌↔◌}
 use mathlib.Core.Bool.{Bool, true, false, cond, not, ◌&&◌, ◌||◌}
@@ -92,12 +92,12 @@ told-above s t i (rule ∷ rules) = by (step_holds s t rule) (told-above s t (su
     by true (inr h) = inr (omega arith)
     by false w = inr (omega arith)
 
--- Of these rules, the first being rule i + 1, rule i + k + 1 is the first broken exactly if the step breaks rule k of them and none before.
-broken-first : (s t i : ℕ) (rules : List StepRule) (k : ℕ) → first_broken s t (suc i) rules ≡ suc (i + k) → FirstAt s t rules k
+-- "which (the first in the sheet)": the number told is i + k + 1 exactly if rule k of these is broken and none before it.
+pub rule-told-first : (s t i : ℕ) (rules : List StepRule) (k : ℕ) → first_broken s t (suc i) rules ≡ suc (i + k) → FirstAt s t rules k
 unfolding first_broken
-broken-first s t i [] k e = absurd (omega (arith, e))
-broken-first s t i (rule ∷ rules) k e = by (step_holds s t rule) refl k e (told-above s t (suc i) rules)
-    (λ m q. broken-first s t (suc i) rules m q)
+rule-told-first s t i [] k e = absurd (omega (arith, e))
+rule-told-first s t i (rule ∷ rules) k e = by (step_holds s t rule) refl k e (told-above s t (suc i) rules)
+    (λ m q. rule-told-first s t (suc i) rules m q)
   where
     by : (b : Bool) → step_holds s t rule ≡ b → (k : ℕ) → cond b (first_broken s t (suc (suc i)) rules) (suc i) ≡ suc (i + k)
         → (first_broken s t (suc (suc i)) rules ≡ 0) ⊎ (suc (suc i) ≤ first_broken s t (suc (suc i)) rules)
@@ -131,15 +131,15 @@ first-broken s t i (rule ∷ rules) (suc k) (within, broken, before) =
 pub broken-exactly : (s t r : ℕ) (rules : List StepRule) → (first_broken s t 1 rules ≡ suc r) ↔ FirstAt s t rules r
 broken-exactly s t r rules =
     let e : suc r ≡ suc (0 + r) = omega arith in
-    (λ p. broken-first s t 0 rules r (p ∙ e), λ f. first-broken s t 0 rules r f ∙ sym e)
+    (λ p. rule-told-first s t 0 rules r (p ∙ e), λ f. first-broken s t 0 rules r f ∙ sym e)
 
 -- "and which (the first in the sheet)": an account tells rule r + 1 exactly if it tells that a step rule was broken, and of the sheet's
 -- rules the move into the moment told breaks rule r + 1 and none before it. Where it tells something else, or nothing, the rule is 0.
-pub rule-told-first : {sheet : Sheet} {log : List ℕ} {account : Account} → AccountOf sheet log account → (r : ℕ)
+pub rule-told-exactly : {sheet : Sheet} {log : List ℕ} {account : Account} → AccountOf sheet log account → (r : ℕ)
     → (account.rule ≡ suc r)
     ↔ ((account.what ≡ 3) × (i : ℕ) × (account.moment ≡ suc i) × FirstAt (get_or log i 0) (get_or log (suc i) 0) sheet.steps r)
 unfolding what_at rule_at rule_is state_at
-rule-told-first {sheet} {log} {account} a r = by a.breach_is
+rule-told-exactly {sheet} {log} {account} a r = by a.breach_is
   where
     Told : Type 0
     Told = (account.what ≡ 3) × (i : ℕ) × (account.moment ≡ suc i) × FirstAt (get_or log i 0) (get_or log (suc i) 0) sheet.steps r

@@ -7,7 +7,7 @@ use Rattle.std.specs.Prelude.{◌≡◌, ◌⊎◌, Bool, cond, not, ◌&&◌, L
 use Rattle.std.proofs.Math.Option.{none, some}
 use Rattle.meaning.specs.Sheet.{Sheet, StepRule, Fault, number_of, first_fault, decode}
 use Rattle.meaning.specs.Rules.{all_literals_true, some_literal_true}
-use Rattle.answers.specs.Answers.{pastTheMostMoments}
+use Rattle.answers.specs.Answers.{past_the_most_moments}
 use Rattle.audit_account.specs.Account.{Account, most_tallies, nothing, first_is, next_is, rule_is}
 
 -- ---- one more state
@@ -97,7 +97,7 @@ Past account piece = PastBy account (length piece)
 pub data Audited (sheet : List ℕ) (account : Account) (piece : List ℕ) (n place : ℕ) (back : Account) : Type 0 where
   faulty : (f : Fault) → first_fault sheet ≡ some f → n ≡ number_of f.why → place ≡ f.at → back ≡ account
       → Audited sheet account piece n place back
-  past : first_fault sheet ≡ none → Past account piece → n ≡ pastTheMostMoments → place ≡ 0 → back ≡ account
+  past : first_fault sheet ≡ none → Past account piece → n ≡ past_the_most_moments → place ≡ 0 → back ≡ account
       → Audited sheet account piece n place back
   done : first_fault sheet ≡ none → (Past account piece → ⊥) → n ≡ 0 → place ≡ 0 → back ≡ carried (decode sheet) account piece
       → Audited sheet account piece n place back

@@ -1,5 +1,7 @@
 // An account of a log carried on by more states, move by move: its five numbers, and the tallies of the step rules beside them. What a
 // state is and what is told of it stands in crates/audit_account/specs.
+#![tactic(auto)]
+
 ghost use Rattle.std.specs.Prelude.{◌≡◌, ◌+◌, ◌<◌, ◌≤◌, length};
 ghost use Rattle.rules.specs.Book.{Shaped};
 ghost use Rattle.audit_account.specs.Carry.{most_moments};
@@ -15,7 +17,7 @@ mod tally;
 pub const TALLIES: usize = 255;
 
 // An account's five numbers without its tallies.
-#[derive(Drop)]
+#[derive(Clone, Copy)]
 pub struct Head {
     pub count: u32,
     pub last: State,

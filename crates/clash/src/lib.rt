@@ -1,6 +1,8 @@
 // Which rules fight (document 02, order 5): a check that anyone's proposal may be put to, and a planner of our own. Both ask the judge
 // about sheets with a choice of the step rules, with no room for a run. The promises are `ClashChecked` and `Planned` of
 // crates/clash_meaning/specs/Clash.antt; they ask nothing of their callers.
+#![tactic(auto)]
+
 ghost use Rattle.clash_trials.specs.Trials.{lent_three};
 ghost use Rattle.clash_meaning.specs.Clash.{ClashChecked, Planned, ClashCheckedC, PlannedC};
 
@@ -58,9 +60,8 @@ pub fn clash(sheet: &[u8], table: &mut [State], words: &mut [u32], scratch: &mut
     }
 }
 
-// The check for callers in C, without the place.
-#[unsafe(no_mangle)]
-pub extern "C" fn naxxurbi_check_clash(
+// The check for callers in C, to whom crate clash_c hands it, without the place.
+pub fn naxxurbi_check_clash(
     sheet: &[u8],
     rules: &[u32],
     table: &mut [State],
@@ -75,9 +76,8 @@ pub extern "C" fn naxxurbi_check_clash(
     r.answer
 }
 
-// The planner for callers in C, without the place: the marks are written on every answer.
-#[unsafe(no_mangle)]
-pub extern "C" fn naxxurbi_clash(
+// The planner for callers in C, likewise, without the place: the marks are written on every answer.
+pub fn naxxurbi_clash(
     sheet: &[u8],
     table: &mut [State],
     words: &mut [u32],

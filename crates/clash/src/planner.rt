@@ -16,7 +16,7 @@ use ground::State;
 use reader::header::STEPS_AT;
 
 // What the planner returns: an answer, the place of a bad sheet's fault, and a mark for each rule, 1 where it is chosen.
-#[derive(Drop)]
+#[derive(Clone, Copy)]
 pub struct Plan {
     pub answer: u32,
     pub place: u32,

@@ -2,7 +2,7 @@
 // to is in proofs/Answers.antt.
 ghost use Rattle.std.specs.Prelude.{◌≡◌};
 ghost use Rattle.meaning.specs.Promises.{cleared};
-ghost use Rattle.answers.specs.Answers.{tooManyStates};
+ghost use Rattle.answers.specs.Answers.{too_many_states};
 ghost use Rattle.ground.specs.Says.{Says};
 ghost use Rattle.clash_trials.specs.Trials.{lent_three};
 ghost use Rattle.clash_trials.specs.Parts.{answer_for};
@@ -12,7 +12,7 @@ use ground::State;
 
 // Whether a trial had no room for its states.
 pub fn no_room(found: Finding) -> bool
-    ensures { Says (answer_for found ≡ tooManyStates) result }
+    ensures { Says (answer_for found ≡ too_many_states) result }
 {
     match found {
         Finding::NoRoom => true,

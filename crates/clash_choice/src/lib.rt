@@ -1,5 +1,7 @@
 // A sheet with a choice of its step rules, written down as a sheet of its own (document 02, order 5): the records of the other step rules
 // are dropped, and the count of step rules and the stated length are set right. All else stands as it stood.
+#![tactic(auto)]
+
 ghost use Rattle.std.specs.Prelude.{◌≡◌, ◌≤◌, length};
 ghost use Rattle.std.proofs.Math.Option.{none};
 ghost use Rattle.meaning.specs.Sheet.{next_at, after_at, steps_at, first_fault};
@@ -14,7 +16,7 @@ pub mod proposals;
 pub const RULES: usize = ground::MOST_RULES;
 
 // How far the writing is: the place read next, the place written next, and how many step rules were written.
-#[derive(Drop)]
+#[derive(Clone, Copy)]
 struct Progress {
     pub from: usize,
     pub to: usize,

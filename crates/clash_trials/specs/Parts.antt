@@ -2,7 +2,7 @@
 use Rattle.std.specs.Prelude.{◌≡◌, Bool, true, false, List, ℕ, length}
 use Rattle.std.proofs.Math.Option.{Option, none, some}
 use Rattle.meaning.specs.Promises.{Lent, Outcome, Judged}
-use Rattle.answers.specs.Answers.{tooManyStates, shortRun, cannot_be_kept}
+use Rattle.answers.specs.Answers.{too_many_states, short_run, cannot_be_kept}
 use Rattle.clash_choice.specs.Proposals.{Chosen, left_out_of}
 use Rattle.clash_trials.specs.Trials.{Answered, Dropping}
 use Rattle.clash_trials.specs.declared.Finding.{Finding}
@@ -10,8 +10,8 @@ use Rattle.clash_trials.specs.declared.Finding.TheVariants.{NoRoom, CanBeKept, C
 
 -- the judge's number for each finding of a trial
 abbrev pub answer_for : Finding → ℕ
-answer_for NoRoom = tooManyStates
-answer_for CanBeKept = shortRun
+answer_for NoRoom = too_many_states
+answer_for CanBeKept = short_run
 answer_for CannotBeKept = cannot_be_kept
 
 -- the lent slices keep their lengths; what they hold is nobody's business until they are cleared
@@ -35,10 +35,10 @@ pub record Trial (sheet : List ℕ) (before : Lent) (marks : List ℕ) (n : ℕ)
 
 -- each chosen rule left out by itself: 11 if some sheet gives 11; else 13 if some gives 13; else all give 12
 pub data EachTried (sheet : List ℕ) (lent : Lent) (marks : List ℕ) (n : ℕ) : Type 0 where
-  more : (i : ℕ) → Chosen i marks → Answered sheet lent (left_out_of i marks) tooManyStates → n ≡ tooManyStates → EachTried sheet lent marks n
-  spare : ((i : ℕ) → Chosen i marks → Answered sheet lent (left_out_of i marks) tooManyStates → ⊥)
+  more : (i : ℕ) → Chosen i marks → Answered sheet lent (left_out_of i marks) too_many_states → n ≡ too_many_states → EachTried sheet lent marks n
+  spare : ((i : ℕ) → Chosen i marks → Answered sheet lent (left_out_of i marks) too_many_states → ⊥)
       → (i : ℕ) → Chosen i marks → Answered sheet lent (left_out_of i marks) cannot_be_kept → n ≡ cannot_be_kept → EachTried sheet lent marks n
-  needed : ((i : ℕ) → Chosen i marks → Answered sheet lent (left_out_of i marks) shortRun) → n ≡ shortRun → EachTried sheet lent marks n
+  needed : ((i : ℕ) → Chosen i marks → Answered sheet lent (left_out_of i marks) short_run) → n ≡ short_run → EachTried sheet lent marks n
 
 pub record EachLeftOut (sheet : List ℕ) (before : Lent) (marks : List ℕ) (n : ℕ) (marks-left : List ℕ) (after : Lent) : Type 0 where
   pub tried : EachTried sheet before marks n

@@ -2,7 +2,7 @@
 use Rattle.std.specs.Prelude.{◌≡◌, List, [], ℕ, zero, suc}
 use Rattle.std.proofs.Math.Option.{Option, none, some}
 use Rattle.meaning.specs.Promises.{Lent, Outcome, Judged}
-use Rattle.answers.specs.Answers.{tooManyStates, shortRun, cannot_be_kept}
+use Rattle.answers.specs.Answers.{too_many_states, short_run, cannot_be_kept}
 use Rattle.clash_choice.specs.Choice.{with_chosen}
 use Rattle.clash_choice.specs.Proposals.{left_out_of}
 
@@ -23,9 +23,9 @@ pub record Answered (sheet : List ℕ) (lent : Lent) (marks : List ℕ) (n : ℕ
 -- One rule tried, rule i + 1 of a choice: 11 ends the plan, 13 drops the rule, 12 keeps it. Next is what must hold of the choice it goes on
 -- with.
 pub data OneTried (sheet : List ℕ) (lent : Lent) (i : ℕ) (marks : List ℕ) (Next : List ℕ → Type 0) (end : Option (List ℕ)) : Type 0 where
-  ends : Answered sheet lent (left_out_of i marks) tooManyStates → end ≡ none → OneTried sheet lent i marks Next end
+  ends : Answered sheet lent (left_out_of i marks) too_many_states → end ≡ none → OneTried sheet lent i marks Next end
   drops : Answered sheet lent (left_out_of i marks) cannot_be_kept → Next (left_out_of i marks) → OneTried sheet lent i marks Next end
-  keeps : Answered sheet lent (left_out_of i marks) shortRun → Next marks → OneTried sheet lent i marks Next end
+  keeps : Answered sheet lent (left_out_of i marks) short_run → Next marks → OneTried sheet lent i marks Next end
 
 -- "drops rules from the last to the first wherever 13 stays": rules i, i - 1, .. 1 tried in turn, from this choice on. It ends in a choice,
 -- or in none where a sheet that was tried gives 11.

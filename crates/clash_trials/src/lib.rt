@@ -1,11 +1,13 @@
 // Trials of a sheet with a choice of its step rules (document 02, order 5): each is judged with no room for a run. One choice is tried, or
 // a choice with each of its rules left out by itself, or rules are dropped from the last to the first.
+#![tactic(auto)]
+
 ghost use Rattle.std.specs.Prelude.{◌≡◌, ◌≤◌, ◌<◌, length, take};
 ghost use Rattle.std.proofs.Math.Option.{none};
 ghost use Rattle.meaning.specs.Sheet.{most_bytes_of_a_sheet, first_fault};
 ghost use Rattle.clash_choice.specs.Proposals.{most_rules, left_out_of};
 ghost use Rattle.clash_trials.specs.Trials.{lent_three};
-ghost use Rattle.answers.specs.Answers.{tooManyStates, shortRun, cannot_be_kept};
+ghost use Rattle.answers.specs.Answers.{too_many_states, short_run, cannot_be_kept};
 ghost use Rattle.clash_trials.specs.Parts.{answer_for, BytesJudged, Trial, EachLeftOut, Drops};
 
 use answers::{SHORT_RUN, TOO_MANY_STATES};
@@ -15,7 +17,7 @@ use reader::header::MOST_BYTES;
 
 // What a trial finds: there is no room for the states, the sheet can be kept, or it cannot. A trial lends no room for a run, so the judge
 // answers a sheet that can be kept by SHORT_RUN.
-#[derive(Drop)]
+#[derive(Clone, Copy)]
 pub enum Finding {
     NoRoom,
     CanBeKept,
@@ -24,7 +26,7 @@ pub enum Finding {
 
 // The finding that one of the judge's three answers stands for.
 fn found_by(answer: u32) -> Finding
-    requires { (answer ≡ tooManyStates → ⊥) → (answer ≡ shortRun → ⊥) → answer ≡ cannot_be_kept }
+    requires { (answer ≡ too_many_states → ⊥) → (answer ≡ short_run → ⊥) → answer ≡ cannot_be_kept }
     ensures { answer_for result ≡ answer }
 {
     if answer == TOO_MANY_STATES {

@@ -10,7 +10,7 @@ use native.Mathlib.Omega.{arith}
 use lib.ListN.{length, get_or}
 use Rattle.meaning.specs.Promises.{Lent, Outcome, Judged}
 use Rattle.meaning.proofs.Meetable.{AsLong}
-use Rattle.answers.specs.Answers.{classRefused}
+use Rattle.answers.specs.Answers.{class_refused}
 use Rattle.class_ends.specs.Class.{numbers_each, sheet_at, Refused, no_room, Desk, InTurn, ClassJudged, turned_away, in_turn}
 use Rattle.class_ends.specs.Ends.{Fair}
 use Rattle.class_ends.proofs.Ends.{fair-not-refused, fair-or-refused}
@@ -34,7 +34,7 @@ class-met sheets ends before = by (fair-or-refused (length sheets) ends (length 
     by (inl F) =
         let (after, turn) = in-turn-met sheets ends before (length ends) in
         (0, after, in_turn (fair-not-refused F) refl turn)
-    by (inr x) = (classRefused, before, turned_away x refl refl)
+    by (inr x) = (class_refused, before, turned_away x refl refl)
 
 -- A class that is answered 0 was judged in turn, and its numbers had room.
 turned : {sheets ends : List ℕ} {before after : Desk} → ClassJudged sheets ends before 0 after

@@ -1,5 +1,7 @@
 // The whole class in one call: up to 32 sheets, joined, are judged in turn with the same lent slices, and four numbers of each are noted.
 // The promise is `ClassJudged` of crates/class_ends/specs/Class.antt; it asks nothing.
+#![tactic(auto)]
+
 ghost use Rattle.std.specs.Prelude.{◌≤◌, ◌+◌, length};
 ghost use Rattle.class_ends.specs.Class.{OneJudged, InTurn, ClassJudged};
 ghost use Rattle.class_ends.specs.Ends.{Fair};
@@ -89,9 +91,8 @@ pub fn judge_class(
     CLASS_REFUSED
 }
 
-// The same for callers in C.
-#[unsafe(no_mangle)]
-pub extern "C" fn naxxurbi_judge_class(
+// The same for callers in C, to whom crate class_c hands it.
+pub fn naxxurbi_judge_class(
     sheets: &[u8],
     ends: &[u32],
     table: &mut [State],

@@ -3,7 +3,7 @@
 -- each sheet in turn with the same slices." What the call refuses, what it promises otherwise. Assumes nothing.
 use Rattle.std.specs.Prelude.{◌≡◌, List, ℕ, zero, suc, ◌+◌, ◌-◌, ◌*◌, ◌<◌, length, get_or, take, drop, set}
 use Rattle.meaning.specs.Promises.{Lent, Outcome, Judged}
-use Rattle.answers.specs.Answers.{classRefused}
+use Rattle.answers.specs.Answers.{class_refused}
 
 -- "up to 32 sheets"; "four numbers a sheet"
 abbrev pub most_sheets : ℕ
@@ -66,7 +66,7 @@ InTurn sheets ends before (suc i) after =
 -- The promise of the call. "16 before any sheet, nothing changed"; otherwise 0, and all sheets are judged in turn. With no ends and no
 -- input that is no sheet, and nothing is changed.
 pub data ClassJudged (sheets ends : List ℕ) (before : Desk) (n : ℕ) (after : Desk) : Type 0 where
-  turned_away : Refused (length sheets) ends (length before.numbers) → n ≡ classRefused → after ≡ before
+  turned_away : Refused (length sheets) ends (length before.numbers) → n ≡ class_refused → after ≡ before
       → ClassJudged sheets ends before n after
   in_turn : (Refused (length sheets) ends (length before.numbers) → ⊥) → n ≡ 0 → InTurn sheets ends before (length ends) after
       → ClassJudged sheets ends before n after

@@ -1,5 +1,7 @@
 // Sheets joined in one input: which classes are refused, before any sheet is judged, and how four numbers of a sheet are noted. What the
 // whole class promises stands in specs/Class.antt; the call that meets it is in crates/class.
+#![tactic(auto)]
+
 ghost use Rattle.std.specs.Prelude.{◌≡◌, ◌≤◌, ◌+◌, length};
 ghost use Rattle.class_ends.specs.Class.{stored};
 ghost use Rattle.class_ends.specs.Ends.{EndsFitSays, FairSays};

@@ -130,7 +130,8 @@ fresh :
 unfolding mask_of
 fresh p n before j [] r o = bit-none j
 fresh p n before j (l ∷ ls) r o =
-    by (agrees p (positive l)) refl (fresh p n _ j ls (omega arith) o.3) (λ r'. fresh p n _ (size l - 1) ls r' o.3)
+    by (agrees p (positive l)) refl (fresh p n (rank (positive l) (size l)) j ls (omega arith) o.3)
+    (λ r'. fresh p n (rank (positive l) (size l)) (size l - 1) ls r' o.3)
   where
     by :
         (t : Bool) → agrees p (positive l) ≡ t → bit j (mask_of p ls) ≡ 0

@@ -1,5 +1,6 @@
 // What distances to a promise are, and where both ways of finding them start: struck places are gone, the goal's are at 0, all others are
 // not reached yet, and the places with one value can be listed.
+#![tactic(auto)]
 
 ghost use Rattle.std.specs.Prelude.{◌≡◌, ◌≤◌, length};
 ghost use Rattle.meaning.specs.Promises.{most_states};

@@ -1,4 +1,5 @@
 // Distances to a promise along stored moves, with a queue, in time linear in places and moves.
+#![tactic(auto)]
 
 ghost use Rattle.std.specs.Prelude.{◌≡◌, ◌+◌, ◌<◌, ◌≤◌, length};
 ghost use Rattle.rules.specs.Book.{book_system};

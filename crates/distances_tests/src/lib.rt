@@ -1,5 +1,6 @@
 // Distances to a promise by tests of pairs, layer by layer: each state of the last layer is looked at once, and only against the states
 // that are not reached yet, which are listed, unless another state did as much before it.
+#![tactic(auto)]
 
 ghost use Rattle.std.specs.Prelude.{◌≡◌, true, ◌+◌, ◌<◌, ◌≤◌, length, get_or};
 ghost use Rattle.ground.specs.Says.{Says};

@@ -1,6 +1,7 @@
 // Dead ends: reason 0 of a round strikes together the states with no move to an unstruck state. Each unstruck place keeps a pointer to its
 // first next state that is unstruck; only where that one has been struck since is the next one sought. A state without a next state is
 // found by listing.
+#![tactic(auto)]
 
 ghost use Rattle.std.specs.Prelude.{◌≡◌, ◌-◌, ◌<◌, ◌≤◌, length, get_or};
 ghost use Rattle.ground.specs.Says.{Says};

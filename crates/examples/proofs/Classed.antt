@@ -6,7 +6,7 @@ use Prim.Native.Nat.{ℕ, zero, suc, ◌-◌, ◌*◌}
 use native.Mathlib.Omega.{arith}
 use lib.Dec.{T, lit≤}
 use lib.ListN.{length, get_or, take, drop, replicate}
-use Rattle.meaning.specs.Sheet.{badSize, badLetters, first_fault}
+use Rattle.meaning.specs.Sheet.{bad_size, bad_letters, first_fault}
 use Rattle.meaning.specs.Promises.{Lent, Outcome, capacity, Judged, bad, can, cannot, outcome}
 use Rattle.meaning.proofs.Judging.{lists-number}
 use Rattle.meaning.proofs.Tests.{Test, as?, same?, le?, both?, each?}
@@ -69,7 +69,7 @@ stuck-judged t u w x c d e f r q = record {
 
 bad-judged : (lent : Lent) → Judged letterless lent (record { answer = 4; count = 0; a = 0; b = 0; place = 3; leaves = lent })
 unfolding first_fault outcome
-bad-judged lent = record { finding = bad (record { why = badLetters; at = 3 }); found = refl; returned = refl }
+bad-judged lent = record { finding = bad (record { why = bad_letters; at = 3 }); found = refl; returned = refl }
 
 -- what the judge says of no bytes
 abbrev nothing_said : Lent → Outcome
@@ -77,7 +77,7 @@ nothing_said lent = record { answer = 1; count = 0; a = 0; b = 0; place = 0; lea
 
 none-judged : (lent : Lent) → Judged [] lent (nothing_said lent)
 unfolding first_fault outcome
-none-judged lent = record { finding = bad (record { why = badSize; at = 0 }); found = refl; returned = refl }
+none-judged lent = record { finding = bad (record { why = bad_size; at = 0 }); found = refl; returned = refl }
 
 -- a judged sheet with its numbers noted
 one-judged : {sheet : List ℕ} (at : ℕ) (before : Desk) {o : Outcome} → Judged sheet before.lent o

@@ -7,7 +7,7 @@ use Prim.Native.Nat.{ℕ, zero, suc, ◌≤◌, ◌<◌}
 use native.Mathlib.Omega.{arith}
 use lib.Dec.{T, lit≤}
 use lib.ListN.{length, get_or, replicate}
-use Rattle.meaning.specs.Sheet.{badLetters, byte, bodies, letters_in, firsts_at, steps_at, promises_at, first_fault}
+use Rattle.meaning.specs.Sheet.{bad_letters, byte, bodies, letters_in, firsts_at, steps_at, promises_at, first_fault}
 use Rattle.meaning.specs.Promises.{Lent, Outcome, capacity, zeros, cleared, outcome, Judged, crowded, short, cannot}
 use Rattle.meaning.proofs.Tests.{Test, as?, le?, both?, if?, each?, lists?}
 use Rattle.meaning.proofs.Judging.{lists-number}
@@ -382,12 +382,12 @@ the-fights = record {
   no_room_without_one = Clash.weighed refl ((proposal-test 2 (1 ∷ 2 ∷ [])).sound tt) (Clash.crowded opening-crowded refl) refl refl;
   room_for_two = Clash.weighed refl ((proposal-test 2 (1 ∷ 2 ∷ [])).sound tt) (Clash.accepted opening-fights refl) refl refl;
   numbers_before_room = Clash.misnumbered refl (proposal-test 4 (2 ∷ 1 ∷ [])).whole refl refl refl;
-  bad_sheet = Clash.ClashChecked.faulty (record { why = badLetters; at = 3 }) refl refl refl refl;
+  bad_sheet = Clash.ClashChecked.faulty (record { why = bad_letters; at = 3 }) refl refl refl refl;
   plan = Clash.worked refl (Clash.found two-plan refl) refl refl;
   empty_plan = Clash.worked refl (Clash.found lawless-plan refl) refl refl;
   nothing_to_plan = Clash.worked refl (Clash.kept peaceful-kept refl refl) refl refl;
   no_room_at_once = Clash.worked refl (Clash.more opening-at-once refl refl) refl refl;
   no_room_while_dropping = Clash.worked refl (Clash.more (Clash.dropping opening-ends) refl refl) refl refl;
   no_room_at_last = Clash.worked refl (Clash.more late-crowded refl refl) refl refl;
-  bad_plan = Clash.Planned.faulty (record { why = badLetters; at = 3 }) refl refl refl refl refl;
+  bad_plan = Clash.Planned.faulty (record { why = bad_letters; at = 3 }) refl refl refl refl refl;
 }

@@ -10,7 +10,7 @@ use Prim.Native.Nat.{ℕ, zero, suc, ◌+◌, ◌<◌}
 use native.Mathlib.Omega.{arith}
 use lib.Dec.{T, leb, eqb, leb→le, eqb→eq, lit≤}
 use lib.ListN.{length, get_or, replicate}
-use Rattle.meaning.specs.Sheet.{badLetters, first_fault, decode}
+use Rattle.meaning.specs.Sheet.{bad_letters, first_fault, decode}
 use Rattle.meaning.specs.Rules.{lawful, first_state, step_holds, all_literals_true, some_literal_true}
 use Rattle.meaning.proofs.Parts.{and_parts}
 use Rattle.audit_account.specs.Account.{Account, AccountOf, what_at, rule_at, keeps, breaks, tallies_of, last_of, most_tallies}
@@ -236,7 +236,7 @@ the-logs = record {
   broken_million = carries plain (ending 0 1000000) (ending 0 1000000) [] refl tt refl tt tt;
   broken_past = refuses plain (ending 0 1000001) [] refl (inr (inr (record { at = 254; within = lit≤ tt; past = lit≤ tt }))) tt;
   bad_sheet_before_15 = in-numbers {place = 3} (counted 1000001 1) (counted 1000001 1) (long _ tt) (long _ tt)
-      (faulty (record { why = badLetters; at = 3 }) refl refl refl refl);
-  bad_sheet_placed = faulty (record { why = badLetters; at = 3 }) refl refl refl refl;
+      (faulty (record { why = bad_letters; at = 3 }) refl refl refl refl);
+  bad_sheet_placed = faulty (record { why = bad_letters; at = 3 }) refl refl refl refl;
   no_place_on_15 = past refl (inl (inl (lit≤ tt))) refl refl refl;
 }

@@ -1,7 +1,7 @@
 -- Order 1's examples, proved: each by computing the first fault of the sheet's bytes. Assumes nothing.
 use mathlib.Core.Path.{refl}
 use native.Mathlib.Omega.{arith}
-use Rattle.meaning.specs.Sheet.{badLiteral, first_fault}
+use Rattle.meaning.specs.Sheet.{bad_literal, first_fault}
 use Rattle.meaning.specs.Promises.{read_number, ReadSays, place_of, ReadPlaced, RunChecked, RunPlaced, StrikesChecked, StrikesPlaced}
 use Rattle.meaning.specs.Promises.{faulty, refused, bad, outcome}
 use Rattle.examples.specs.Places.{Places}
@@ -32,9 +32,9 @@ the_places = record {
   two_lists = record { number = refl; where_met = refl };
   falling_right = record { number = refl; where_met = refl };
   surplus = record { number = refl; where_met = refl };
-  judge-passes-on = record { finding = bad (record { why = badLiteral; at = 9 }); found = refl; returned = refl };
-  run_check_passes_on = record { number = faulty (record { why = badLiteral; at = 9 }) refl refl; where_met = refl };
-  strike_check_passes_on = record { number = faulty (record { why = badLiteral; at = 9 }) refl refl; where_met = refl };
+  judge-passes-on = record { finding = bad (record { why = bad_literal; at = 9 }); found = refl; returned = refl };
+  run_check_passes_on = record { number = faulty (record { why = bad_literal; at = 9 }) refl refl; where_met = refl };
+  strike_check_passes_on = record { number = faulty (record { why = bad_literal; at = 9 }) refl refl; where_met = refl };
   good = record { number = refl; where_met = refl };
   no_place_on_14 = record { number = refused refl (λ ok. omega (arith, ok.back)) refl; where_met = refl };
 }

@@ -1,5 +1,7 @@
 // The ground: what several crates use alike. A state's type and bits, the most states that are judged, a sheet's bounds, the lesser of two
 // numbers, and wiping. Beside the code stand what a test says, what stands in a list, bits, and their laws.
+#![tactic(auto)]
+
 ghost use Rattle.std.specs.Prelude.{◌≡◌, ◌≤◌, min, length, take};
 ghost use Rattle.meaning.specs.Promises.{over, zeros};
 ghost use Rattle.ground.specs.Wiping.{Wiped};

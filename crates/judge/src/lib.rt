@@ -1,5 +1,7 @@
 // The judge: reads a sheet, compiles it into its book, and answers what `judge_book` finds over that, in the slices that it was lent. Its
 // promise is `Judged` of the meaning; it asks nothing.
+#![tactic(auto)]
+
 ghost use Rattle.std.specs.Prelude.{◌≡◌};
 ghost use Rattle.std.proofs.Math.Option.{none};
 ghost use Rattle.meaning.specs.Sheet.{first_fault};
@@ -52,9 +54,8 @@ pub fn judge(
     }
 }
 
-// The same for callers in C: answer, count, a, b and place go into `out`, in this order, whatever the answer.
-#[unsafe(no_mangle)]
-pub extern "C" fn naxxurbi_judge(
+// The same for callers in C, to whom crate judge_c hands it: answer, count, a, b and place go into `out`, in this order, whatever the answer.
+pub fn naxxurbi_judge(
     sheet: &[u8],
     table: &mut [State],
     words: &mut [u32],

@@ -1,5 +1,7 @@
 // What the judge's answers have in common: the five numbers, the room for states, and what is left in the slices that it was lent, zeros
 // where nothing is handed over. The promise of each answer over the system of a book is `JudgedBy` of specs/Judging.antt.
+#![tactic(auto)]
+
 ghost use Rattle.std.specs.Prelude.{◌≡◌, ◌≤◌, ◌/◌, min, length};
 ghost use Rattle.meaning.specs.Promises.{most_states};
 ghost use Rattle.table_order.specs.Placing.{Orderable};
@@ -8,7 +10,7 @@ ghost use Rattle.judge_answer.specs.Judging.{refused, LeftOver, StrikesWritten};
 use ground::{MOST_STATES, State, lesser};
 
 // What the judge returns: document 01's answer, count, a and b, and the place of a bad sheet's fault.
-#[derive(Drop)]
+#[derive(Clone, Copy)]
 pub struct Judgement {
     pub answer: u32,
     pub count: u32,

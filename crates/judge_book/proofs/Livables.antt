@@ -76,10 +76,10 @@ livables-listed table words table' r left k in_table lists marked front =
     lists-same (unstruck-livable table words r left in_table lists marked) front.front
 
 -- Where none was struck all stand in front as they are.
-pub all-in-front : {S : System} (table words : List ℕ) (r : ℕ) → r ≤ length table → Lists (Reachable S) (take r table)
+pub all-in-front : (S : System) (table words : List ℕ) (r : ℕ) → r ≤ length table → Lists (Reachable S) (take r table)
     → unstruck words r ≡ r
     → InFront table words r table r
-all-in-front {S} table words r in_table lists all = record {
+all-in-front S table words r in_table lists all = record {
   long = refl;
   few = omega arith;
   front = lists-same (λ s. (there s, back s)) lists;

@@ -84,8 +84,8 @@ kept-alike words_long front = record { table_long = front.long; words_long = wor
 -- All left, the table is as keeping would leave it.
 pub reached-front : {book table words scratch run words₁ : List ℕ} {r left : ℕ} → Reached book (lent_of table words scratch run) r
     → Marked (book_system book) table words₁ r left → left ≡ r → InFront table words₁ r table r
-reached-front {table = table} {words₁ = words₁} {r} h marked every =
-    all-in-front table words₁ r (reached-places h).in_table h.lists (sym marked.left_is ∙ every)
+reached-front {book = book} {table = table} {words₁ = words₁} {r} h marked every =
+    all-in-front (book_system book) table words₁ r (reached-places h).in_table h.lists (sym marked.left_is ∙ every)
 
 -- Some left, the kept states are the livable ones.
 pub reached-kept : {book table words scratch run table₁ words₁ : List ℕ} {r left k : ℕ} → Reached book (lent_of table words scratch run) r

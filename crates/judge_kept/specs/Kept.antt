@@ -2,7 +2,7 @@
 use Rattle.std.specs.Prelude.{◌≡◌, List, ℕ, ◌≤◌, ◌<◌, take}
 use Rattle.meaning.specs.System.{Livable, Lists}
 use Rattle.meaning.specs.Promises.{Lent, capacity}
-use Rattle.answers.specs.Answers.{done, shortRun}
+use Rattle.answers.specs.Answers.{done, short_run}
 use Rattle.rules.specs.Book.{Shaped, book_system}
 use Rattle.judge_answer.specs.declared.Judgement.{Judgement}
 use Rattle.judge_answer.specs.Judging.{RoomFor, LeftOver, refused}
@@ -22,7 +22,7 @@ handed k a b = record { answer = done; count = k; a = a; b = b; place = 0 }
 -- What is answered, and left of the slices, where there is room for so many states of the run: 12 and its length if its b states do not
 -- fit, else 0 and the table's first k states.
 pub data HandedOver (k a b room : ℕ) (table words scratch table' words' scratch' : List ℕ) (j : Judgement) : Type 0 where
-  too_long : room < b → j ≡ refused shortRun b 0 → LeftOver 0 0 table words scratch table' words' scratch'
+  too_long : room < b → j ≡ refused short_run b 0 → LeftOver 0 0 table words scratch table' words' scratch'
       → HandedOver k a b room table words scratch table' words' scratch' j
   in_room : b ≤ room → j ≡ handed k a b → LeftOver k 0 table words scratch table' words' scratch'
       → HandedOver k a b room table words scratch table' words' scratch' j

@@ -1,5 +1,7 @@
 // The judge for a sheet that can be kept: the sample run is found and, if it fits, handed over (answer 0); if not, its length is told
 // (answer 12).
+#![tactic(auto)]
+
 ghost use Rattle.std.specs.Prelude.{◌≤◌, length};
 ghost use Rattle.meaning.specs.Promises.{most_states};
 ghost use Rattle.rules.specs.Book.{book_system};

@@ -1,4 +1,6 @@
 // The strike list where no state is left (answer 13), for any number of reachable states.
+#![tactic(auto)]
+
 ghost use Rattle.std.specs.Prelude.{◌≡◌};
 ghost use Rattle.table_order.specs.Placing.{Orderable};
 ghost use Rattle.judge_answer.specs.Judging.{StrikesWritten};

@@ -111,7 +111,7 @@ pub quiet-within : {S : System} (F : Finite S)
     → (n : ℕ) × (n ≤ F.bound * suc S.promises) × ((s : ℕ) → Left S n s → Left S (suc S.promises + n) s)
 quiet-within {S} F =
     let r = settles-falling {P = Left S} (λ n s l. l.0) (left? F) F.bound (suc S.promises) in
-    (r.0, r.1, λ s l. r.2 s (reachable-below F (left-reachable r.0 l)) l)
+    (r.0, r.1, λ s l. r.2 s (reachable-below F (left-reachable S r.0 l)) l)
 
 -- So there is a quiet phase.
 pub quiet-exists : {S : System} → Finite S → (n : ℕ) × ((s : ℕ) → Left S n s → Left S (suc S.promises + n) s)

@@ -15,15 +15,15 @@ use Rattle.meaning.specs.Sample.{RunPaper}
 use Rattle.meaning.specs.Papers.{RunAccepted, StrikesAccepted, reading}
 use Rattle.meaning.specs.Sheet.{
   Why,
-  badSize,
-  badVersion,
-  badLength,
-  badLetters,
-  tooMany,
-  recordMissing,
-  badShape,
-  badLiteral,
-  notAscending,
+  bad_size,
+  bad_version,
+  bad_length,
+  bad_letters,
+  too_many_records,
+  record_missing,
+  bad_shape,
+  bad_literal,
+  not_rising,
   surplus,
   Fault,
   number_of,
@@ -121,15 +121,15 @@ pub record KeepsInTime (S : System) (states : List ℕ) (a b K : ℕ) (paper : R
 
 -- The number of a fault is 1 to 10.
 pub fault-number : (why : Why) → (1 ≤ number_of why) × (number_of why ≤ 10)
-fault-number badSize = omega arith
-fault-number badVersion = omega arith
-fault-number badLength = omega arith
-fault-number badLetters = omega arith
-fault-number tooMany = omega arith
-fault-number recordMissing = omega arith
-fault-number badShape = omega arith
-fault-number badLiteral = omega arith
-fault-number notAscending = omega arith
+fault-number bad_size = omega arith
+fault-number bad_version = omega arith
+fault-number bad_length = omega arith
+fault-number bad_letters = omega arith
+fault-number too_many_records = omega arith
+fault-number record_missing = omega arith
+fault-number bad_shape = omega arith
+fault-number bad_literal = omega arith
+fault-number not_rising = omega arith
 fault-number surplus = omega arith
 
 -- Only a kept sheet whose run fits answers 0.

@@ -13,8 +13,8 @@ use lib.Dec.{T, leb, ltb, eqb, leb→le, le→leb}
 use lib.ListN.{length, get_or, take, drop, length-drop}
 use lib.Seq.{length-take-le, get_or-take, get_or-drop}
 use borrow.Author.Tests.{leb-true, leb-false, ltb-true, ltb-false, eqb-true, eqb-false, lt-ltb, le-ltb}
-use Rattle.meaning.specs.Sheet.{Why, badSize, badVersion, badLength, badLetters, tooMany, recordMissing, badShape, badLiteral}
-use Rattle.meaning.specs.Sheet.{notAscending, surplus, Fault, unless, ◌then◌, positive, size, signed_below, names, literals_fault}
+use Rattle.meaning.specs.Sheet.{Why, bad_size, bad_version, bad_length, bad_letters, too_many_records, record_missing, bad_shape, bad_literal}
+use Rattle.meaning.specs.Sheet.{not_rising, surplus, Fault, unless, ◌then◌, positive, size, signed_below, names, literals_fault}
 use Rattle.meaning.specs.Sheet.{list_fault, Kind, a_limit, a_first, a_step, a_promise, limit_of, step_of, record_fault, byte, body_at, next_at}
 use Rattle.meaning.specs.Sheet.{after_at, records_fault, letters_in, firsts_at, steps_at, promises_at, end_at, first_fault}
 use Rattle.meaning.specs.Faults.{SizeFits, VersionFits, LengthFits, LettersFit, LimitsFit, PromisesFit, GoodHeader, start_of}
@@ -98,30 +98,30 @@ pub record Reached (s : List ℕ) (B : ℕ → Type 0) (from end i : ℕ) : Type
 
 -- what is wrong with literal i, the first that is not good
 abbrev pub Unfit : List ℕ → (B : ℕ → Type 0) → (from end : ℕ) → Why → ℕ → Type 0
-Unfit s B from end badSize i = ⊥
-Unfit s B from end badVersion i = ⊥
-Unfit s B from end badLength i = ⊥
-Unfit s B from end badLetters i = ⊥
-Unfit s B from end tooMany i = ⊥
-Unfit s B from end recordMissing i = ⊥
-Unfit s B from end badShape i = ⊥
-Unfit s B from end badLiteral i = Reached s B from end i × (NamesLetter s i → ⊥)
-Unfit s B from end notAscending i = Reached s B from end i × NamesLetter s i × (B i ⊎ Rises s i → ⊥)
+Unfit s B from end bad_size i = ⊥
+Unfit s B from end bad_version i = ⊥
+Unfit s B from end bad_length i = ⊥
+Unfit s B from end bad_letters i = ⊥
+Unfit s B from end too_many_records i = ⊥
+Unfit s B from end record_missing i = ⊥
+Unfit s B from end bad_shape i = ⊥
+Unfit s B from end bad_literal i = Reached s B from end i × (NamesLetter s i → ⊥)
+Unfit s B from end not_rising i = Reached s B from end i × NamesLetter s i × (B i ⊎ Rises s i → ⊥)
 Unfit s B from end surplus i = ⊥
 
 -- The same with a later end.
 further : (s : List ℕ) (B : ℕ → Type 0) (from end later : ℕ) → end ≤ later
     → (w : Why) (i : ℕ) → Unfit s B from end w i → Unfit s B from later w i
-further s B from end later le badSize i bad = bad
-further s B from end later le badVersion i bad = bad
-further s B from end later le badLength i bad = bad
-further s B from end later le badLetters i bad = bad
-further s B from end later le tooMany i bad = bad
-further s B from end later le recordMissing i bad = bad
-further s B from end later le badShape i bad = bad
-further s B from end later le badLiteral i (r, unnamed) =
+further s B from end later le bad_size i bad = bad
+further s B from end later le bad_version i bad = bad
+further s B from end later le bad_length i bad = bad
+further s B from end later le bad_letters i bad = bad
+further s B from end later le too_many_records i bad = bad
+further s B from end later le record_missing i bad = bad
+further s B from end later le bad_shape i bad = bad
+further s B from end later le bad_literal i (r, unnamed) =
     (record { behind = r.behind; within = omega (arith, r.within); earlier = r.earlier }, unnamed)
-further s B from end later le notAscending i (r, named, falls) =
+further s B from end later le not_rising i (r, named, falls) =
     (record { behind = r.behind; within = omega (arith, r.within); earlier = r.earlier }, named, falls)
 further s B from end later le surplus i bad = bad
 
@@ -187,7 +187,7 @@ literals-found s B from end few [] at before low long stands start inside earlie
 literals-found s B from end few (b ∷ bs) at before low long stands start inside earlier =
     let here : b ≡ byte s at = stands_at (b ∷ bs) s at 0 at stands (omega arith) (omega arith) in
     let reached : Reached s B from end at = record { behind = low; within = omega arith; earlier = earlier } in
-    check (names (byte s 3) b) badLiteral at _
+    check (names (byte s 3) b) bad_literal at _
     (λ t. (
       reached,
       λ named. no-bounds 1 (size (byte s at)) (size (byte s at)) (byte s 3)
@@ -196,7 +196,7 @@ literals-found s B from end few (b ∷ bs) at before low long stands start insid
     (λ t.
     let named : NamesLetter s at =
     bounds 1 (size (byte s at)) (size (byte s at)) (byte s 3) (subst (λ (x : ℕ). names (byte s 3) x ≡ true) here t) in
-    check (signed_below before b) notAscending at _
+    check (signed_below before b) not_rising at _
     (λ u. (reached, named, falls s B at before few named (start (omega arith)) (subst (λ (x : ℕ). signed_below before x ≡ false) here u)))
     (λ u.
     let up = ascends s B at before (start (omega arith)) (subst (λ (x : ℕ). signed_below before x ≡ true) here u) in
@@ -253,7 +253,7 @@ RecordFits kind s q = ShapeFits kind s q × AllFit s (Begins kind s q) (literals
 -- what is wrong with it: its shape, or a literal
 abbrev pub RecordUnfit : Kind → List ℕ → ℕ → Why → ℕ → Type 0
 RecordUnfit kind s q w p =
-    ((w ≡ badShape) × (ShapeFits kind s q → ⊥) × (p ≡ q)) ⊎ (ShapeFits kind s q × Unfit s (Begins kind s q) (literals_from kind q)
+    ((w ≡ bad_shape) × (ShapeFits kind s q → ⊥) × (p ≡ q)) ⊎ (ShapeFits kind s q × Unfit s (Begins kind s q) (literals_from kind q)
     (end_of s q) w p)
 
 module _ (s : List ℕ) (q : ℕ) (few : byte s 3 < 128) (there : Present s q) where
@@ -269,7 +269,7 @@ module _ (s : List ℕ) (q : ℕ) (few : byte s 3 < 128) (there : Present s q) w
   unfolding record_fault limit_of
   limit-found =
       let long = body-long s q there in
-      check (leb 2 (length (body_at s q)) && leb (get_or (body_at s q) 0 0) 1) badShape q _
+      check (leb 2 (length (body_at s q)) && leb (get_or (body_at s q) 0 0) 1) bad_shape q _
       (λ t. inl (
         refl,
         (λ shape. no-bounds 2 (length (body_at s q)) (get_or (body_at s q) 0 0) 1 t
@@ -302,7 +302,7 @@ module _ (s : List ℕ) (q : ℕ) (few : byte s 3 < 128) (there : Present s q) w
   unfolding record_fault
   promise-found =
       let long = body-long s q there in
-      check (eqb (length (body_at s q)) 1) badShape q _
+      check (eqb (length (body_at s q)) 1) bad_shape q _
       (λ t. inl (refl, (λ shape. eqb-false (length (body_at s q)) 1 t (omega (arith, long, shape))), refl))
       (λ t.
       let shape : ShapeFits a_promise s q = omega (arith, long, eqb-true (length (body_at s q)) 1 t) in
@@ -333,7 +333,7 @@ module _ (s : List ℕ) (q : ℕ) (few : byte s 3 < 128) (there : Present s q) w
       let long = body-long s q there in
       let own = body_at s q in
       let a = get_or (body_at s q) 0 0 in
-      check (leb 1 (length own) && leb a (length own - 1)) badShape q _
+      check (leb 1 (length own) && leb a (length own - 1)) bad_shape q _
       (λ t. inl (
         refl,
         (λ shape. no-bounds 1 (length own) a (length own - 1) t
@@ -371,15 +371,15 @@ module _ (s : List ℕ) (q : ℕ) (few : byte s 3 < 128) (there : Present s q) w
 
 -- this fault at this place, said of the sheet's bytes
 abbrev pub FaultAt : List ℕ → Why → ℕ → Type 0
-FaultAt s badSize q = Fault1 s q
-FaultAt s badVersion q = Fault2 s q
-FaultAt s badLength q = Fault3 s q
-FaultAt s badLetters q = Fault4 s q
-FaultAt s tooMany q = Fault5 s q
-FaultAt s recordMissing q = Fault6 s q
-FaultAt s badShape q = Fault7 s q
-FaultAt s badLiteral q = Fault8 s q
-FaultAt s notAscending q = Fault9 s q
+FaultAt s bad_size q = Fault1 s q
+FaultAt s bad_version q = Fault2 s q
+FaultAt s bad_length q = Fault3 s q
+FaultAt s bad_letters q = Fault4 s q
+FaultAt s too_many_records q = Fault5 s q
+FaultAt s record_missing q = Fault6 s q
+FaultAt s bad_shape q = Fault7 s q
+FaultAt s bad_literal q = Fault8 s q
+FaultAt s not_rising q = Fault9 s q
 FaultAt s surplus q = Fault10 s q
 
 -- the header and all records are good, and the last record ends at the sheet's end
@@ -390,7 +390,7 @@ Whole s = GoodUpTo s (records_in s) × (start_of s (records_in s) ≡ length s)
 unfoldable rest_fault : List ℕ → (count j at : ℕ) → Option Fault
 rest_fault s zero j at = unless (eqb at (length s)) surplus at
 rest_fault s (suc count) j at =
-    unless (leb (next_at s at) (length s)) recordMissing at
+    unless (leb (next_at s at) (length s)) record_missing at
     then record_fault (kind_at s j) (byte s 3) at (body_at s at)
     then rest_fault s count (suc j) (next_at s at)
 
@@ -435,15 +435,15 @@ module _ (s : List ℕ) (j : ℕ) (good : GoodUpTo s j) (announced : j < records
     literal-fault : (w : Why) (p : ℕ) → ShapeFits (kind_at s j) s (start_of s j)
         → Unfit s (Begins (kind_at s j) s (start_of s j)) (literals_from (kind_at s j) (start_of s j)) (end_of s (start_of s j)) w p
         → FaultAt s w p
-    literal-fault badSize p shape bad = absurd bad
-    literal-fault badVersion p shape bad = absurd bad
-    literal-fault badLength p shape bad = absurd bad
-    literal-fault badLetters p shape bad = absurd bad
-    literal-fault tooMany p shape bad = absurd bad
-    literal-fault recordMissing p shape bad = absurd bad
-    literal-fault badShape p shape bad = absurd bad
-    literal-fault badLiteral p shape (r, unnamed) = (j, start_of s j, reached-comes p shape r, unnamed)
-    literal-fault notAscending p shape (r, named, falls) = (j, start_of s j, reached-comes p shape r, named, falls)
+    literal-fault bad_size p shape bad = absurd bad
+    literal-fault bad_version p shape bad = absurd bad
+    literal-fault bad_length p shape bad = absurd bad
+    literal-fault bad_letters p shape bad = absurd bad
+    literal-fault too_many_records p shape bad = absurd bad
+    literal-fault record_missing p shape bad = absurd bad
+    literal-fault bad_shape p shape bad = absurd bad
+    literal-fault bad_literal p shape (r, unnamed) = (j, start_of s j, reached-comes p shape r, unnamed)
+    literal-fault not_rising p shape (r, named, falls) = (j, start_of s j, reached-comes p shape r, named, falls)
     literal-fault surplus p shape bad = absurd bad
 
     -- What is wrong with the record is the sheet's fault.
@@ -475,7 +475,7 @@ rest-found s zero j at all good begins =
 rest-found s (suc count) j at all good begins =
     let few : byte s 3 < 128 = omega (arith, good.header.letters.1) in
     let announced : j < records_in s = omega arith in
-    check (leb (next_at s at) (length s)) recordMissing at _
+    check (leb (next_at s at) (length s)) record_missing at _
     (λ t. (
       j,
       subst (Comes s j) begins (comes s j good announced),
@@ -515,7 +515,7 @@ section-joined s kind (suc count) more j at same =
     let e : j + suc count ≡ suc j + count = omega arith in
     let e' : suc count + more ≡ suc (count + more) = omega arith in
     let next = next_at s at in
-    let missing = unless (leb next (length s)) recordMissing at in
+    let missing = unless (leb next (length s)) record_missing at in
     let own : Kind → Option Fault = λ k. record_fault k (byte s 3) at (body_at s at) in
     let others = records_fault kind (byte s 3) s count next in
     let rest : ℕ → Option Fault = λ k. rest_fault s more k (after_at s count next) in
@@ -582,19 +582,19 @@ unfolding first_fault letters_in start_of
 first-fault-found s =
     let long = length s in
     let n = byte s 3 in
-    check (leb 8 long && leb long 4096) badSize 0 _ (λ t. (no-bounds 8 long long 4096 t, refl)) (λ t1.
+    check (leb 8 long && leb long 4096) bad_size 0 _ (λ t. (no-bounds 8 long long 4096 t, refl)) (λ t1.
     let sized = bounds 8 long long 4096 t1 in
-    check (eqb (byte s 0) 1) badVersion 0 _ (λ t. (sized, eqb-false (byte s 0) 1 t, refl)) (λ t2.
+    check (eqb (byte s 0) 1) bad_version 0 _ (λ t. (sized, eqb-false (byte s 0) 1 t, refl)) (λ t2.
     let version = eqb-true (byte s 0) 1 t2 in
-    check (eqb (byte s 1 * 256 + byte s 2) long) badLength 1 _
+    check (eqb (byte s 1 * 256 + byte s 2) long) bad_length 1 _
     (λ t. (sized, version, eqb-false (byte s 1 * 256 + byte s 2) long t, refl)) (λ t3.
     let stated = eqb-true (byte s 1 * 256 + byte s 2) long t3 in
-    check (leb 1 n && leb n 24) badLetters 3 _ (λ t. (sized, version, stated, no-bounds 1 n n 24 t, refl)) (λ t4.
+    check (leb 1 n && leb n 24) bad_letters 3 _ (λ t. (sized, version, stated, no-bounds 1 n n 24 t, refl)) (λ t4.
     let letters = bounds 1 n n 24 t4 in
-    check (leb (byte s 4) 32) tooMany 4 _
+    check (leb (byte s 4) 32) too_many_records 4 _
     (λ t. (sized, version, stated, letters, inl ((λ fit. omega (arith, leb-false (byte s 4) 32 t, fit)), refl))) (λ t5.
     let limits = leb-true (byte s 4) 32 t5 in
-    check (leb (byte s 7) 16) tooMany 7 _
+    check (leb (byte s 7) 16) too_many_records 7 _
     (λ t. (sized, version, stated, letters, inr (limits, (λ fit. omega (arith, leb-false (byte s 7) 16 t, fit)), refl))) (λ t6.
     let header : GoodHeader s = record {
       sized = sized;

@@ -14,15 +14,15 @@ use lib.ListN.{length}
 use Rattle.meaning.specs.System.{System}
 use Rattle.meaning.specs.Sheet.{
   Why,
-  badSize,
-  badVersion,
-  badLength,
-  badLetters,
-  tooMany,
-  recordMissing,
-  badShape,
-  badLiteral,
-  notAscending,
+  bad_size,
+  bad_version,
+  bad_length,
+  bad_letters,
+  too_many_records,
+  record_missing,
+  bad_shape,
+  bad_literal,
+  not_rising,
   surplus,
   number_of,
   Fault,
@@ -82,24 +82,24 @@ use Rattle.meaning.proofs.Demands.{fault-number, answers-fault-exactly}
 -- the fault that a number of the table stands for
 fault_of : ℕ → Why
 fault_of n =
-    cond (eqb n 1) badSize
-    (cond (eqb n 2) badVersion
-    (cond (eqb n 3) badLength
-    (cond (eqb n 4) badLetters
-    (cond (eqb n 5) tooMany
-    (cond (eqb n 6) recordMissing (cond (eqb n 7) badShape (cond (eqb n 8) badLiteral (cond (eqb n 9) notAscending surplus))))))))
+    cond (eqb n 1) bad_size
+    (cond (eqb n 2) bad_version
+    (cond (eqb n 3) bad_length
+    (cond (eqb n 4) bad_letters
+    (cond (eqb n 5) too_many_records
+    (cond (eqb n 6) record_missing (cond (eqb n 7) bad_shape (cond (eqb n 8) bad_literal (cond (eqb n 9) not_rising surplus))))))))
 
 fault-of-number : (w : Why) → fault_of (number_of w) ≡ w
 unfolding fault_of
-fault-of-number badSize = refl
-fault-of-number badVersion = refl
-fault-of-number badLength = refl
-fault-of-number badLetters = refl
-fault-of-number tooMany = refl
-fault-of-number recordMissing = refl
-fault-of-number badShape = refl
-fault-of-number badLiteral = refl
-fault-of-number notAscending = refl
+fault-of-number bad_size = refl
+fault-of-number bad_version = refl
+fault-of-number bad_length = refl
+fault-of-number bad_letters = refl
+fault-of-number too_many_records = refl
+fault-of-number record_missing = refl
+fault-of-number bad_shape = refl
+fault-of-number bad_literal = refl
+fault-of-number not_rising = refl
 fault-of-number surplus = refl
 
 -- Two faults of one number are one fault.
@@ -128,39 +128,39 @@ joined f g = (λ a. g.0 (f.0 a), λ c. f.1 (g.1 c))
 
 -- 1 "below 8 or above 4,096 bytes", at 0
 pub read-1-exactly : (s : List ℕ) (q : ℕ) → ReadPlaced s 1 q ↔ Fault1 s q
-read-1-exactly s q = joined (read-fault s badSize q) (fault-1-exactly s q)
+read-1-exactly s q = joined (read-fault s bad_size q) (fault-1-exactly s q)
 
 -- 2 "version not 1", at byte 0
 pub read-2-exactly : (s : List ℕ) (q : ℕ) → ReadPlaced s 2 q ↔ Fault2 s q
-read-2-exactly s q = joined (read-fault s badVersion q) (fault-2-exactly s q)
+read-2-exactly s q = joined (read-fault s bad_version q) (fault-2-exactly s q)
 
 -- 3 "stated length differs", at byte 1
 pub read-3-exactly : (s : List ℕ) (q : ℕ) → ReadPlaced s 3 q ↔ Fault3 s q
-read-3-exactly s q = joined (read-fault s badLength q) (fault-3-exactly s q)
+read-3-exactly s q = joined (read-fault s bad_length q) (fault-3-exactly s q)
 
 -- 4 "n not 1 to 24", at byte 3
 pub read-4-exactly : (s : List ℕ) (q : ℕ) → ReadPlaced s 4 q ↔ Fault4 s q
-read-4-exactly s q = joined (read-fault s badLetters q) (fault-4-exactly s q)
+read-4-exactly s q = joined (read-fault s bad_letters q) (fault-4-exactly s q)
 
 -- 5 "over 32 limits or 16 promises", at byte 4 before byte 7
 pub read-5-exactly : (s : List ℕ) (q : ℕ) → ReadPlaced s 5 q ↔ Fault5 s q
-read-5-exactly s q = joined (read-fault s tooMany q) (fault-5-exactly s q)
+read-5-exactly s q = joined (read-fault s too_many_records q) (fault-5-exactly s q)
 
 -- 6 "record missing or past the end", at its length byte
 pub read-6-exactly : (s : List ℕ) (q : ℕ) → ReadPlaced s 6 q ↔ Fault6 s q
-read-6-exactly s q = joined (read-fault s recordMissing q) (fault-6-exactly s q)
+read-6-exactly s q = joined (read-fault s record_missing q) (fault-6-exactly s q)
 
 -- 7 "bad shape", at the record's length byte
 pub read-7-exactly : (s : List ℕ) (q : ℕ) → ReadPlaced s 7 q ↔ Fault7 s q
-read-7-exactly s q = joined (read-fault s badShape q) (fault-7-exactly s q)
+read-7-exactly s q = joined (read-fault s bad_shape q) (fault-7-exactly s q)
 
 -- 8 "literal zero or size above n", at the literal
 pub read-8-exactly : (s : List ℕ) (q : ℕ) → ReadPlaced s 8 q ↔ Fault8 s q
-read-8-exactly s q = joined (read-fault s badLiteral q) (fault-8-exactly s q)
+read-8-exactly s q = joined (read-fault s bad_literal q) (fault-8-exactly s q)
 
 -- 9 "list not strictly ascending", at the literal
 pub read-9-exactly : (s : List ℕ) (q : ℕ) → ReadPlaced s 9 q ↔ Fault9 s q
-read-9-exactly s q = joined (read-fault s notAscending q) (fault-9-exactly s q)
+read-9-exactly s q = joined (read-fault s not_rising q) (fault-9-exactly s q)
 
 -- 10 "bytes after the last record", at the first of them
 pub read-10-exactly : (s : List ℕ) (q : ℕ) → ReadPlaced s 10 q ↔ Fault10 s q

@@ -12,8 +12,8 @@ use native.Mathlib.Omega.{arith}
 use lib.Dec.{leb, eqb}
 use lib.ListN.{length}
 use borrow.Author.Tests.{le-leb, lt-leb, eq-eqb, ne_eqb}
-use Rattle.meaning.specs.Sheet.{Why, badSize, badVersion, badLength, badLetters, tooMany, recordMissing, badShape, badLiteral}
-use Rattle.meaning.specs.Sheet.{notAscending, surplus, Fault, unless, most_bytes_of_a_sheet, names, size, byte, letters_in, first_fault}
+use Rattle.meaning.specs.Sheet.{Why, bad_size, bad_version, bad_length, bad_letters, too_many_records, record_missing, bad_shape, bad_literal}
+use Rattle.meaning.specs.Sheet.{not_rising, surplus, Fault, unless, most_bytes_of_a_sheet, names, size, byte, letters_in, first_fault}
 use Rattle.meaning.specs.Faults.{SizeFits, VersionFits, LengthFits, LettersFit, LimitsFit, PromisesFit, GoodHeader, start_of}
 use Rattle.meaning.specs.Faults.{records_in}
 use Rattle.meaning.specs.Faults.{kind_at, Present, ShapeFits, NamesLetter, Ascends, GoodRecord, GoodUpTo}
@@ -38,21 +38,21 @@ fail a b c d never = by (leb a b && leb c d) refl
     by false e = e
 
 module _ (s : List ℕ) where
-  size-so : (SizeFits s → ⊥) → first_fault s ≡ met badSize 0
+  size-so : (SizeFits s → ⊥) → first_fault s ≡ met bad_size 0
   unfolding first_fault
   size-so no_size = rw (fail 8 (length s) (length s) 4096 no_size)
 
-  version-so : SizeFits s → (VersionFits s → ⊥) → first_fault s ≡ met badVersion 0
+  version-so : SizeFits s → (VersionFits s → ⊥) → first_fault s ≡ met bad_version 0
   unfolding first_fault
   version-so sized no-version = rw (pass 8 (length s) (length s) 4096 sized, ne_eqb (byte s 0) 1 no-version)
 
-  length-so : SizeFits s → VersionFits s → (LengthFits s → ⊥) → first_fault s ≡ met badLength 1
+  length-so : SizeFits s → VersionFits s → (LengthFits s → ⊥) → first_fault s ≡ met bad_length 1
   unfolding first_fault
   length-so sized version no_length =
       rw (pass 8 (length s) (length s) 4096 sized, eq-eqb (byte s 0) 1 version, ne_eqb (byte s 1 * 256 + byte s 2) (length s) no_length)
 
   module _ (sized : SizeFits s) (version : VersionFits s) (stated : LengthFits s) where
-    letters-so : (LettersFit s → ⊥) → first_fault s ≡ met badLetters 3
+    letters-so : (LettersFit s → ⊥) → first_fault s ≡ met bad_letters 3
     unfolding first_fault letters_in
     letters-so no_letters =
         rw (
@@ -62,7 +62,7 @@ module _ (s : List ℕ) where
           fail 1 (byte s 3) (byte s 3) 24 no_letters,
         )
 
-    limits-so : LettersFit s → (LimitsFit s → ⊥) → first_fault s ≡ met tooMany 4
+    limits-so : LettersFit s → (LimitsFit s → ⊥) → first_fault s ≡ met too_many_records 4
     unfolding first_fault letters_in
     limits-so letters many =
         rw (
@@ -73,7 +73,7 @@ module _ (s : List ℕ) where
           lt-leb (byte s 4) 32 (omega arith),
         )
 
-    promises-so : LettersFit s → LimitsFit s → (PromisesFit s → ⊥) → first_fault s ≡ met tooMany 7
+    promises-so : LettersFit s → LimitsFit s → (PromisesFit s → ⊥) → first_fault s ≡ met too_many_records 7
     unfolding first_fault letters_in
     promises-so letters limits many =
         rw (
@@ -93,10 +93,10 @@ module _ (s : List ℕ) where
 
   -- reading stops in record j: the record is not all there, or has not its shape, or literal i is the first that is not good
   data Stopped (j : ℕ) (o : Option Fault) : Type 0 where
-    missing : (Present s (start_of s j) → ⊥) → o ≡ met recordMissing (start_of s j) → Stopped j o
-    misshapen : Present s (start_of s j) → (ShapeFits (kind_at s j) s (start_of s j) → ⊥) → o ≡ met badShape (start_of s j) → Stopped j o
+    missing : (Present s (start_of s j) → ⊥) → o ≡ met record_missing (start_of s j) → Stopped j o
+    misshapen : Present s (start_of s j) → (ShapeFits (kind_at s j) s (start_of s j) → ⊥) → o ≡ met bad_shape (start_of s j) → Stopped j o
     misread : (i : ℕ) → LiteralComes s j (start_of s j) i → (NamesLetter s i × Ascends (kind_at s j) s (start_of s j) i → ⊥)
-        → o ≡ met (cond (names (byte s 3) (byte s i)) notAscending badLiteral) i → Stopped j o
+        → o ≡ met (cond (names (byte s 3) (byte s i)) not_rising bad_literal) i → Stopped j o
 
   -- reading stops in a record, or comes to the end of the last
   data Ended (o : Option Fault) : Type 0 where
@@ -133,7 +133,7 @@ module _ (s : List ℕ) where
       let low = misread-once comes bad' comes' in
       let high = misread-once comes' bad comes in
       let same : i ≡ h = omega arith in
-      e ∙ ap (λ (k : ℕ). met (cond (names (byte s 3) (byte s k)) notAscending badLiteral) k) same ∙ sym e'
+      e ∙ ap (λ (k : ℕ). met (cond (names (byte s 3) (byte s k)) not_rising bad_literal) k) same ∙ sym e'
 
   -- A record that is reached lies no later than one in which reading stops.
   no-later : {j h : ℕ} {y : Option Fault} → GoodUpTo s j → Stopped h y → j ≤ h
@@ -159,27 +159,27 @@ module _ (s : List ℕ) where
   comes-again : {j q : ℕ} → Comes s j q → Comes s j (start_of s j)
   comes-again comes = record { before = comes.before; announced = comes.announced; begins = refl }
 
-  ended-6 : {q : ℕ} → Fault6 s q → Ended (met recordMissing q)
+  ended-6 : {q : ℕ} → Fault6 s q → Ended (met record_missing q)
   ended-6 (j, comes, gone) =
       stopped j (comes-again comes)
-      (missing (λ there. gone (subst (Present s) comes.begins there)) (ap (met recordMissing) (sym comes.begins)))
+      (missing (λ there. gone (subst (Present s) comes.begins there)) (ap (met record_missing) (sym comes.begins)))
 
-  ended-7 : {q : ℕ} → Fault7 s q → Ended (met badShape q)
+  ended-7 : {q : ℕ} → Fault7 s q → Ended (met bad_shape q)
   ended-7 (j, comes, there, no-shape) =
       stopped j (comes-again comes)
       (misshapen (subst (Present s) (sym comes.begins) there)
-      (λ shape. no-shape (subst (ShapeFits (kind_at s j) s) comes.begins shape)) (ap (met badShape) (sym comes.begins)))
+      (λ shape. no-shape (subst (ShapeFits (kind_at s j) s) comes.begins shape)) (ap (met bad_shape) (sym comes.begins)))
 
-  ended-8 : {i : ℕ} → Fault8 s i → Ended (met badLiteral i)
+  ended-8 : {i : ℕ} → Fault8 s i → Ended (met bad_literal i)
   unfolding names
   ended-8 {i} (j, q, comes, unnamed) =
       let at = comes.comes.begins in
       let t : names (byte s 3) (byte s i) ≡ false = fail 1 (size (byte s i)) (size (byte s i)) (byte s 3) unnamed in
       stopped j (comes-again comes.comes)
       (misread i (subst (λ (k : ℕ). LiteralComes s j k i) (sym at) comes) (λ good. unnamed good.0)
-      (ap (λ (b : Bool). met (cond b notAscending badLiteral) i) (sym t)))
+      (ap (λ (b : Bool). met (cond b not_rising bad_literal) i) (sym t)))
 
-  ended-9 : {i : ℕ} → Fault9 s i → Ended (met notAscending i)
+  ended-9 : {i : ℕ} → Fault9 s i → Ended (met not_rising i)
   unfolding names
   ended-9 {i} (j, q, comes, named, falls) =
       let at = comes.comes.begins in
@@ -187,7 +187,7 @@ module _ (s : List ℕ) where
       stopped j (comes-again comes.comes)
       (misread i (subst (λ (k : ℕ). LiteralComes s j k i) (sym at) comes)
       (λ good. falls (subst (λ (k : ℕ). Ascends (kind_at s j) s k i) at good.1))
-      (ap (λ (b : Bool). met (cond b notAscending badLiteral) i) (sym t)))
+      (ap (λ (b : Bool). met (cond b not_rising bad_literal) i) (sym t)))
 
   ended-10 : {q : ℕ} → Fault10 s q → Ended (met surplus q)
   ended-10 {q} (good, end, within) =
@@ -203,16 +203,16 @@ module _ (s : List ℕ) where
 
   -- Behind a good header none of the first five lines is so.
   fault-ended : GoodHeader s → (w : Why) (q : ℕ) → FaultAt s w q → Ended (met w q)
-  fault-ended good badSize q f = absurd (f.0 good.sized)
-  fault-ended good badVersion q f = absurd (f.1 good.version)
-  fault-ended good badLength q f = absurd (f.2 good.long)
-  fault-ended good badLetters q f = absurd (f.3 good.letters)
-  fault-ended good tooMany q (sized, version, long, letters, inl (many, e)) = absurd (many good.limits)
-  fault-ended good tooMany q (sized, version, long, letters, inr (few, many, e)) = absurd (many good.promises)
-  fault-ended good recordMissing q f = ended-6 f
-  fault-ended good badShape q f = ended-7 f
-  fault-ended good badLiteral q f = ended-8 f
-  fault-ended good notAscending q f = ended-9 f
+  fault-ended good bad_size q f = absurd (f.0 good.sized)
+  fault-ended good bad_version q f = absurd (f.1 good.version)
+  fault-ended good bad_length q f = absurd (f.2 good.long)
+  fault-ended good bad_letters q f = absurd (f.3 good.letters)
+  fault-ended good too_many_records q (sized, version, long, letters, inl (many, e)) = absurd (many good.limits)
+  fault-ended good too_many_records q (sized, version, long, letters, inr (few, many, e)) = absurd (many good.promises)
+  fault-ended good record_missing q f = ended-6 f
+  fault-ended good bad_shape q f = ended-7 f
+  fault-ended good bad_literal q f = ended-8 f
+  fault-ended good not_rising q f = ended-9 f
   fault-ended good surplus q f = ended-10 f
 
   -- `first_fault` tells that end.
@@ -234,41 +234,41 @@ module _ (s : List ℕ) where
   so-found good w q f = ended-unique (first-fault-ended good) (fault-ended good w q f)
 
 -- "0 for 1"
-pub fault-1-exactly : (s : List ℕ) (q : ℕ) → (first_fault s ≡ some (record { why = badSize; at = q })) ↔ Fault1 s q
-fault-1-exactly s q = (found-so s badSize q, λ f. moved s badSize 0 q f.1 (size-so s f.0))
+pub fault-1-exactly : (s : List ℕ) (q : ℕ) → (first_fault s ≡ some (record { why = bad_size; at = q })) ↔ Fault1 s q
+fault-1-exactly s q = (found-so s bad_size q, λ f. moved s bad_size 0 q f.1 (size-so s f.0))
 
 -- "the header byte for 2 to 5"
-pub fault-2-exactly : (s : List ℕ) (q : ℕ) → (first_fault s ≡ some (record { why = badVersion; at = q })) ↔ Fault2 s q
-fault-2-exactly s q = (found-so s badVersion q, λ f. moved s badVersion 0 q f.2 (version-so s f.0 f.1))
+pub fault-2-exactly : (s : List ℕ) (q : ℕ) → (first_fault s ≡ some (record { why = bad_version; at = q })) ↔ Fault2 s q
+fault-2-exactly s q = (found-so s bad_version q, λ f. moved s bad_version 0 q f.2 (version-so s f.0 f.1))
 
 -- "byte 1 for 3"
-pub fault-3-exactly : (s : List ℕ) (q : ℕ) → (first_fault s ≡ some (record { why = badLength; at = q })) ↔ Fault3 s q
-fault-3-exactly s q = (found-so s badLength q, λ f. moved s badLength 1 q f.3 (length-so s f.0 f.1 f.2))
+pub fault-3-exactly : (s : List ℕ) (q : ℕ) → (first_fault s ≡ some (record { why = bad_length; at = q })) ↔ Fault3 s q
+fault-3-exactly s q = (found-so s bad_length q, λ f. moved s bad_length 1 q f.3 (length-so s f.0 f.1 f.2))
 
-pub fault-4-exactly : (s : List ℕ) (q : ℕ) → (first_fault s ≡ some (record { why = badLetters; at = q })) ↔ Fault4 s q
-fault-4-exactly s q = (found-so s badLetters q, λ f. moved s badLetters 3 q f.4 (letters-so s f.0 f.1 f.2 f.3))
+pub fault-4-exactly : (s : List ℕ) (q : ℕ) → (first_fault s ≡ some (record { why = bad_letters; at = q })) ↔ Fault4 s q
+fault-4-exactly s q = (found-so s bad_letters q, λ f. moved s bad_letters 3 q f.4 (letters-so s f.0 f.1 f.2 f.3))
 
 -- "the limit count before the promise count for 5"
-pub fault-5-exactly : (s : List ℕ) (q : ℕ) → (first_fault s ≡ some (record { why = tooMany; at = q })) ↔ Fault5 s q
-fault-5-exactly s q = (found-so s tooMany q, so)
+pub fault-5-exactly : (s : List ℕ) (q : ℕ) → (first_fault s ≡ some (record { why = too_many_records; at = q })) ↔ Fault5 s q
+fault-5-exactly s q = (found-so s too_many_records q, so)
   where
-    so : Fault5 s q → first_fault s ≡ some (record { why = tooMany; at = q })
-    so (sized, version, long, letters, inl (many, e)) = moved s tooMany 4 q e (limits-so s sized version long letters many)
-    so (sized, version, long, letters, inr (few, many, e)) = moved s tooMany 7 q e (promises-so s sized version long letters few many)
+    so : Fault5 s q → first_fault s ≡ some (record { why = too_many_records; at = q })
+    so (sized, version, long, letters, inl (many, e)) = moved s too_many_records 4 q e (limits-so s sized version long letters many)
+    so (sized, version, long, letters, inr (few, many, e)) = moved s too_many_records 7 q e (promises-so s sized version long letters few many)
 
 -- "the record's length byte for 6 and 7"
-pub fault-6-exactly : (s : List ℕ) (q : ℕ) → (first_fault s ≡ some (record { why = recordMissing; at = q })) ↔ Fault6 s q
-fault-6-exactly s q = (found-so s recordMissing q, λ f. so-found s f.1.before.header recordMissing q f)
+pub fault-6-exactly : (s : List ℕ) (q : ℕ) → (first_fault s ≡ some (record { why = record_missing; at = q })) ↔ Fault6 s q
+fault-6-exactly s q = (found-so s record_missing q, λ f. so-found s f.1.before.header record_missing q f)
 
-pub fault-7-exactly : (s : List ℕ) (q : ℕ) → (first_fault s ≡ some (record { why = badShape; at = q })) ↔ Fault7 s q
-fault-7-exactly s q = (found-so s badShape q, λ f. so-found s f.1.before.header badShape q f)
+pub fault-7-exactly : (s : List ℕ) (q : ℕ) → (first_fault s ≡ some (record { why = bad_shape; at = q })) ↔ Fault7 s q
+fault-7-exactly s q = (found-so s bad_shape q, λ f. so-found s f.1.before.header bad_shape q f)
 
 -- "the literal's byte for 8 and 9"
-pub fault-8-exactly : (s : List ℕ) (i : ℕ) → (first_fault s ≡ some (record { why = badLiteral; at = i })) ↔ Fault8 s i
-fault-8-exactly s i = (found-so s badLiteral i, λ f. so-found s f.2.comes.before.header badLiteral i f)
+pub fault-8-exactly : (s : List ℕ) (i : ℕ) → (first_fault s ≡ some (record { why = bad_literal; at = i })) ↔ Fault8 s i
+fault-8-exactly s i = (found-so s bad_literal i, λ f. so-found s f.2.comes.before.header bad_literal i f)
 
-pub fault-9-exactly : (s : List ℕ) (i : ℕ) → (first_fault s ≡ some (record { why = notAscending; at = i })) ↔ Fault9 s i
-fault-9-exactly s i = (found-so s notAscending i, λ f. so-found s f.2.comes.before.header notAscending i f)
+pub fault-9-exactly : (s : List ℕ) (i : ℕ) → (first_fault s ≡ some (record { why = not_rising; at = i })) ↔ Fault9 s i
+fault-9-exactly s i = (found-so s not_rising i, λ f. so-found s f.2.comes.before.header not_rising i f)
 
 -- "the first surplus byte for 10"
 pub fault-10-exactly : (s : List ℕ) (q : ℕ) → (first_fault s ≡ some (record { why = surplus; at = q })) ↔ Fault10 s q
@@ -293,16 +293,16 @@ missing-byte-at-length s q f past = omega (arith, missing-within s q f)
 
 -- A fault's place is a byte of the sheet or the sheet's length, so at most 4,096.
 placed-within : (s : List ℕ) (w : Why) (q : ℕ) → FaultAt s w q → q ≤ most_bytes_of_a_sheet
-placed-within s badSize q f = omega (arith, f.1)
-placed-within s badVersion q f = omega (arith, f.2)
-placed-within s badLength q f = omega (arith, f.3)
-placed-within s badLetters q f = omega (arith, f.4)
-placed-within s tooMany q (sized, version, long, letters, inl (many, e)) = omega arith
-placed-within s tooMany q (sized, version, long, letters, inr (few, many, e)) = omega arith
-placed-within s recordMissing q f = omega (arith, missing-within s q f, f.1.before.header.sized.1)
-placed-within s badShape q f = omega (arith, f.2, f.1.before.header.sized.1)
-placed-within s badLiteral i f = omega (arith, f.2.literal.1, f.2.present, f.2.comes.before.header.sized.1)
-placed-within s notAscending i f = omega (arith, f.2.literal.1, f.2.present, f.2.comes.before.header.sized.1)
+placed-within s bad_size q f = omega (arith, f.1)
+placed-within s bad_version q f = omega (arith, f.2)
+placed-within s bad_length q f = omega (arith, f.3)
+placed-within s bad_letters q f = omega (arith, f.4)
+placed-within s too_many_records q (sized, version, long, letters, inl (many, e)) = omega arith
+placed-within s too_many_records q (sized, version, long, letters, inr (few, many, e)) = omega arith
+placed-within s record_missing q f = omega (arith, missing-within s q f, f.1.before.header.sized.1)
+placed-within s bad_shape q f = omega (arith, f.2, f.1.before.header.sized.1)
+placed-within s bad_literal i f = omega (arith, f.2.literal.1, f.2.present, f.2.comes.before.header.sized.1)
+placed-within s not_rising i f = omega (arith, f.2.literal.1, f.2.present, f.2.comes.before.header.sized.1)
 placed-within s surplus q f = omega (arith, f.2, f.0.header.sized.1)
 
 pub place-within : (s : List ℕ) {f : Fault} → first_fault s ≡ some f → f.at ≤ most_bytes_of_a_sheet

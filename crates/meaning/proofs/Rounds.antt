@@ -23,9 +23,9 @@ abbrev pub Quiet : System → ℕ → Type 0
 Quiet S n = (s : ℕ) → Left S n s → Left S (suc S.promises + n) s
 
 -- What is left is reachable.
-pub left-reachable : {S : System} (n : ℕ) {s : ℕ} → Left S n s → Reachable S s
-left-reachable zero l = l
-left-reachable (suc n) l = left-reachable n l.0
+pub left-reachable : (S : System) (n : ℕ) {s : ℕ} → Left S n s → Reachable S s
+left-reachable S zero l = l
+left-reachable S (suc n) l = left-reachable S n l.0
 
 -- What is left was left earlier.
 pub left-earlier : (S : System) (m n s : ℕ) → m ≤ n → Left S n s → Left S m s
@@ -277,7 +277,7 @@ saved-livable S U saved s r u = fair-livable r.0 s r.1 (walk-fair S U saved s u)
 
 -- After a quiet round an obeying run goes through each state left.
 pub left-livable : {S : System} (n : ℕ) → Quiet S n → {s : ℕ} → Left S n s → Livable S s
-left-livable {S} n q {s} l = saved-livable S (Left S n) (quiet-saves S n q) s (left-reachable n l) l
+left-livable {S} n q {s} l = saved-livable S (Left S n) (quiet-saves S n q) s (left-reachable S n l) l
 
 -- After a quiet round the states left are exactly the livable ones.
 pub quiet-left-is-livable : {S : System} (n : ℕ) → Quiet S n → (s : ℕ) → Left S n s ↔ Livable S s
@@ -285,7 +285,7 @@ quiet-left-is-livable n q s = (left-livable n q, livable-left n)
 
 -- After a quiet round nothing is struck ever again.
 pub quiet-stays : (S : System) (n m : ℕ) → Quiet S n → n ≤ m → (s : ℕ) → Left S n s → Left S m s
-quiet-stays S n m q h s l = livable-left m (left-livable n q l)
+quiet-stays S n m q h s l = livable-left m (left-livable {S = S} n q l)
 
 -- Numbers in order have their quotients, then their remainders in order.
 pub parts-rise : (c : ℕ) {a b : ℕ} → zero < c → a < b → (a / c < b / c) ⊎ ((a / c ≡ b / c) × (a % c < b % c))
@@ -320,14 +320,14 @@ word-reason-is S h n =
     mul-add-mod_self_left 32 (round_of S n) (reason_of S n) ∙ mod-eq_of_lt (omega arith)
 
 -- A next state of a reachable state is reachable.
-pub reachable-on : {S : System} {s t : ℕ} → Reachable S s → S.Move s t → Reachable S t
-reachable-on {s = s} r m = (suc r.0, (s, r.1, m))
+pub reachable-on : (S : System) {s t : ℕ} → Reachable S s → S.Move s t → Reachable S t
+reachable-on S {s = s} r m = (suc r.0, (s, r.1, m))
 
 module _ (S : System) (states words : List ℕ) (small : S.promises < 32) (L : StrikeList S states words) where
   -- a next state that is not left before phase b is listed with the word of a phase before b
   next-listed : (n b s t : ℕ) → Left S n s → S.Move s t → (Left S b t → ⊥) → (i : ℕ) × (i < b)
       × Listed states words (λ w. w ≡ word_of S i) t
-  next-listed n b s t l m gone = by (L.whole t (reachable-on (left-reachable n l) m))
+  next-listed n b s t l m gone = by (L.whole t (reachable-on S (left-reachable S n l) m))
     where
       by : In states t → (i : ℕ) × (i < b) × Listed states words (λ w. w ≡ word_of S i) t
       by j = at (L.struck j.0 j.1) (dec_lt (L.struck j.0 j.1).0 b)
@@ -357,7 +357,7 @@ pub strike-list-accepted : {S : System} {states words : List ℕ} → ((s : ℕ)
 strike-list-accepted {S} {states} {words} lawful small L = record {
   as_many = L.as_many;
   rising = λ i h. ⊎_elim (λ g. le_of_lt g) (λ g. le_of_eq g.0) (L.ordered i h);
-  lawful = λ i h. let k = L.struck i h in lawful (get_or states i 0) (left-reachable k.0 k.1.0);
+  lawful = λ i h. let k = L.struck i h in lawful (get_or states i 0) (left-reachable S k.0 k.1.0);
   reasons = λ i h. let k = L.struck i h in rw (k.2, word-reason-is S small k.0) (reason-at-most S k.0);
   firsts = λ s f. L.whole s (0, f);
   entries = λ i h. let k = L.struck i h in rw (k.2, word-reason-is S small k.0)

@@ -11,11 +11,11 @@ use lib.ListN.{length, length-map}
 use Rattle.meaning.specs.System.{Finite, Reachable}
 use Rattle.meaning.specs.Sheet.{
   Why,
-  badSize,
-  badVersion,
-  badLength,
-  badLetters,
-  tooMany,
+  bad_size,
+  bad_version,
+  bad_length,
+  bad_letters,
+  too_many_records,
   Fault,
   unless,
   ◌then◌,
@@ -97,12 +97,12 @@ byte-7-checked : (bytes : List ℕ) → first_fault bytes ≡ none → T (leb (b
 unfolding first_fault
 byte-7-checked bytes e =
     let n : ℕ = length bytes in
-    let past-size = second_none (unless (leb least_bytes n && leb n most_bytes_of_a_sheet) badSize 0) _ e in
-    let past-version = second_none (unless (eqb (byte bytes 0) 1) badVersion 0) _ past-size in
-    let past-length = second_none (unless (eqb (byte bytes 1 * 256 + byte bytes 2) n) badLength 1) _ past-version in
-    let past-letters = second_none (unless (leb 1 (letters_in bytes) && leb (letters_in bytes) most_letters) badLetters 3) _ past-length in
-    let past-limits = second_none (unless (leb (byte bytes 4) most_limits) tooMany 4) _ past-letters in
-    none_passes (leb (byte bytes 7) most_promises) tooMany 7 (first-none _ _ past-limits)
+    let past-size = second_none (unless (leb least_bytes n && leb n most_bytes_of_a_sheet) bad_size 0) _ e in
+    let past-version = second_none (unless (eqb (byte bytes 0) 1) bad_version 0) _ past-size in
+    let past-length = second_none (unless (eqb (byte bytes 1 * 256 + byte bytes 2) n) bad_length 1) _ past-version in
+    let past-letters = second_none (unless (leb 1 (letters_in bytes) && leb (letters_in bytes) most_letters) bad_letters 3) _ past-length in
+    let past-limits = second_none (unless (leb (byte bytes 4) most_limits) too_many_records 4) _ past-letters in
+    none_passes (leb (byte bytes 7) most_promises) too_many_records 7 (first-none _ _ past-limits)
 
 -- A good sheet has at most 16 promises.
 pub few-promises : (bytes : List ℕ) → first_fault bytes ≡ none → (system_in bytes).promises ≤ most_promises
@@ -114,10 +114,10 @@ letters-checked : (bytes : List ℕ) → first_fault bytes ≡ none → T (leb 1
 unfolding first_fault
 letters-checked bytes e =
     let n : ℕ = length bytes in
-    let past-size = second_none (unless (leb least_bytes n && leb n most_bytes_of_a_sheet) badSize 0) _ e in
-    let past-version = second_none (unless (eqb (byte bytes 0) 1) badVersion 0) _ past-size in
-    let past-length = second_none (unless (eqb (byte bytes 1 * 256 + byte bytes 2) n) badLength 1) _ past-version in
-    none_passes (leb 1 (letters_in bytes) && leb (letters_in bytes) most_letters) badLetters 3 (first-none _ _ past-length)
+    let past-size = second_none (unless (leb least_bytes n && leb n most_bytes_of_a_sheet) bad_size 0) _ e in
+    let past-version = second_none (unless (eqb (byte bytes 0) 1) bad_version 0) _ past-size in
+    let past-length = second_none (unless (eqb (byte bytes 1 * 256 + byte bytes 2) n) bad_length 1) _ past-version in
+    none_passes (leb 1 (letters_in bytes) && leb (letters_in bytes) most_letters) bad_letters 3 (first-none _ _ past-length)
 
 -- A good sheet has at most 24 letters.
 pub few-letters : (bytes : List ℕ) → first_fault bytes ≡ none → (decode bytes).letters ≤ most_letters

@@ -46,7 +46,7 @@ one-word-per-state {S} {states} {words} {states'} {words'} L M i j h k e = by (L
 -- The listed states are reachable.
 pub strike-list-reachable : {S : System} {states words : List ℕ} → StrikeList S states words → (i : ℕ) → i < length states
     → Reachable S (get_or states i 0)
-strike-list-reachable L i h = let k = L.struck i h in left-reachable k.0 k.1.0
+strike-list-reachable {S} L i h = let k = L.struck i h in left-reachable S k.0 k.1.0
 
 strike-list-inside : {S : System} {states words states' words' : List ℕ} → StrikeList S states words → StrikeList S states' words'
     → Inside (entry states words) (length states) (entry states' words') (length states')

@@ -6,19 +6,19 @@ use Rattle.std.proofs.Math.Option.{Option, none, some}
 -- ---- what can be wrong
 
 pub data Why : Type 0 where
-  badSize badVersion badLength badLetters tooMany recordMissing badShape badLiteral notAscending surplus : Why
+  bad_size bad_version bad_length bad_letters too_many_records record_missing bad_shape bad_literal not_rising surplus : Why
 
 -- the table's numbers 1 to 10
 abbrev pub number_of : Why → ℕ
-number_of badSize = 1
-number_of badVersion = 2
-number_of badLength = 3
-number_of badLetters = 4
-number_of tooMany = 5
-number_of recordMissing = 6
-number_of badShape = 7
-number_of badLiteral = 8
-number_of notAscending = 9
+number_of bad_size = 1
+number_of bad_version = 2
+number_of bad_length = 3
+number_of bad_letters = 4
+number_of too_many_records = 5
+number_of record_missing = 6
+number_of bad_shape = 7
+number_of bad_literal = 8
+number_of not_rising = 9
 number_of surplus = 10
 
 -- A fault and the byte where it was met: "0 for 1, the header byte for 2 to 5 (byte 1 for 3, the limit count before the promise count for
@@ -82,8 +82,8 @@ unfoldable pub literals_fault : ℕ → ℕ → ℕ → List ℕ → Option Faul
 unfolding names signed_below
 literals_fault n at before [] = none
 literals_fault n at before (b ∷ bs) =
-    unless (names n b) badLiteral at
-    then unless (signed_below before b) notAscending at
+    unless (names n b) bad_literal at
+    then unless (signed_below before b) not_rising at
     then literals_fault n (suc at) b bs
 
 -- Before the first literal stands byte 128, that is -128: below every literal that names a letter.
@@ -123,15 +123,15 @@ promise_of body = get_or body 0 0
 unfoldable pub record_fault : Kind → ℕ → ℕ → List ℕ → Option Fault
 unfolding limit_of step_of list_fault
 record_fault a_limit n at body =
-    unless (leb 2 (length body) && leb (get_or body 0 0) 1) badShape at
+    unless (leb 2 (length body) && leb (get_or body 0 0) 1) bad_shape at
     then list_fault n (at + 3) (limit_of body).among
 record_fault a_first n at body = list_fault n (at + 1) body
 record_fault a_step n at body =
-    unless (leb 1 (length body) && leb (get_or body 0 0) (length body - 1)) badShape at
+    unless (leb 1 (length body) && leb (get_or body 0 0) (length body - 1)) bad_shape at
     then list_fault n (at + 2) (step_of body).left
     then list_fault n (at + 2 + get_or body 0 0) (step_of body).right
 record_fault a_promise n at body =
-    unless (eqb (length body) 1) badShape at
+    unless (eqb (length body) 1) bad_shape at
     then list_fault n (at + 1) body
 
 -- ---- where things stand
@@ -165,7 +165,7 @@ unfoldable pub records_fault : Kind → ℕ → List ℕ → ℕ → ℕ → Opt
 unfolding record_fault body_at next_at
 records_fault kind n s zero at = none
 records_fault kind n s (suc count) at =
-    unless (leb (next_at s at) (length s)) recordMissing at
+    unless (leb (next_at s at) (length s)) record_missing at
     then record_fault kind n at (body_at s at)
     then records_fault kind n s count (next_at s at)
 
@@ -197,12 +197,12 @@ end_at s = after_at s (byte s 7) (promises_at s)
 unfoldable pub first_fault : List ℕ → Option Fault
 unfolding byte letters_in firsts_at steps_at promises_at end_at records_fault
 first_fault s =
-    unless (leb least_bytes (length s) && leb (length s) most_bytes_of_a_sheet) badSize 0
-    then unless (eqb (byte s 0) 1) badVersion 0
-    then unless (eqb (byte s 1 * 256 + byte s 2) (length s)) badLength 1
-    then unless (leb 1 (letters_in s) && leb (letters_in s) most_letters) badLetters 3
-    then unless (leb (byte s 4) most_limits) tooMany 4
-    then unless (leb (byte s 7) most_promises) tooMany 7
+    unless (leb least_bytes (length s) && leb (length s) most_bytes_of_a_sheet) bad_size 0
+    then unless (eqb (byte s 0) 1) bad_version 0
+    then unless (eqb (byte s 1 * 256 + byte s 2) (length s)) bad_length 1
+    then unless (leb 1 (letters_in s) && leb (letters_in s) most_letters) bad_letters 3
+    then unless (leb (byte s 4) most_limits) too_many_records 4
+    then unless (leb (byte s 7) most_promises) too_many_records 7
     then records_fault a_limit (letters_in s) s (byte s 4) 8
     then records_fault a_first (letters_in s) s (byte s 5) (firsts_at s)
     then records_fault a_step (letters_in s) s (byte s 6) (steps_at s)

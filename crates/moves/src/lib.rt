@@ -1,6 +1,7 @@
 // Where stored moves stand in one slice: for each place the cell that its row starts at, then for each place the cell that its row ends
 // before, then the cells, then for each place a link to another place of its class. Whoever reads or writes stored moves asks here. Beside
 // the code stands what is stored: rows of moves forth, and of moves back.
+#![tactic(auto)]
 
 ghost use Rattle.std.specs.Prelude.{◌≡◌, ◌<◌, ◌≤◌, length};
 ghost use Rattle.meaning.specs.Promises.{most_states};

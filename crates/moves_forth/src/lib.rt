@@ -1,4 +1,5 @@
 // Moves forth: for each of a table's first r places a row of the places that it moves to, one row for each class of states.
+#![tactic(auto)]
 
 ghost use Rattle.std.specs.Prelude.{◌≡◌, true, ◌<◌, ◌≤◌, length};
 ghost use Rattle.rules.specs.Book.{Shaped, book_lawful};

@@ -1,5 +1,7 @@
 // A part of a paper (its states, or its words) is handed to the checkers as bytes, big-endian, or as numbers; one of the two slices is
 // empty. So one implementation of each checker serves both. States and words have each their own width.
+#![tactic(auto)]
+
 ghost use Rattle.std.specs.Prelude.{◌≡◌, ◌+◌, ◌*◌, ◌≤◌, ◌<◌, length, take, drop, get_or};
 ghost use Rattle.meaning.specs.Promises.{big_endian};
 ghost use Rattle.papers.specs.Paper.{states_of, words_of};

@@ -16,8 +16,8 @@ use lib.ListN.{length, get_or, drop, length-drop, length-map}
 use lib.Seq.{length-take-le, get_or-take, get_or-drop}
 use borrow.Author.Tests.{leb-true, eqb-true}
 use Rattle.meaning.specs.Promises.{ReadSays, read_number, place_of, ReadPlaced}
-use Rattle.meaning.specs.Sheet.{Why, badSize, badVersion, badLength, badLetters, tooMany, recordMissing, badShape, badLiteral}
-use Rattle.meaning.specs.Sheet.{notAscending, surplus, number_of, Fault, unless, ◌then◌, positive, size, signed_below, names}
+use Rattle.meaning.specs.Sheet.{Why, bad_size, bad_version, bad_length, bad_letters, too_many_records, record_missing, bad_shape, bad_literal}
+use Rattle.meaning.specs.Sheet.{not_rising, surplus, number_of, Fault, unless, ◌then◌, positive, size, signed_below, names}
 use Rattle.meaning.specs.Sheet.{literals_fault, list_fault, record_fault, records_fault, first_fault, Kind, a_limit, a_first, a_step, a_promise}
 use Rattle.meaning.specs.Sheet.{Limit, StepRule, limit_of, step_of, promise_of, byte, body_at, next_at, after_at, bodies}
 use Rattle.meaning.specs.Sheet.{letters_in, most_letters, firsts_at, steps_at, promises_at, end_at, decode}
@@ -37,15 +37,15 @@ use Rattle.reader.specs.Answer.{why_of, fault_of, why_number, answer_of, in_numb
 
 -- A fault's number is that of the meaning's.
 pub number-kept : (w : Why) → why_number (why_of w) ≡ number_of w
-number-kept badSize = refl
-number-kept badVersion = refl
-number-kept badLength = refl
-number-kept badLetters = refl
-number-kept tooMany = refl
-number-kept recordMissing = refl
-number-kept badShape = refl
-number-kept badLiteral = refl
-number-kept notAscending = refl
+number-kept bad_size = refl
+number-kept bad_version = refl
+number-kept bad_length = refl
+number-kept bad_letters = refl
+number-kept too_many_records = refl
+number-kept record_missing = refl
+number-kept bad_shape = refl
+number-kept bad_literal = refl
+number-kept not_rising = refl
 number-kept surplus = refl
 
 -- The reader's answer r, known to be good or a fault f, is so in numbers. A fault's place is small.
@@ -150,8 +150,8 @@ first_above :
 unfolding literals_fault
 first_above n at before [] e h = absurd (omega arith)
 first_above n at before (b ∷ bs) e h =
-    let rest = first-passed (names n b) badLiteral at _ e in
-    (first-passed (signed_below before b) notAscending at _ rest.1).0
+    let rest = first-passed (names n b) bad_literal at _ e in
+    (first-passed (signed_below before b) not_rising at _ rest.1).0
 
 more-good :
     (n b : ℕ) (bs : List ℕ) → names n b ≡ true → (0 < length bs → signed_below b (get_or bs 0 0) ≡ true) → LiteralsGood n bs
@@ -170,8 +170,8 @@ literals-good : (n at before : ℕ) (ls : List ℕ) → literals_fault n at befo
 unfolding literals_fault
 literals-good n at before [] e = record { named = λ j h. absurd (omega arith); rising = λ j h. absurd (omega arith) }
 literals-good n at before (b ∷ bs) e =
-    let here = first-passed (names n b) badLiteral at _ e in
-    let rest = (first-passed (signed_below before b) notAscending at _ here.1).1 in
+    let here = first-passed (names n b) bad_literal at _ e in
+    let rest = (first-passed (signed_below before b) not_rising at _ here.1).1 in
     more-good n b bs here.0 (first_above n (suc at) b bs rest) (literals-good n (suc at) b bs rest)
 
 -- A list that reads without fault is good.
@@ -200,7 +200,7 @@ pub record PromiseGood (n : ℕ) (body : List ℕ) : Type 0 where
 pub limit-good : (n at : ℕ) (body : List ℕ) → record_fault a_limit n at body ≡ none → LimitGood n body
 unfolding record_fault
 limit-good n at body e =
-    let shape = first-passed (leb 2 (length body) && leb (get_or body 0 0) 1) badShape at _ e in
+    let shape = first-passed (leb 2 (length body) && leb (get_or body 0 0) 1) bad_shape at _ e in
     let shaped = bounds 2 (length body) (get_or body 0 0) 1 shape.0 in
     record { long = shaped.0; kind = shaped.1; among = list-good n (at + 3) (limit_of body).among shape.1 }
 
@@ -213,7 +213,7 @@ first_good n at body e = list-good n (at + 1) body e
 pub step-good : (n at : ℕ) (body : List ℕ) → record_fault a_step n at body ≡ none → StepGood n body
 unfolding record_fault
 step-good n at body e =
-    let shape = first-passed (leb 1 (length body) && leb (get_or body 0 0) (length body - 1)) badShape at _ e in
+    let shape = first-passed (leb 1 (length body) && leb (get_or body 0 0) (length body - 1)) bad_shape at _ e in
     let shaped = bounds 1 (length body) (get_or body 0 0) (length body - 1) shape.0 in
     let sides = then-none (list_fault n (at + 2) (step_of body).left) (list_fault n (at + 2 + get_or body 0 0) (step_of body).right)
     shape.1 in
@@ -228,7 +228,7 @@ step-good n at body e =
 pub promise-good : (n at : ℕ) (body : List ℕ) → record_fault a_promise n at body ≡ none → PromiseGood n body
 unfolding record_fault promise_of
 promise-good n at body e =
-    let shape = first-passed (eqb (length body) 1) badShape at _ e in
+    let shape = first-passed (eqb (length body) 1) bad_shape at _ e in
     let one = eqb-true (length body) 1 shape.0 in
     record { one = one; literal = (list-good n (at + 1) body shape.1).named 0 (omega arith) }
 
@@ -265,12 +265,12 @@ pub record-good :
 unfolding records_fault after_at
 record-good kind n s zero at e i h = absurd (omega arith)
 record-good kind n s (suc count) at e zero h =
-    let room = first-passed (leb (next_at s at) (length s)) recordMissing at _ e in
+    let room = first-passed (leb (next_at s at) (length s)) record_missing at _ e in
     let here = then-none (record_fault kind n at (body_at s at)) (records_fault kind n s count (next_at s at)) room.1 in
     let fits = leb-true (next_at s at) (length s) room.0 in
     record { fits = fits; sized = length-body s at fits; faultless = here.0 }
 record-good kind n s (suc count) at e (suc i) h =
-    let room = first-passed (leb (next_at s at) (length s)) recordMissing at _ e in
+    let room = first-passed (leb (next_at s at) (length s)) record_missing at _ e in
     let here = then-none (record_fault kind n at (body_at s at)) (records_fault kind n s count (next_at s at)) room.1 in
     record-good kind n s count (next_at s at) here.1 i (omega arith)
 
@@ -317,12 +317,12 @@ pub record Header (s : List ℕ) : Type 0 where
 pub good-header : (s : List ℕ) → first_fault s ≡ none → Header s
 unfolding first_fault
 good-header s e =
-    let p1 = first-passed (leb 8 (length s) && leb (length s) 4096) badSize 0 _ e in
-    let p2 = first-passed (eqb (version_in s) 1) badVersion version_byte _ p1.1 in
-    let p3 = first-passed (eqb (length_in s) (length s)) badLength length_byte _ p2.1 in
-    let p4 = first-passed (leb 1 (letters_in s) && leb (letters_in s) most_letters) badLetters letters_byte _ p3.1 in
-    let p5 = first-passed (leb (limits_in s) 32) tooMany limits_byte _ p4.1 in
-    let p6 = first-passed (leb (promises_in s) 16) tooMany promises_byte _ p5.1 in
+    let p1 = first-passed (leb 8 (length s) && leb (length s) 4096) bad_size 0 _ e in
+    let p2 = first-passed (eqb (version_in s) 1) bad_version version_byte _ p1.1 in
+    let p3 = first-passed (eqb (length_in s) (length s)) bad_length length_byte _ p2.1 in
+    let p4 = first-passed (leb 1 (letters_in s) && leb (letters_in s) most_letters) bad_letters letters_byte _ p3.1 in
+    let p5 = first-passed (leb (limits_in s) 32) too_many_records limits_byte _ p4.1 in
+    let p6 = first-passed (leb (promises_in s) 16) too_many_records promises_byte _ p5.1 in
     let p7 = then-none (records_fault a_limit (letters_in s) s (limits_in s) records_at) _ p6.1 in
     let p8 = then-none (records_fault a_first (letters_in s) s (firsts_in s) (firsts_at s)) _ p7.1 in
     let p9 = then-none (records_fault a_step (letters_in s) s (steps_in s) (steps_at s)) _ p8.1 in

@@ -9,7 +9,7 @@ use native.Mathlib.Numerals.{add-one}
 use lib.Dec.{leb}
 use lib.ListN.{length, get_or}
 use borrow.Author.Tests.{le-leb, lt-leb, eq-eqb, ne_eqb}
-use Rattle.meaning.specs.Sheet.{badShape, Fault, unless, ◌then◌, signed_below, names, literals_fault, list_fault}
+use Rattle.meaning.specs.Sheet.{bad_shape, Fault, unless, ◌then◌, signed_below, names, literals_fault, list_fault}
 use Rattle.meaning.specs.Sheet.{byte, body_at, next_at, record_fault, step_of, a_limit, a_first, a_step, a_promise}
 use Rattle.ground.proofs.Tests.{second-false}
 use Rattle.reader.specs.declared.Why.TheVariants.{BadLiteral, NotAscending, BadShape}
@@ -93,10 +93,10 @@ refused e d (some g) later q = sym q
 abbrev pub misshapen : ℕ → Step
 misshapen at = Refused (record { why = BadShape; at = at })
 
-shapeless : (t : Bool) (e at : ℕ) (later : Option Fault) → t ≡ false → misshapen at ≡ step_to e (unless t badShape at then later)
+shapeless : (t : Bool) (e at : ℕ) (later : Option Fault) → t ≡ false → misshapen at ≡ step_to e (unless t bad_shape at then later)
 shapeless t e at later q = rw q
 
-shaped : (t : Bool) (at : ℕ) (later : Option Fault) → t ≡ true → later ≡ (unless t badShape at then later)
+shaped : (t : Bool) (at : ℕ) (later : Option Fault) → t ≡ true → later ≡ (unless t bad_shape at then later)
 shaped t at later q = rw q
 
 module _ (s : List ℕ) (n at : ℕ) (fits : next_at s at ≤ length s) where

@@ -7,7 +7,7 @@ use native.Mathlib.Omega.{arith}
 use lib.Dec.{leb, eqb}
 use lib.ListN.{length}
 use borrow.Author.Tests.{le-leb, lt-leb, eq-eqb, ne_eqb, leb-true}
-use Rattle.meaning.specs.Sheet.{recordMissing, surplus, Fault, unless, ◌then◌, Kind, record_fault, records_fault, body_at, next_at, after_at}
+use Rattle.meaning.specs.Sheet.{record_missing, surplus, Fault, unless, ◌then◌, Kind, record_fault, records_fault, body_at, next_at, after_at}
 use Rattle.reader.specs.declared.Why.TheVariants.{RecordMissing, Surplus}
 use Rattle.reader.specs.declared.Fault as F
 use Rattle.reader.specs.declared.cursor.Cursor.{Cursor}
@@ -61,7 +61,7 @@ pub section-refused :
 unfolding next_step records_step after_at records_fault
 section-refused kind n s count start zero at l h q = absurd (omega arith)
 section-refused kind n s count start (suc m) at l h q =
-    unrolled (next_at s at) (after_at s m (next_at s at)) (unless (leb (next_at s at) (length s)) recordMissing at)
+    unrolled (next_at s at) (after_at s m (next_at s at)) (unless (leb (next_at s at) (length s)) record_missing at)
     (record_fault kind n at (body_at s at)) (records_fault kind n s m (next_at s at)) q
     ∙ l.rest
 
@@ -72,13 +72,13 @@ pub section-goes-on :
 unfolding next_step records_step after_at records_fault
 section-goes-on kind n s count start zero at l h q = absurd (omega arith)
 section-goes-on kind n s count start (suc m) at l h {c} q =
-    let room : Option Fault = unless (leb (next_at s at) (length s)) recordMissing at in
+    let room : Option Fault = unless (leb (next_at s at) (length s)) record_missing at in
     let fault : Option Fault = record_fault kind n at (body_at s at) in
     let later : Option Fault = records_fault kind n s m (next_at s at) in
     let d = moved (next_at s at) (room then fault) q in
     let none_here = then-none room fault d.0 in
     let fits : next_at s at ≤ length s =
-    leb-true (next_at s at) (length s) (passed (leb (next_at s at) (length s)) recordMissing at none_here.0) in
+    leb-true (next_at s at) (length s) (passed (leb (next_at s at) (length s)) record_missing at none_here.0) in
     let less : suc m - 1 ≡ m = omega arith in
     record {
       within = subst (λ (x : ℕ). x ≤ length s) (sym d.1) fits;

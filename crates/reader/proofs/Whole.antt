@@ -9,7 +9,7 @@ use lib.Dec.{leb, eqb}
 use lib.ListN.{length}
 use borrow.Author.Tests.{le-leb, lt-leb}
 use native.Mathlib.Omega.{arith}
-use Rattle.meaning.specs.Sheet.{badSize, badVersion, badLength, badLetters, ◌then◌, Fault, letters_in, most_letters, first_fault}
+use Rattle.meaning.specs.Sheet.{bad_size, bad_version, bad_length, bad_letters, ◌then◌, Fault, letters_in, most_letters, first_fault}
 use Rattle.ground.proofs.Tests.{second-false}
 use Rattle.reader.specs.declared.Why.TheVariants.{BadSize, BadVersion, BadLength, BadLetters, TooMany}
 use Rattle.reader.specs.declared.Fault as F
@@ -142,10 +142,10 @@ pub header-passed : (s : List ℕ) {c : Cursor} → step_to records_at (header_f
 unfolding header_fault
 header-passed s q =
     let m = moved records_at (header_fault s) q in
-    let p1 = first-passed (leb 8 (length s) && leb (length s) 4096) badSize 0 _ m.0 in
-    let p2 = first-passed (eqb (version_in s) 1) badVersion version_byte _ p1.1 in
-    let p3 = first-passed (eqb (length_in s) (length s)) badLength length_byte _ p2.1 in
-    let p4 = first-passed (leb 1 (letters_in s) && leb (letters_in s) most_letters) badLetters letters_byte _ p3.1 in
+    let p1 = first-passed (leb 8 (length s) && leb (length s) 4096) bad_size 0 _ m.0 in
+    let p2 = first-passed (eqb (version_in s) 1) bad_version version_byte _ p1.1 in
+    let p3 = first-passed (eqb (length_in s) (length s)) bad_length length_byte _ p2.1 in
+    let p4 = first-passed (leb 1 (letters_in s) && leb (letters_in s) most_letters) bad_letters letters_byte _ p3.1 in
     record {
       behind = m.1;
       least = (bounds 8 (length s) (length s) 4096 p1.0).0;

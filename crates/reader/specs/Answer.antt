@@ -18,15 +18,15 @@ use Rattle.reader.specs.declared.InNumbers.TheVariants as N
 
 -- the enum's variant for each fault of the meaning
 abbrev pub why_of : Sheet.Why → Why
-why_of Sheet.badSize = BadSize
-why_of Sheet.badVersion = BadVersion
-why_of Sheet.badLength = BadLength
-why_of Sheet.badLetters = BadLetters
-why_of Sheet.tooMany = TooMany
-why_of Sheet.recordMissing = RecordMissing
-why_of Sheet.badShape = BadShape
-why_of Sheet.badLiteral = BadLiteral
-why_of Sheet.notAscending = NotAscending
+why_of Sheet.bad_size = BadSize
+why_of Sheet.bad_version = BadVersion
+why_of Sheet.bad_length = BadLength
+why_of Sheet.bad_letters = BadLetters
+why_of Sheet.too_many_records = TooMany
+why_of Sheet.record_missing = RecordMissing
+why_of Sheet.bad_shape = BadShape
+why_of Sheet.bad_literal = BadLiteral
+why_of Sheet.not_rising = NotAscending
 why_of Sheet.surplus = Surplus
 
 -- document 01's number for each fault
@@ -77,7 +77,7 @@ record_step kind n s at = step_to (Sheet.next_at s at) (Sheet.record_fault kind 
 unfoldable pub next_step : Sheet.Kind → ℕ → List ℕ → ℕ → Step
 next_step kind n s at =
     step_to (Sheet.next_at s at)
-    (unless (leb (Sheet.next_at s at) (length s)) Sheet.recordMissing at then Sheet.record_fault kind n at (Sheet.body_at s at))
+    (unless (leb (Sheet.next_at s at) (length s)) Sheet.record_missing at then Sheet.record_fault kind n at (Sheet.body_at s at))
 
 -- `count` records of a kind from `at` on
 unfoldable pub records_step : Sheet.Kind → ℕ → List ℕ → ℕ → ℕ → Step

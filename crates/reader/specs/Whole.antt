@@ -2,7 +2,7 @@
 -- the meaning's `first_fault` is proved (proofs/Whole.antt). Assumes nothing.
 use Rattle.std.specs.Prelude.{◌&&◌, List, ℕ, leb, eqb, length}
 use Rattle.std.proofs.Math.Option.{Option}
-use Rattle.meaning.specs.Sheet.{badSize, badVersion, badLength, badLetters, tooMany, surplus, Fault, unless, ◌then◌, letters_in}
+use Rattle.meaning.specs.Sheet.{bad_size, bad_version, bad_length, bad_letters, too_many_records, surplus, Fault, unless, ◌then◌, letters_in}
 use Rattle.meaning.specs.Sheet.{least_bytes, most_bytes_of_a_sheet, most_letters, most_limits, most_promises}
 use Rattle.meaning.specs.Sheet.{a_limit, a_first, a_step, a_promise, records_fault, firsts_at, steps_at, promises_at, end_at}
 use Rattle.reader.specs.Header.{version_byte, length_byte, letters_byte, limits_byte, promises_byte, records_at}
@@ -10,12 +10,12 @@ use Rattle.reader.specs.Header.{version_in, length_in, limits_in, firsts_in, ste
 
 unfoldable pub header_fault : List ℕ → Option Fault
 header_fault s =
-    unless (leb least_bytes (length s) && leb (length s) most_bytes_of_a_sheet) badSize 0
-    then unless (eqb (version_in s) 1) badVersion version_byte
-    then unless (eqb (length_in s) (length s)) badLength length_byte
-    then unless (leb 1 (letters_in s) && leb (letters_in s) most_letters) badLetters letters_byte
-    then unless (leb (limits_in s) most_limits) tooMany limits_byte
-    then unless (leb (promises_in s) most_promises) tooMany promises_byte
+    unless (leb least_bytes (length s) && leb (length s) most_bytes_of_a_sheet) bad_size 0
+    then unless (eqb (version_in s) 1) bad_version version_byte
+    then unless (eqb (length_in s) (length s)) bad_length length_byte
+    then unless (leb 1 (letters_in s) && leb (letters_in s) most_letters) bad_letters letters_byte
+    then unless (leb (limits_in s) most_limits) too_many_records limits_byte
+    then unless (leb (promises_in s) most_promises) too_many_records promises_byte
 
 unfoldable pub sections_fault : List ℕ → Option Fault
 sections_fault s =

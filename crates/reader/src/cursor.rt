@@ -11,13 +11,13 @@ use super::parts::{limit_parts, step_parts};
 use super::{Fault, Kind, Why};
 
 // A place in a sheet.
-#[derive(Drop)]
+#[derive(Clone, Copy)]
 pub struct Cursor {
     pub at: usize,
 }
 
 // What a cursor's method gives back: the moved cursor, or the fault.
-#[derive(Drop)]
+#[derive(Clone, Copy)]
 pub enum Step {
     Moved(Cursor),
     Refused(Fault),

@@ -1,6 +1,8 @@
 // The sheet reader: whether a sheet is good, or its first fault and the byte where it stands. One pass, front to back; nothing is copied
 // and nothing changed. What a caller may rely on is the meaning's `first_fault` itself; in numbers it is `ReadPlaced` (`verdict_on`), and
 // what follows for a good sheet is in proofs/Good.antt.
+#![tactic(auto)]
+
 ghost use Rattle.std.specs.Prelude.{◌≡◌};
 ghost use Rattle.meaning.specs.Sheet.{end_at, first_fault};
 ghost use Rattle.meaning.specs.Promises.{ReadSays, ReadPlaced, ReadOut};
@@ -14,7 +16,7 @@ pub mod literal;
 pub mod parts;
 
 // What can be wrong with a sheet, in the order of document 01's numbers 1 to 10.
-#[derive(Drop)]
+#[derive(Clone, Copy)]
 pub enum Why {
     BadSize,
     BadVersion,
@@ -29,14 +31,14 @@ pub enum Why {
 }
 
 // A fault and the byte where it was met: its place.
-#[derive(Drop)]
+#[derive(Clone, Copy)]
 pub struct Fault {
     pub why: Why,
     pub at: usize,
 }
 
 // The four kinds of records.
-#[derive(Drop)]
+#[derive(Clone, Copy)]
 pub enum Kind {
     Limit,
     FirstRule,
@@ -45,21 +47,21 @@ pub enum Kind {
 }
 
 // What reading a sheet says: it is good, or its first fault with its place.
-#[derive(Drop)]
+#[derive(Clone, Copy)]
 pub enum Answer {
     Good,
     Bad(Fault),
 }
 
 // An answer in numbers: document 01's number, and the place of a bad sheet's fault, 0 on every other answer.
-#[derive(Drop)]
+#[derive(Clone, Copy)]
 pub struct Verdict {
     pub answer: u32,
     pub place: u32,
 }
 
 // What a call that answers in numbers is told of its sheet: it is good, or this is the call's answer.
-#[derive(Drop)]
+#[derive(Clone, Copy)]
 pub enum InNumbers {
     Good,
     Refused(Verdict),
@@ -131,9 +133,8 @@ pub fn verdict_on(sheet: &[u8]) -> Verdict
     }
 }
 
-// The number for callers in C: 0 for a good sheet, or that of its first fault.
-#[unsafe(no_mangle)]
-pub extern "C" fn naxxurbi_read(sheet: &[u8]) -> u32
+// The number for callers in C, to whom crate reader_c hands it: 0 for a good sheet, or that of its first fault.
+pub fn naxxurbi_read(sheet: &[u8]) -> u32
     ensures { ReadSays sheet.now result }
 {
     let v = verdict_on(sheet);
@@ -141,8 +142,7 @@ pub extern "C" fn naxxurbi_read(sheet: &[u8]) -> u32
 }
 
 // The same with the place: number and place go into `out`, in this order, whatever the sheet. The place of a good sheet is 0.
-#[unsafe(no_mangle)]
-pub extern "C" fn naxxurbi_read_place(sheet: &[u8], out: &mut [u32; 2])
+pub fn naxxurbi_read_place(sheet: &[u8], out: &mut [u32; 2])
     ensures { ReadOut sheet.now out.new }
 {
     let v = verdict_on(sheet);

@@ -2,7 +2,7 @@
 ghost use Rattle.reader.specs.Parts.{LimitAsks, LimitRead, StepAsks, StepRead};
 
 // A limit: whether it says exactly, its bound, and where its literals start and end.
-#[derive(Drop)]
+#[derive(Clone, Copy)]
 pub struct LimitParts {
     pub exact: bool,
     pub bound: u8,
@@ -27,7 +27,7 @@ pub fn limit_parts(s: &[u8], at: usize) -> LimitParts
 }
 
 // A step rule: where the literals of its left side start, where those of its right side start, and where these end.
-#[derive(Drop)]
+#[derive(Clone, Copy)]
 pub struct StepParts {
     pub left: usize,
     pub right: usize,

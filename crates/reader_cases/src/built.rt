@@ -4,18 +4,20 @@ use reader::header::{
     FIRSTS_AT, LENGTH_AT, LENGTH_LOW_AT, LETTERS_AT, LIMITS_AT, PROMISES_AT, RECORDS_AT, STEPS_AT,
     VERSION_AT,
 };
+use std::io;
 
 const ROOM: usize = 4097;
 
 // Shows the first n bytes.
-fn front(name: &[u8], sheet: &[u8], n: usize) {
+fn front(rt: &impl Print, name: &str, sheet: &[u8], n: usize) -> io::Result<()> {
     if n <= sheet.len() {
-        show(name, &sheet[..n]);
+        show(rt, name, &sheet[..n])?;
     }
+    Ok(())
 }
 
-fn show_front(name: &[u8], sheet: &[u8; ROOM], n: usize) {
-    front(name, sheet, n);
+fn show_front(rt: &impl Print, name: &str, sheet: &[u8; ROOM], n: usize) -> io::Result<()> {
+    front(rt, name, sheet, n)
 }
 
 fn put(sheet: &mut [u8; ROOM], at: usize, b: u8) {
@@ -93,27 +95,28 @@ fn first_rules(sheet: &mut [u8; ROOM], at: usize, records: u16, k: u8) -> usize 
 }
 
 // 4,096 bytes: 255 first rules, eight of 16 literals and the others of 15; the last starts at byte 4,080.
-pub fn longest() {
+pub fn longest(rt: &impl Print) -> io::Result<()> {
     let mut sheet = [0u8; ROOM];
     head(&mut sheet, 16, 0, 24);
     counts(&mut sheet, 0, 255, 0, 0);
     let at = first_rules(&mut sheet, RECORDS_AT, 8, 16);
     first_rules(&mut sheet, at, 247, 15);
-    show_front(b"4,096 bytes", &sheet, 4096);
-    show_front(b"1: 4,097 bytes", &sheet, 4097);
-    show_front(b"3: 4,095 bytes", &sheet, 4095);
+    show_front(rt, "4,096 bytes", &sheet, 4096)?;
+    show_front(rt, "1: 4,097 bytes", &sheet, 4097)?;
+    show_front(rt, "3: 4,095 bytes", &sheet, 4095)?;
     put(&mut sheet, 4095, 0);
-    show_front(b"8: the last byte of 4,096", &sheet, 4096);
+    show_front(rt, "8: the last byte of 4,096", &sheet, 4096)?;
     put(&mut sheet, 4095, 14);
-    show_front(b"9: the last byte of 4,096", &sheet, 4096);
+    show_front(rt, "9: the last byte of 4,096", &sheet, 4096)?;
     put(&mut sheet, 4080, 16);
-    show_front(b"6: the last record of 4,096 bytes", &sheet, 4096);
+    show_front(rt, "6: the last record of 4,096 bytes", &sheet, 4096)?;
     put(&mut sheet, 4080, 14);
-    show_front(b"10: the last byte of 4,096", &sheet, 4096);
+    show_front(rt, "10: the last byte of 4,096", &sheet, 4096)?;
+    Ok(())
 }
 
 // All counts at their maxima, 901 bytes; the last promise starts at byte 899.
-pub fn fullest() {
+pub fn fullest(rt: &impl Print) -> io::Result<()> {
     let mut sheet = [0u8; ROOM];
     head(&mut sheet, 3, 133, 1);
     counts(&mut sheet, 32, 255, 255, 16);
@@ -121,35 +124,48 @@ pub fn fullest() {
     let steps = repeat(&mut sheet, firsts, 255, 1, 0, 0, 0);
     let promises = repeat(&mut sheet, steps, 255, 2, 1, 0, 0);
     repeat(&mut sheet, promises, 16, 2, 1, 1, 0);
-    show_front(b"all counts at their maxima", &sheet, 901);
+    show_front(rt, "all counts at their maxima", &sheet, 901)?;
     put(&mut sheet, 900, 0);
-    show_front(b"8: the last promise", &sheet, 901);
+    show_front(rt, "8: the last promise", &sheet, 901)?;
     put(&mut sheet, 899, 0);
-    show_front(b"7: the last promise", &sheet, 901);
+    show_front(rt, "7: the last promise", &sheet, 901)?;
     put(&mut sheet, 899, 2);
-    show_front(b"6: the last promise", &sheet, 901);
+    show_front(rt, "6: the last promise", &sheet, 901)?;
     put(&mut sheet, PROMISES_AT, 15);
-    show_front(b"10: behind 15 promises", &sheet, 901);
+    show_front(rt, "10: behind 15 promises", &sheet, 901)?;
     put(&mut sheet, PROMISES_AT, 17);
-    show_front(b"5: one promise more", &sheet, 901);
+    show_front(rt, "5: one promise more", &sheet, 901)?;
+    Ok(())
 }
 
 // One record of 255 bytes, in a sheet of 264.
-pub fn long_records() {
+pub fn long_records(rt: &impl Print) -> io::Result<()> {
     let mut sheet = [0u8; ROOM];
     head(&mut sheet, 1, 8, 24);
     put(&mut sheet, RECORDS_AT, 255);
     rising(&mut sheet, RECORDS_AT + 1, 24);
     counts(&mut sheet, 0, 1, 0, 0);
-    show_front(b"8: a first rule of 255 bytes, zeros behind", &sheet, 264);
-    put(&mut sheet, 33, 24);
     show_front(
-        b"9: a first rule of 255 bytes, a literal twice",
+        rt,
+        "8: a first rule of 255 bytes, zeros behind",
         &sheet,
         264,
-    );
+    )?;
+    put(&mut sheet, 33, 24);
+    show_front(
+        rt,
+        "9: a first rule of 255 bytes, a literal twice",
+        &sheet,
+        264,
+    )?;
     counts(&mut sheet, 0, 0, 0, 1);
-    show_front(b"7: a promise of 255 bytes", &sheet, 264);
+    show_front(rt, "7: a promise of 255 bytes", &sheet, 264)?;
     put(&mut sheet, LENGTH_LOW_AT, 7);
-    show_front(b"6: a promise of 255 bytes, the last missing", &sheet, 263);
+    show_front(
+        rt,
+        "6: a promise of 255 bytes, the last missing",
+        &sheet,
+        263,
+    )?;
+    Ok(())
 }

@@ -15,8 +15,8 @@ use lib.Dec.{leb, eqb}
 use lib.ListN.{length, get_or, take, drop, length-append, length-drop, take-append-drop}
 use lib.Seq.{take-append_seam, drop-append_seam, drop-drop, get_or-drop, drop-cons, drop-length}
 use borrow.Author.Tests.{le-leb, leb-true, eq-eqb}
-use Rattle.meaning.specs.Sheet.{Why, badSize, badVersion, badLength, badLetters, tooMany, recordMissing, badShape, badLiteral}
-use Rattle.meaning.specs.Sheet.{notAscending, surplus, Fault, unless, ◌then◌}
+use Rattle.meaning.specs.Sheet.{Why, bad_size, bad_version, bad_length, bad_letters, too_many_records, record_missing, bad_shape, bad_literal}
+use Rattle.meaning.specs.Sheet.{not_rising, surplus, Fault, unless, ◌then◌}
 use Rattle.meaning.specs.Sheet.{most_bytes_of_a_sheet, most_letters, most_limits, most_promises}
 use Rattle.meaning.specs.Sheet.{names, signed_below, literals_fault, list_fault, record_fault, records_fault, first_fault}
 use Rattle.meaning.specs.Sheet.{Kind, a_limit, a_first, a_step, a_promise, limit_of, step_of, promise_of, byte, body_at, next_at, after_at, bodies}
@@ -102,7 +102,7 @@ pub section-of : (kind : Kind) (n : ℕ) (s : List ℕ) (count at : ℕ) → rec
 unfolding records_fault section bodies after_at
 section-of kind n s zero at e = refl
 section-of kind n s (suc count) at e =
-    let room = first-passed (leb (next_at s at) (length s)) recordMissing at _ e in
+    let room = first-passed (leb (next_at s at) (length s)) record_missing at _ e in
     let here = then-none (record_fault kind n at (body_at s at)) (records_fault kind n s count (next_at s at)) room.1 in
     let fits = leb-true (next_at s at) (length s) room.0 in
     record_of s at fits ∙ ap (λ (l : List ℕ). length (body_at s at) ∷ (body_at s at ++ l)) (section-of kind n s count (next_at s at) here.1)
@@ -121,10 +121,10 @@ literals-anywhere : (n at at' before : ℕ) (ls : List ℕ) → literals_fault n
 unfolding literals_fault
 literals-anywhere n at at' before [] e = refl
 literals-anywhere n at at' before (b ∷ bs) e =
-    let here = first-passed (names n b) badLiteral at _ e in
-    let rest = first-passed (signed_below before b) notAscending at _ here.1 in
-    none_found (names n b) badLiteral at' _ here.0
-    (none_found (signed_below before b) notAscending at' _ rest.0 (literals-anywhere n (suc at) (suc at') b bs rest.1))
+    let here = first-passed (names n b) bad_literal at _ e in
+    let rest = first-passed (signed_below before b) not_rising at _ here.1 in
+    none_found (names n b) bad_literal at' _ here.0
+    (none_found (signed_below before b) not_rising at' _ rest.0 (literals-anywhere n (suc at) (suc at') b bs rest.1))
 
 -- A list of literals is faultless wherever it stands.
 list-anywhere : (n at at' : ℕ) (ls : List ℕ) → list_fault n at ls ≡ none → list_fault n at' ls ≡ none
@@ -135,21 +135,21 @@ list-anywhere n at at' ls e = literals-anywhere n at at' 128 ls e
 pub fault-anywhere : (kind : Kind) (n at at' : ℕ) (body : List ℕ) → record_fault kind n at body ≡ none → record_fault kind n at' body ≡ none
 unfolding record_fault
 fault-anywhere a_limit n at at' body e =
-    let shape = first-passed (leb 2 (length body) && leb (get_or body 0 0) 1) badShape at _ e in
-    none_found (leb 2 (length body) && leb (get_or body 0 0) 1) badShape at' _ shape.0
+    let shape = first-passed (leb 2 (length body) && leb (get_or body 0 0) 1) bad_shape at _ e in
+    none_found (leb 2 (length body) && leb (get_or body 0 0) 1) bad_shape at' _ shape.0
     (list-anywhere n (at + 3) (at' + 3) (limit_of body).among shape.1)
 fault-anywhere a_first n at at' body e = list-anywhere n (at + 1) (at' + 1) body e
 fault-anywhere a_step n at at' body e =
     let a = get_or body 0 0 in
-    let shape = first-passed (leb 1 (length body) && leb a (length body - 1)) badShape at _ e in
+    let shape = first-passed (leb 1 (length body) && leb a (length body - 1)) bad_shape at _ e in
     let sides = then-none (list_fault n (at + 2) (step_of body).left) (list_fault n (at + 2 + a) (step_of body).right) shape.1 in
-    none_found (leb 1 (length body) && leb a (length body - 1)) badShape at' _ shape.0
+    none_found (leb 1 (length body) && leb a (length body - 1)) bad_shape at' _ shape.0
     (none-either (list_fault n (at' + 2) (step_of body).left) (list_fault n (at' + 2 + a) (step_of body).right)
     (list-anywhere n (at + 2) (at' + 2) (step_of body).left sides.0)
     (list-anywhere n (at + 2 + a) (at' + 2 + a) (step_of body).right sides.1))
 fault-anywhere a_promise n at at' body e =
-    let shape = first-passed (eqb (length body) 1) badShape at _ e in
-    none_found (eqb (length body) 1) badShape at' _ shape.0 (list-anywhere n (at + 1) (at' + 1) body shape.1)
+    let shape = first-passed (eqb (length body) 1) bad_shape at _ e in
+    none_found (eqb (length body) 1) bad_shape at' _ shape.0 (list-anywhere n (at + 1) (at' + 1) body shape.1)
 
 -- each of some records of a kind is faultless (judged as if it stood at place 0)
 abbrev pub Faultless : Kind → ℕ → List (List ℕ) → Type 0
@@ -162,7 +162,7 @@ pub section-faultless : (kind : Kind) (n : ℕ) (s : List ℕ) (count at : ℕ) 
 unfolding records_fault bodies
 section-faultless kind n s zero at e = tt
 section-faultless kind n s (suc count) at e =
-    let room = first-passed (leb (next_at s at) (length s)) recordMissing at _ e in
+    let room = first-passed (leb (next_at s at) (length s)) record_missing at _ e in
     let here = then-none (record_fault kind n at (body_at s at)) (records_fault kind n s count (next_at s at)) room.1 in
     (fault-anywhere kind n at 0 (body_at s at) here.0, section-faultless kind n s count (next_at s at) here.1)
 
@@ -177,7 +177,7 @@ faultless-section kind n s at (body ∷ more) rest e f =
     subst (λ (x : ℕ). x ≤ length s) (sym first.next) (record-fits s at body (section more ++ rest) stands) in
     let here : record_fault kind n at (body_at s at) ≡ none =
     subst (λ (b : List ℕ). record_fault kind n at b ≡ none) (sym first.own) (fault-anywhere kind n 0 at body f.0) in
-    none_found (leb (next_at s at) (length s)) recordMissing at _ (le-leb (next_at s at) (length s) fits)
+    none_found (leb (next_at s at) (length s)) record_missing at _ (le-leb (next_at s at) (length s) fits)
     (none-either (record_fault kind n at (body_at s at)) (records_fault kind n s (length more) (next_at s at)) here
     (faultless-section kind n s (next_at s at) more rest first.behind f.1))
 
@@ -260,13 +260,13 @@ pub record GoodRecords (r : Records) : Type 0 where
 header-good : (s : List ℕ) → Header s → first_fault s ≡ none
 unfolding first_fault
 header-good s h =
-    none_found (leb 8 (length s) && leb (length s) 4096) badSize 0 _ (between 8 (length s) 4096 h.least h.most)
-    (none_found (eqb (version_in s) 1) badVersion version_byte _ (eq-eqb (version_in s) 1 h.version)
-    (none_found (eqb (length_in s) (length s)) badLength length_byte _ (eq-eqb (length_in s) (length s) h.stated)
-    (none_found (leb 1 (letters_in s) && leb (letters_in s) most_letters) badLetters letters_byte _
+    none_found (leb 8 (length s) && leb (length s) 4096) bad_size 0 _ (between 8 (length s) 4096 h.least h.most)
+    (none_found (eqb (version_in s) 1) bad_version version_byte _ (eq-eqb (version_in s) 1 h.version)
+    (none_found (eqb (length_in s) (length s)) bad_length length_byte _ (eq-eqb (length_in s) (length s) h.stated)
+    (none_found (leb 1 (letters_in s) && leb (letters_in s) most_letters) bad_letters letters_byte _
     (between 1 (letters_in s) most_letters h.some_letter h.few-letters)
-    (none_found (leb (limits_in s) 32) tooMany limits_byte _ (le-leb (limits_in s) 32 h.few_limits)
-    (none_found (leb (promises_in s) 16) tooMany promises_byte _ (le-leb (promises_in s) 16 h.few-promises)
+    (none_found (leb (limits_in s) 32) too_many_records limits_byte _ (le-leb (limits_in s) 32 h.few_limits)
+    (none_found (leb (promises_in s) 16) too_many_records promises_byte _ (le-leb (promises_in s) 16 h.few-promises)
     (none-either (records_fault a_limit (letters_in s) s (limits_in s) records_at) _ h.limits_read
     (none-either (records_fault a_first (letters_in s) s (firsts_in s) (firsts_at s)) _ h.firsts_read
     (none-either (records_fault a_step (letters_in s) s (steps_in s) (steps_at s)) _ h.steps_read

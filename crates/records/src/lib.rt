@@ -1,5 +1,7 @@
 // A header read, and headers and records written into a lent slice. Which bytes a sheet of given records has stands in specs/, the laws
 // about it in proofs/. Bytes past the slice's end are not stored: a caller who needs them all has seen to the room before.
+#![tactic(auto)]
+
 ghost use Rattle.std.specs.Prelude.{◌≡◌, [], ◌∷◌, ◌≤◌, length};
 ghost use Rattle.std.proofs.lemmas.List.Edits.{sets};
 ghost use Rattle.reader.specs.Header.{records_at};
@@ -12,7 +14,7 @@ use reader::header::{
 };
 
 // What a header states: the version, the length of the whole sheet, the letters, and how many records of each kind there are.
-#[derive(Drop)]
+#[derive(Clone, Copy)]
 pub struct Stated {
     pub version: u8,
     pub size: u16,

@@ -65,7 +65,7 @@ module _ (S : System) (table : List ℕ) (r : ℕ) (inside : r ≤ length table)
     live-left s (i, h, e, z) = subst (Left S n) e (mark-left n (get_or table i 0) (get_or words i 0) (M i h) z)
 
     left-live : (s : ℕ) → Left S n s → UnstruckIn table words r s
-    left-live s l = by (reachable-place s (left-reachable n l))
+    left-live s l = by (reachable-place s (left-reachable S n l))
       where
         by : (i : ℕ) × (i < r) × (get_or table i 0 ≡ s) → UnstruckIn table words r s
         by (i, h, e) = (i, h, e, left-mark n (get_or table i 0) (get_or words i 0) (M i h) (subst (Left S n) (sym e) l))

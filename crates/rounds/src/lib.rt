@@ -1,5 +1,7 @@
 // What the rounds of striking share, along stored moves and by tests: a row for each reason, the promises' rows filled, and which phase
 // comes after which. The specs say what striking asks and promises, the laws that phase by phase the words come to it.
+#![tactic(auto)]
+
 ghost use Rattle.std.specs.Prelude.{◌≡◌, ◌⊎◌, ◌+◌, ◌<◌, ◌≤◌, suc};
 ghost use Rattle.rounds.specs.Rows.{Beginnable, BegunRows};
 
@@ -13,7 +15,7 @@ pub const NEVER: u16 = 65535;
 
 // A phase: its reason, and the word that it gives. The log's first m are the places struck so far; from `from` on they were struck since
 // this reason's last phase.
-#[derive(Drop)]
+#[derive(Clone, Copy)]
 pub struct Turn {
     pub reason: usize,
     pub word: u32,

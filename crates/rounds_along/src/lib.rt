@@ -1,5 +1,7 @@
 // The rounds along stored moves. Row 0 has a way on for each place, row i a witness for promise i; the struck places stand in a log in the
 // order in which they fell, so that a phase looks again only at what fell since its last one (crate watch_along).
+#![tactic(auto)]
+
 ghost use Rattle.std.specs.Prelude.{◌≡◌, ◌⊎◌, length};
 ghost use Rattle.ground.specs.Wiping.{Zeros};
 ghost use Rattle.rounds.specs.Phases.{Stricken};

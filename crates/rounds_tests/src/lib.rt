@@ -1,6 +1,8 @@
 // The rounds by tests of pairs of places, where the moves are not stored. Row 0 has the pointers of the dead ends, row i a witness for
 // promise i; the struck places stand in a log in the order in which they fell, so that a promise's phase looks again only at what fell
 // since its last one.
+#![tactic(auto)]
+
 ghost use Rattle.std.specs.Prelude.{◌≡◌, length};
 ghost use Rattle.ground.specs.Wiping.{Zeros};
 ghost use Rattle.rounds.specs.Phases.{Stricken};

@@ -39,14 +39,14 @@ pub const BOOK_SIZE: usize = PROMISES_FROM + LIST_WIDTH * MOST_PROMISES;
 pub const GATHER_SIZE: usize = LIST_WIDTH * MOST_RULES;
 
 // A list's masks: the letters that are to hold, and those that are not.
-#[derive(Drop)]
+#[derive(Clone, Copy)]
 pub struct Pair {
     pub held: State,
     pub unheld: State,
 }
 
 // A limit's row: its masks, and the least and the most of its literals that may be true.
-#[derive(Drop)]
+#[derive(Clone, Copy)]
 pub struct Bounded {
     pub held: State,
     pub unheld: State,

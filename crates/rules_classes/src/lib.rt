@@ -2,6 +2,8 @@
 // listing or count serves them all. A table of places finds an earlier state that is likely of the same class: `likely` in a small one,
 // where classes that share a slot forget one another, `found` in a large one, where they hardly ever do. That it is of the same class is
 // not promised here: who uses it tests it (rules::freer), so a wrong place only costs time.
+#![tactic(auto)]
+
 ghost use Rattle.std.specs.Prelude.{◌≡◌, ◌<◌, ◌≤◌, ◌+◌, length};
 ghost use Rattle.meaning.specs.Promises.{most_states};
 ghost use Rattle.rules.specs.Book.{Shaped};

@@ -1,6 +1,8 @@
 // Signs: for each place of a table, as bits, the step rules that ask something after its state, and those that its state does not meet. A
 // move leads from one place to another exactly if no rule is in both. Rules that ask nothing after any state of the table get no bit. Where
 // the lent slice has no room for all the others, bits in common still forbid a move, and else the book is asked.
+#![tactic(auto)]
+
 ghost use Rattle.std.specs.Prelude.{◌≡◌, true, ℕ, ◌*◌, ◌<◌, ◌≤◌, length};
 ghost use Rattle.ground.specs.Says.{Says};
 ghost use Rattle.meaning.specs.Promises.{most_states};

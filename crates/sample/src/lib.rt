@@ -1,6 +1,7 @@
 // Finds and writes the sample run, in room of its own. Where there are many states, the moves between them are stored once, if they have
 // room, and the distances and every step look at stored moves only; else pairs of states are tested by their signs, which of few states the
 // caller has. What room is lent to the walks depends on how many states there are.
+#![tactic(auto)]
 
 ghost use Rattle.std.specs.Prelude.{◌*◌, ◌≤◌, length};
 ghost use Rattle.rules.specs.Book.{book_system};
@@ -27,7 +28,7 @@ const SOME_DISTANCES: usize = AIMS * rules_signs::SOME_STATES;
 const MOST_DISTANCES: usize = AIMS * ground::MOST_STATES;
 
 // The run walked along stored moves; or that they have no room.
-#[derive(Drop)]
+#[derive(Clone, Copy)]
 pub enum Way {
     Along(Steps),
     NotStored,

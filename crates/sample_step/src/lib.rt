@@ -1,6 +1,7 @@
 // The best next state: document 01, "The judge's two papers", first paragraph. The distances from every livable state to every aim, one row
 // for each aim, and from a moment of the sample run to the next: the aim passes, and of the next states the nearest is taken, then the
 // least. Where the moves are stored, only the stored row is looked at, else places are tested by their signs.
+#![tactic(auto)]
 
 ghost use Rattle.std.specs.Prelude.{◌≡◌, ◌-◌, ◌*◌, ◌≤◌, ◌<◌, length};
 ghost use Rattle.meaning.specs.Sample.{Passes};
@@ -21,7 +22,7 @@ use ground::State;
 pub mod measure;
 
 // A moment of the walk: the state's place in the table, and the aim on arriving there.
-#[derive(Drop)]
+#[derive(Clone, Copy)]
 pub struct Moment {
     pub place: usize,
     pub aim: usize,

@@ -1,6 +1,7 @@
 // The two walks of the sample run: document 01, "The judge's two papers", first paragraph. The distances to every promise are computed
 // once; a first walk finds the moment b at which a pair of state and aim comes again, a second one writes the b states, if they fit. The
 // caller lends the room, and the moves or the signs by which the next state is found.
+#![tactic(auto)]
 
 ghost use Rattle.std.specs.Prelude.{◌≡◌, ◌*◌, ◌≤◌, length};
 ghost use Rattle.ground.specs.Wiping.{Zeros};
@@ -13,14 +14,14 @@ ghost use Rattle.sample_walk.specs.Walk.{Steerable, Walked, Ended, Known, BackFr
 use ground::State;
 
 // a, the moment that the run goes back to, and b, how many states it has.
-#[derive(Drop)]
+#[derive(Clone, Copy)]
 pub struct Steps {
     pub a: u32,
     pub b: u32,
 }
 
 // Moment b, whose pair was met before.
-#[derive(Drop)]
+#[derive(Clone, Copy)]
 pub struct End {
     pub b: usize,
     pub place: usize,

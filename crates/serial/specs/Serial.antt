@@ -5,7 +5,7 @@ use Rattle.std.specs.Prelude.{◌≡◌, List, [], ◌∷◌, ◌++◌, ℕ, zer
 use Rattle.std.proofs.lemmas.List.Edits.{sets}
 use Rattle.meaning.specs.Sheet.{most_bytes_of_a_sheet}
 use Rattle.meaning.specs.Promises.{ReadPlaced}
-use Rattle.answers.specs.Answers.{leadClosed}
+use Rattle.answers.specs.Answers.{lead_closed}
 use Rattle.serial.specs.declared.Lead.{Lead}
 
 -- ---- the state of a lead: how many bytes have come, and whether it is closed (0: open; else closed)
@@ -38,7 +38,7 @@ pub data Takes (lead : Lead) (sheet piece : List ℕ) (answer : ℕ) (after : Le
   added :
       Open lead → answer ≡ 0 → after ≡ grown lead (length piece) → left ≡ sets sheet lead.taken piece
       → Takes lead sheet piece answer after left
-  late : Shut lead → answer ≡ leadClosed → after ≡ lead → left ≡ sheet → Takes lead sheet piece answer after left
+  late : Shut lead → answer ≡ lead_closed → after ≡ lead → left ≡ sheet → Takes lead sheet piece answer after left
 
 -- ---- "and answer at closing just as the reader answers for the joined bytes, place included"
 
@@ -50,7 +50,7 @@ pub data Answers (taken : ℕ) (sheet : List ℕ) (answer place : ℕ) : Type 0 
 -- What closing answers and leaves. "A second closing .. is refused with 18, whatever the sheet, and changes nothing."
 pub data Closes (lead : Lead) (sheet : List ℕ) (answer place : ℕ) (after : Lead) : Type 0 where
   ends : Open lead → Answers lead.taken sheet answer place → after ≡ ended lead → Closes lead sheet answer place after
-  again : Shut lead → answer ≡ leadClosed → place ≡ 0 → after ≡ lead → Closes lead sheet answer place after
+  again : Shut lead → answer ≡ lead_closed → place ≡ 0 → after ≡ lead → Closes lead sheet answer place after
 
 -- ---- the same for C: a state is two numbers, count and mark
 

@@ -1,6 +1,8 @@
 // Sheets over the serial lead (document 02, order 6): pieces of a sheet are taken one by one into a buffer that the caller lends, and
 // closing answers what the reader answers for the joined bytes, place included. What is known of a lead is a count and a mark, handed over
 // by value; any two numbers may be handed in. What follows for pieces taken one after another is in proofs/Joined.antt.
+#![tactic(auto)]
+
 ghost use Rattle.std.specs.Prelude.{◌≡◌, length};
 ghost use Rattle.meaning.specs.Sheet.{most_bytes_of_a_sheet};
 ghost use Rattle.serial.specs.Serial.{Takes, Closes, Answers, TakesState, ClosesState, counted};
@@ -13,21 +15,21 @@ use reader::header::MOST_BYTES;
 pub const MORE: usize = MOST_BYTES + 1;
 
 // How many bytes have come, MORE standing for more than MOST_BYTES; and whether the lead is closed: 0 for an open one.
-#[derive(Drop)]
+#[derive(Clone, Copy)]
 pub struct Lead {
     pub taken: u32,
     pub closed: u32,
 }
 
 // What taking a piece answers, and the lead after it.
-#[derive(Drop)]
+#[derive(Clone, Copy)]
 pub struct Taken {
     pub answer: u32,
     pub lead: Lead,
 }
 
 // What closing answers, the place beside it, and the lead after it.
-#[derive(Drop)]
+#[derive(Clone, Copy)]
 pub struct Closed {
     pub answer: u32,
     pub place: u32,
@@ -109,13 +111,8 @@ pub fn close(lead: Lead, sheet: &[u8; MOST_BYTES]) -> Closed
     }
 }
 
-// Taking a piece for callers in C: `state` is the count and the mark, 0 and 0 at first.
-#[unsafe(no_mangle)]
-pub extern "C" fn naxxurbi_serial_take(
-    state: &mut [u32; 2],
-    sheet: &mut [u8; MOST_BYTES],
-    piece: &[u8],
-) -> u32
+// Taking a piece for callers in C, to whom crate serial_c hands it: `state` is the count and the mark, 0 and 0 at first.
+pub fn naxxurbi_serial_take(state: &mut [u32; 2], sheet: &mut [u8; MOST_BYTES], piece: &[u8]) -> u32
     ensures { TakesState state.old sheet.old piece.now result state.new sheet.new }
 {
     let lead = Lead {
@@ -128,13 +125,8 @@ pub extern "C" fn naxxurbi_serial_take(
     r.answer
 }
 
-// Closing for callers in C: answer and place go into `out`, in this order, on every answer.
-#[unsafe(no_mangle)]
-pub extern "C" fn naxxurbi_serial_close(
-    state: &mut [u32; 2],
-    sheet: &[u8; MOST_BYTES],
-    out: &mut [u32; 2],
-)
+// Closing for callers in C, likewise: answer and place go into `out`, in this order, on every answer.
+pub fn naxxurbi_serial_close(state: &mut [u32; 2], sheet: &[u8; MOST_BYTES], out: &mut [u32; 2])
     ensures { ClosesState state.old sheet.now out.new state.new }
 {
     let lead = Lead {

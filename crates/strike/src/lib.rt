@@ -2,6 +2,7 @@
 // round after round, until as many phases as there are reasons have struck nothing. Where there are many states their moves are stored
 // first, forth and back, so that a phase follows them (`rounds_along`); else a phase tests pairs of places (`rounds_tests`). This
 // crate lends the room; the signs of few states are the caller's, who has more use for them.
+#![tactic(auto)]
 
 ghost use Rattle.std.specs.Prelude.{◌≤◌};
 ghost use Rattle.ground.specs.Wiping.{Zeros};
@@ -24,7 +25,7 @@ const SOME_ROWS: usize = REASONS * rules_signs::SOME_STATES;
 const MOST_ROWS: usize = REASONS * ground::MOST_STATES;
 
 // What striking along stored moves came to: how many states are left; or that there was no room for the moves.
-#[derive(Drop)]
+#[derive(Clone, Copy)]
 pub enum Struck {
     Left(usize),
     NotStored,

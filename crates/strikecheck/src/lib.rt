@@ -4,6 +4,8 @@
 // The theorem: each call returns the fault's number, 1 to 10, of a bad sheet; else 0 exactly if document 01 accepts the paper, else 14.
 // On numbers it returns the fault's place as well, 0 on the other answers. (`check_strikes` and `check_strikes_bytes` below;
 // that 0 leaves no obeying run is said in proofs/Exactly.antt.)
+#![tactic(auto)]
+
 ghost use Rattle.std.specs.Prelude.{◌≡◌};
 ghost use Rattle.std.proofs.Math.Option.{none};
 ghost use Rattle.meaning.specs.Sheet.{first_fault};

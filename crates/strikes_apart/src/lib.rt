@@ -1,4 +1,6 @@
 // Whether the states of a paper are all different, found out window by window with a mark for each number, in a small stack.
+#![tactic(auto)]
+
 ghost use Rattle.std.specs.Prelude.{◌≡◌, true, ◌<◌, min};
 ghost use Rattle.ground.specs.States.{all_states};
 ghost use Rattle.papers.specs.Paper.{states_of};
@@ -15,7 +17,7 @@ const WINDOW: State = 8192;
 const MARKS: usize = WINDOW as usize / WORD_MARKS;
 
 // What a window shows: a state that stands twice; or the least state after the window; or that there is none.
-#[derive(Drop)]
+#[derive(Clone, Copy)]
 pub enum Looked {
     Twice,
     Next(State),

@@ -153,9 +153,9 @@ module _ {book states words : List ℕ} {distinct : Bool} {i s word near far : �
   entry-says {r} says =
       subst (λ (w : ℕ). Says (EntryRight (book_system book) states words (w % 32) w (get_or states i 0)) r) turn.word-is
       (subst (λ (x : ℕ). Says (EntryRight (book_system book) states words (word % 32) word x) r) turn.s_is
-      (says-as (looked-right _ states words turn.asks.as_many turn.asks.rising (word % 32) word s near far turn.nearer
+      (says-as (looked-right (book_system book) states words turn.asks.as_many turn.asks.rising (word % 32) word s near far turn.nearer
       turn.farther)
-      (right-looked _ states words turn.asks.as_many turn.asks.rising (word % 32) word s near far turn.nearer turn.farther)
+      (right-looked (book_system book) states words turn.asks.as_many turn.asks.rising (word % 32) word s near far turn.nearer turn.farther)
       (subst (λ (k : ℕ). Says (StateOk (book_system book) (word % 32) s states k) r) m-is says)))
 
   -- The next states of a state that may move only where an earlier entry's may are there, once that entry is right.

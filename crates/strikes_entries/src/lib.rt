@@ -4,6 +4,8 @@
 // It does not search, it counts: words never fall, so "listed with a smaller word" is "among the first m entries"; and all next states are
 // among them exactly if there are as many next states as different ones among these entries. A state that may move only where one
 // of an earlier entry may needs no count of its own: that entry's next states are among no more than the first m.
+#![tactic(auto)]
+
 ghost use Rattle.std.specs.Prelude.{◌≡◌, true, ◌<◌, length};
 ghost use Rattle.ground.specs.Says.{Says};
 ghost use Rattle.papers.specs.Paper.{states_of, words_of};

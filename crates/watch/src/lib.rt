@@ -2,6 +2,8 @@
 // witnesses lead on to one that does. Here is what watching along stored moves (crate watch_along) and watching by tests (crate
 // watch_tests) share: how a row of witnesses begins, the tests of one place, who stands alone before the first phase, and who falls. The
 // struck places stand in a log, in the order in which they fell.
+#![tactic(auto)]
+
 ghost use Rattle.std.specs.Prelude.{◌<◌, ◌≤◌, length};
 ghost use Rattle.meaning.specs.Promises.{most_states};
 ghost use Rattle.rules.specs.Book.{Shaped, promises_of};

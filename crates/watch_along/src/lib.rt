@@ -1,5 +1,7 @@
 // Watching a promise along stored moves. A phase looks again only at places whose witnesses were cut by a strike since the promise's last
 // phase, and at those that hang on them; who finds no new witness falls.
+#![tactic(auto)]
+
 ghost use Rattle.std.specs.Prelude.{◌≡◌, List, ℕ, ◌+◌, ◌<◌, ◌≤◌, length};
 ghost use Rattle.meaning.specs.Promises.{most_states};
 ghost use Rattle.moves.specs.Layout.{Linked, Backed};

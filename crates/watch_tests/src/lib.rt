@@ -1,6 +1,8 @@
 // Watching a promise by tests of pairs, where the moves are too many to be stored. A phase looks again only at places whose witnesses were
 // cut by a strike since the promise's last phase. The line holds first the places to be spread from, and behind them those that stand
 // alone.
+#![tactic(auto)]
+
 ghost use Rattle.std.specs.Prelude.{◌≡◌, true, List, ℕ, ◌+◌, ◌<◌, ◌≤◌, length, get_or};
 ghost use Rattle.meaning.specs.Promises.{most_states};
 ghost use Rattle.rules.specs.Table.{To};
@@ -17,7 +19,7 @@ use watch::{NOBODY, fall, is_helped, is_so};
 const MANY: usize = 4;
 
 // How many places of the line have a witness, and where the log then ends.
-#[derive(Drop)]
+#[derive(Clone, Copy)]
 struct Divided {
     helped: usize,
     tail: usize,

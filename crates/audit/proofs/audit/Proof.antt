@@ -6,18 +6,18 @@ use borrow.Author.Rules.{rules}
 use Rattle.audit.proofs.audit.Statement.{statement}
 use Rattle.audit.proofs.audit.Tie as tie
 
-returns-2 : tie.Need-returns-2
+returns-2 : tie.Need-returns-in-Refused
 returns-2 c =
-    let bad = told _ c.before.before.before.read-in-numbers.ensures c.before.v.given.1 in
+    let bad = told _ c.read_in_numbers.ensures c.in-Refused.is in
     faulty bad.fault bad.first bad.number bad.place refl
 
-pub audit-spec : {M : Type 1} → statement M
-audit-spec =
+pub audit_spec : {M : Type 1} → statement M
+audit_spec =
     tie.close
     (tie.spec
     (λ c κs. search rules)
     (λ c. search rules)
-    (λ c κs. told _ c.before.before.read-in-numbers.ensures c.enum_told.given.1)
+    (λ c κs. told _ c.read_in_numbers.ensures c.in-Good.is)
     (λ c. search rules)
     (λ c. search rules)
     returns-2)

@@ -8,28 +8,28 @@ use Rattle.audit.proofs.audit_good.Statement.{statement}
 use Rattle.audit.proofs.audit_good.Tie as tie
 
 -- places by name, each from one after it
-abbrev at-past : tie.After-book3 → tie.After-past
+abbrev at-past : tie.After-book-3-1 → tie.After-past
 at-past c = c.before.before.before.before.before
 
-carry-requires : tie.Need-carry-requires
+carry-requires : tie.Need-carry-back-requires
 carry-requires c κs = (
-  c.before.before.compile.ensures.shaped,
+  c.compile.ensures.shaped,
   carriable _ _ ((at-past c).past.ensures.never
-      c.before.before.before.before.if1.false),
+      c.if-past.false),
 )
 
-returns-2 : tie.Need-returns-2
+returns-2 : tie.Need-returns
 returns-2 c =
     let bound = at-past c.before in
-    done bound.before.before.before.pre (bound.past.ensures.never c.before.before.before.before.before.if1.false) refl refl
-    (c.carry.ensures ∙ book-carried c.before.before.before.compile.ensures _ _)
+    done bound.requires (bound.past.ensures.never c.if-past.false) refl refl
+    (c.carry-back.ensures ∙ book-carried c.compile.ensures _ _)
 
-pub audit-good-spec : {M : Type 1} → statement M
-audit-good-spec =
+pub audit_good_spec : {M : Type 1} → statement M
+audit_good_spec =
     tie.close
     (tie.spec
     (λ c κs. search rules)
-    (λ c. past c.before.before.before.before.requires (c.before.past.ensures.yes c.if1.true) refl refl refl)
+    (λ c. past c.requires (c.past.ensures.yes c.if-past.true) refl refl refl)
     (λ c. search rules)
     (λ c κs. search rules)
     (λ c. search rules)

@@ -9,10 +9,10 @@ use borrow.Author.Rules.{rules}
 use Rattle.audit.proofs.count_past.Statement.{statement}
 use Rattle.audit.proofs.count_past.Tie as tie
 
-returns-2 : tie.Need-returns-2
+returns-2 : tie.Need-returns
 returns-2 c =
-    let with = past-with c.before.args.count c.before.args.more _ c.if1.false refl in
+    let with = past-with c.args.count c.args.more _ c.if-count-gt-MOMENTS.false refl in
     record { yes = λ e. with.0 (ltb-true _ _ e); never = λ e p. clash (with.1 p) (ltb-false _ _ e) }
 
-pub count-past-spec : {M : Type 1} → statement M
-count-past-spec = tie.close (tie.spec (λ c. says-yes (inl c.if1.true)) (λ c. search rules) returns-2)
+pub count_past_spec : {M : Type 1} → statement M
+count_past_spec = tie.close (tie.spec (λ c. says-yes (inl c.if-count-gt-MOMENTS.true)) (λ c. search rules) returns-2)

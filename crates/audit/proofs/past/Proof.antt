@@ -7,22 +7,22 @@ use borrow.Author.Rules.{rules}
 use Rattle.audit.proofs.past.Statement.{statement}
 use Rattle.audit.proofs.past.Tie as tie
 
-returns-3 : tie.Need-returns-3
+returns-3 : tie.Need-returns
 returns-3 c =
-    let kept = c.before.before.before.before in
-    let count = kept.before.before.before.before in
-    past-by-broken (account_of count.before.args.account) count.before.args.more
-    (count.count_past.ensures.never kept.before.before.before.if1.false)
-    (kept.some-past.ensures.never c.before.before.before.if2.false)
-    c.some-past2.ensures
+    let kept = c in
+    let count = kept in
+    past-by-broken (account_of count.args.account) count.args.more
+    (count.count_past.ensures.never kept.if-count_past.false)
+    (kept.some_past.ensures.never c.if-some_past.false)
+    c.some_past-2.ensures
 
-pub past-spec : {M : Type 1} → statement M
-past-spec =
+pub past_spec : {M : Type 1} → statement M
+past_spec =
     tie.close
     (tie.spec
     (λ c κs. search rules)
-    (λ c. says-yes (inl (c.before.count_past.ensures.yes c.if1.true)))
+    (λ c. says-yes (inl (c.count_past.ensures.yes c.if-count_past.true)))
     (λ c κs. search rules)
-    (λ c. says-yes (inr (inl (c.before.some-past.ensures.yes c.if2.true))))
+    (λ c. says-yes (inr (inl (c.some_past.ensures.yes c.if-some_past.true))))
     (λ c κs. search rules)
     returns-3)

@@ -6,32 +6,32 @@ use Rattle.audit_account.proofs.Telling.{NonePast, none-past-next, none-past-all
 use Rattle.audit.proofs.some_past.Statement.{statement}
 use Rattle.audit.proofs.some_past.Tie as tie
 
-abbrev invariant-loop : tie.invariant-loop
-invariant-loop tallies i₀ i = (i ≤ 255) × NonePast tallies i
+abbrev invariant-loop-i : tie.invariant-loop-i
+invariant-loop-i tallies i₀ i = (i ≤ 255) × NonePast tallies i
 
-abbrev decreases-loop : tie.decreases-loop
-decreases-loop tallies i₀ i = 255 - i
+abbrev decreases-loop-i : tie.decreases-loop-i
+decreases-loop-i tallies i₀ i = 255 - i
 
-returns : tie.Need-returns invariant-loop decreases-loop
+returns : tie.Need-returns-then-tallies-i-gt-MOMENTS invariant-loop-i decreases-loop-i
 returns c = says-yes (record {
-  at = c.before.before.before.loop.i;
-  within = c.before.before.loop-test.true;
-  past = c.if1.true;
+  at = c.loop-i.i;
+  within = c.loop-i-test.true;
+  past = c.if-tallies-i-gt-MOMENTS.true;
 })
 
-loop-again : tie.Need-loop-preserved invariant-loop decreases-loop
+loop-again : tie.Need-loop-i-preserved invariant-loop-i decreases-loop-i
 loop-again c = (
   omega arith,
-  none-past-next c.before.before.before.before.args.tallies.now _
-      c.before.before.before.loop.invariant.1 c.if1.false,
+  none-past-next c.args.tallies.now _
+      c.loop-i.invariant.1 c.if-tallies-i-gt-MOMENTS.false,
 )
 
-pub some-past-spec : {M : Type 1} → statement M
-some-past-spec =
+pub some_past_spec : {M : Type 1} → statement M
+some_past_spec =
     tie.close
     (tie.spec
-    invariant-loop
-    decreases-loop
+    invariant-loop-i
+    decreases-loop-i
     (λ c. (omega arith, λ j h. absurd (omega arith)))
     (λ c. omega arith)
     (λ c. omega arith)
@@ -39,4 +39,4 @@ some-past-spec =
     (λ c. omega arith)
     (λ c. omega arith)
     loop-again
-    (λ c. says-no (none-past-all _ _ c.before.loop.invariant.1 c.loop-test.false)))
+    (λ c. says-no (none-past-all _ _ c.loop-i.invariant.1 c.loop-i-test.false)))

@@ -4,13 +4,13 @@ use Rattle.audit_account.proofs.Telling.{tests}
 use Rattle.audit_follow.proofs.is_first.Statement.{statement}
 use Rattle.audit_follow.proofs.is_first.Tie as tie
 
-returns : tie.Need-returns
+returns : tie.Need-returns-then-what-eq0
 unfolding is_first
 returns c = search tests
 
-returns-2 : tie.Need-returns-2
+returns-2 : tie.Need-returns-else-what-eq0
 unfolding is_first
 returns-2 c = search tests
 
-pub is-first-spec : {M : Type 1} → statement M
-is-first-spec = tie.close (tie.spec returns returns-2)
+pub is_first_spec : {M : Type 1} → statement M
+is_first_spec = tie.close (tie.spec returns returns-2)

@@ -4,10 +4,10 @@ use borrow.Author.Rules.{rules}
 use Rattle.audit_follow.proofs.move_into.Statement.{statement}
 use Rattle.audit_follow.proofs.move_into.Tie as tie
 
-pub move-into-spec : {M : Type 1} → statement M
-move-into-spec =
+pub move_into_spec : {M : Type 1} → statement M
+move_into_spec =
     tie.close
     (tie.spec
-    (λ c. moved-first _ _ _ _ c.if1.true)
+    (λ c. moved-first _ _ _ _ c.if-head-eq0.true)
     (λ c κs. search rules)
-    (λ c. moved_on _ _ _ _ _ _ _ c.before.before.before.if1.false c.tally.ensures))
+    (λ c. moved_on _ _ _ _ _ _ _ c.if-head-eq0.false c.tally.ensures))

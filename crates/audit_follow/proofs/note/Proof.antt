@@ -6,14 +6,14 @@ use borrow.Author.Rules.{rules}
 use Rattle.audit_follow.proofs.note.Statement.{statement}
 use Rattle.audit_follow.proofs.note.Tie as tie
 
-returns : tie.Need-returns
+returns : tie.Need-returns-then-is_first
 returns c =
-    noted-breach-numbers _ _ _ _ _ _ _ c.before.before.before.what_is.ensures (sym c.before.before.is-first.ensures
-    ∙ c.before.if1.true)
-    c.Rule-told.ensures
+    noted-breach-numbers _ _ _ _ _ _ _ c.what_is-is.ensures (sym c.is_first.ensures
+    ∙ c.if-is_first.true)
+    c.rule_told-rule.ensures
 
-pub note-spec : {M : Type 1} → statement M
-note-spec =
+pub note_spec : {M : Type 1} → statement M
+note_spec =
     tie.close
     (tie.spec
     (λ c. search rules)
@@ -21,4 +21,4 @@ note-spec =
     (λ c κs. search rules)
     (λ c κs. search rules)
     returns
-    (λ c. sym (noted-by _ _ _ _ _ _ false c.before.before.what_is.ensures (sym c.before.is-first.ensures ∙ c.if1.false))))
+    (λ c. sym (noted-by _ _ _ _ _ _ false c.what_is-is.ensures (sym c.is_first.ensures ∙ c.if-is_first.false))))

@@ -3,10 +3,10 @@ use Rattle.audit_account.proofs.Telling.{told-step, told-other}
 use Rattle.audit_follow.proofs.rule_told.Statement.{statement}
 use Rattle.audit_follow.proofs.rule_told.Tie as tie
 
-pub rule-told-spec : {M : Type 1} → statement M
-rule-told-spec =
+pub rule_told_spec : {M : Type 1} → statement M
+rule_told_spec =
     tie.close
     (tie.spec
-    (λ c κs. c.before.before.requires)
-    (λ c. told-step _ _ _ c.before.if1.true c.first-broken.ensures)
-    (λ c. told-other _ _ c.if1.false))
+    (λ c κs. c.requires)
+    (λ c. told-step _ _ _ c.if-is-eq3.true c.first_broken.ensures)
+    (λ c. told-other _ _ c.if-is-eq3.false))

@@ -9,19 +9,19 @@ use Rattle.audit_follow.proofs.what_is.Statement.{statement}
 use Rattle.audit_follow.proofs.what_is.Tie as tie
 
 -- the state was found lawful
-law : (c : tie.Else1) → book_lawful c.before.before.before.args.book.now c.before.before.before.args.t ≡ true
-law c = sym c.before.lawful.ensures ∙ not-false _ c.if1.false
+law : (c : tie.Else-not-lawful) → book_lawful c.args.book.now c.args.t ≡ true
+law c = sym c.lawful.ensures ∙ not-false _ c.if-not-lawful.false-raw
 
-pub what-is-spec : {M : Type 1} → statement M
-what-is-spec =
+pub what_is_spec : {M : Type 1} → statement M
+what_is_spec =
     tie.close
     (tie.spec
     (λ c κs. search rules)
-    (λ c. sym (is-by _ _ _ _ (sym c.before.lawful.ensures ∙ not-true _ c.if1.true) refl refl refl))
+    (λ c. sym (is-by _ _ _ _ (sym c.lawful.ensures ∙ not-true _ c.if-not-lawful.true-raw) refl refl refl))
     (λ c κs. search rules)
-    (λ c. sym (is-by _ _ _ _ (law c.before.before.before) (eq-eqb _ 0 c.before.before.if2.true)
-    (sym c.before.first-state.ensures ∙ c.if3.true) refl))
-    (λ c. sym (is-by _ _ _ _ (law c.before.before.before) (eq-eqb _ 0 c.before.before.if2.true)
-    (sym c.before.first-state.ensures ∙ c.if3.false) refl))
-    (λ c. sym (is-by _ _ _ _ (law c.before.before) (ne_eqb _ 0 c.before.if2.false) refl c.if4.true))
-    (λ c. sym (is-by _ _ _ _ (law c.before.before) (ne_eqb _ 0 c.before.if2.false) refl c.if4.false)))
+    (λ c. sym (is-by _ _ _ _ (law c.before.before.before) (eq-eqb _ 0 c.if-count-eq0.true)
+    (sym c.first_state.ensures ∙ c.if-first_state.true) refl))
+    (λ c. sym (is-by _ _ _ _ (law c.before.before.before) (eq-eqb _ 0 c.if-count-eq0.true)
+    (sym c.first_state.ensures ∙ c.if-first_state.false) refl))
+    (λ c. sym (is-by _ _ _ _ (law c.before.before) (ne_eqb _ 0 c.if-count-eq0.false) refl c.if-broke.true))
+    (λ c. sym (is-by _ _ _ _ (law c.before.before) (ne_eqb _ 0 c.if-count-eq0.false) refl c.if-broke.false)))

@@ -7,24 +7,24 @@ use Rattle.clash.proofs.check_clash.Statement.{statement}
 use Rattle.clash.proofs.check_clash.Tie as tie
 
 -- the entry, from where the reader answered
-abbrev start : tie.After-read-in-numbers → tie.Start
+abbrev start : tie.After-read_in_numbers → tie.Start
 start c = c.before.before.before.before.before.before
 
-check-good-requires : tie.Need-check-good-requires
+check-good-requires : tie.Need-check_good-answer-requires
 check-good-requires c κs =
-    let known = c.before.before.before in
-    let read = known.before.before in
-    told (start read).args.sheet.now read.read-in-numbers.ensures known.enum_told.given.1
+    let known = c in
+    let read = known.before.before.before.before in
+    told (start read).args.sheet.now read.read_in_numbers.ensures known.in-Good.is
 
-returns-2 : tie.Need-returns-2
+returns-2 : tie.Need-returns-in-Refused
 returns-2 c =
-    let read = c.before.before.before in
+    let read = c.before in
     let a = (start read).args in
     checked-bad a.rules.now (lent_three a.table.now a.words.now a.scratch.now)
-    (told a.sheet.now read.read-in-numbers.ensures c.before.v.given.1)
+    (told a.sheet.now read.read_in_numbers.ensures c.in-Refused.is)
 
-pub check-clash-spec : {M : Type 1} → statement M
-check-clash-spec =
+pub check_clash_spec : {M : Type 1} → statement M
+check_clash_spec =
     tie.close
     (tie.spec
     (λ c κs. search rules)

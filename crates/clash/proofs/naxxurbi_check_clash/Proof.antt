@@ -5,11 +5,11 @@ use Rattle.clash.proofs.naxxurbi_check_clash.Tie as tie
 
 returns : tie.Need-returns
 returns c =
-    let called = c.before.before.before.before.before.before in
-    record { place = called.check-clash.result.place; promise = called.check-clash.ensures }
+    let called = c in
+    record { place = called.check_clash-r.result.place; promise = called.check_clash-r.ensures }
 
-pub naxxurbi-check-clash-spec : {M : Type 1} → statement M
-naxxurbi-check-clash-spec =
+pub naxxurbi_check_clash_spec : {M : Type 1} → statement M
+naxxurbi_check_clash_spec =
     tie.close
     (tie.spec
     (λ c κs. search rules)

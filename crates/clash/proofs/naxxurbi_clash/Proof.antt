@@ -5,11 +5,11 @@ use Rattle.clash.proofs.naxxurbi_clash.Tie as tie
 
 returns : tie.Need-returns
 returns c =
-    let called = c.before.before.before.before.before.before.before in
-    record { place = called.clash.result.place; promise = called.clash.ensures }
+    let called = c in
+    record { place = called.clash-r.result.place; promise = called.clash-r.ensures }
 
-pub naxxurbi-clash-spec : {M : Type 1} → statement M
-naxxurbi-clash-spec =
+pub naxxurbi_clash_spec : {M : Type 1} → statement M
+naxxurbi_clash_spec =
     tie.close
     (tie.spec
     (λ c κs. search rules)

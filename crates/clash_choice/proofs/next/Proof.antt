@@ -4,19 +4,19 @@ use Rattle.meaning.specs.Sheet.{next_at}
 use Rattle.clash_choice.proofs.next.Statement.{statement}
 use Rattle.clash_choice.proofs.next.Tie as tie
 
-add_start : tie.Need-overflow-add-start
+add_start : tie.Need-overflow_add-start
 unfolding next_at
 add_start c = omega arith
 
-shared-slice-read-result : tie.Need-shared-slice-read-result
+shared-slice-read-result : tie.Need-bounds-sheet-at
 unfolding next_at
 shared-slice-read-result c = omega arith
 
-cast-result : tie.Need-overflow-cast-result
+cast-result : tie.Need-overflow_cast-result
 unfolding next_at
 cast-result c = omega arith
 
-add-result : tie.Need-overflow-add-result
+add-result : tie.Need-overflow_add-result
 unfolding next_at
 add-result c = omega arith
 
@@ -24,5 +24,5 @@ returns : tie.Need-returns
 unfolding next_at
 returns c = omega arith
 
-pub next-spec : {M : Type 1} → statement M
-next-spec = tie.close (tie.spec add_start shared-slice-read-result cast-result add-result returns)
+pub next_spec : {M : Type 1} → statement M
+next_spec = tie.close (tie.spec add_start shared-slice-read-result cast-result add-result returns)

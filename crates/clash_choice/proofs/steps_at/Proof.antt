@@ -9,27 +9,27 @@ use Rattle.clash_choice.proofs.Places.{limits-in, firsts-in}
 use Rattle.clash_choice.proofs.steps_at.Statement.{statement}
 use Rattle.clash_choice.proofs.steps_at.Tie as tie
 
-shared-slice-read-limits : tie.Need-shared-slice-read-limits
-shared-slice-read-limits c = omega (arith, (good-header _ c.before.before.requires).least)
+shared-slice-read-limits : tie.Need-bounds-sheet-4
+shared-slice-read-limits c = omega (arith, (good-header _ c.requires).least)
 
-skip-requires : tie.Need-skip-requires
+skip-requires : tie.Need-skip-at-requires
 unfolding byte
-skip-requires c κs = limits-in _ c.before.before.requires
+skip-requires c κs = limits-in _ c.requires
 
-shared-slice-read-firsts : tie.Need-shared-slice-read-firsts
-shared-slice-read-firsts c = omega (arith, (good-header _ c.before.before.before.before.requires).least)
+shared-slice-read-firsts : tie.Need-bounds-sheet-5
+shared-slice-read-firsts c = omega (arith, (good-header _ c.requires).least)
 
-skip-requires-2 : tie.Need-skip-requires-2
+skip-requires-2 : tie.Need-skip-requires
 unfolding byte firsts_at
 skip-requires-2 c κs =
-    rw c.before.skip.ensures (firsts-in _ c.before.before.before.before.requires)
+    rw c.skip-at.ensures (firsts-in _ c.requires)
 
 returns : tie.Need-returns
 unfolding byte firsts_at steps_at
 returns c =
-    let sheet = c.before.before.before.before.before.args.sheet.now in
-    c.skip2.ensures ∙ ap (λ (n : ℕ). after_at sheet (firsts_in sheet) n) c.before.before.skip.ensures
+    let sheet = c.args.sheet.now in
+    c.skip.ensures ∙ ap (λ (n : ℕ). after_at sheet (firsts_in sheet) n) c.skip-at.ensures
 
-pub steps-at-spec : {M : Type 1} → statement M
-steps-at-spec =
+pub steps_at_spec : {M : Type 1} → statement M
+steps_at_spec =
     tie.close (tie.spec shared-slice-read-limits skip-requires shared-slice-read-firsts skip-requires-2 returns)

@@ -6,38 +6,38 @@ use Rattle.clash_choice.proofs.Writes.{rule-left-out, rule_fits, rule-written}
 use Rattle.clash_choice.proofs.write_rule.Statement.{statement}
 use Rattle.clash_choice.proofs.write_rule.Tie as tie
 
-add_start : tie.Need-overflow-add-start
+add_start : tie.Need-overflow_add-start
 unfolding next_at
-add_start c = omega (arith, c.before.next.ensures)
+add_start c = omega (arith, c.next-end.ensures)
 
-sub-rule : tie.Need-overflow-sub-rule
+sub-rule : tie.Need-slice_bounds-rule-count
 unfolding next_at
-sub-rule c = omega (arith, c.before.next.ensures)
+sub-rule c = omega (arith, c.next-end.ensures)
 
-part-rule-start : tie.Need-slice-bounds-rule-start
+part-rule-start : tie.Need-slice_bounds-rule-start
 unfolding next_at
-part-rule-start c = omega (arith, c.before.next.ensures)
+part-rule-start c = omega (arith, c.next-end.ensures)
 
-write-record-requires : tie.Need-write-record-requires
+write-record-requires : tie.Need-write_record-written-requires
 unfolding byte
 write-record-requires c κs =
-    let way = c.before.before in
-    let known = way.before.before in
-    let start = known.before in
-    let byte_fits = known.shared-slice-known.given start.args.p.from in
-    rule_fits _ _ start.requires (omega (arith, byte_fits)) way.before.next.ensures c.write-record-arg.given.0.1
+    let way = c in
+    let known = way in
+    let start = known in
+    let byte_fits = known.shared_slice_known-1.given start.args.p.from in
+    rule_fits _ _ start.requires (omega (arith, byte_fits)) way.next-end.ensures c.write_record-arg-1.given.0.1
 
-returns-2 : tie.Need-returns-2
+returns-2 : tie.Need-returns
 returns-2 c =
-    let way = c.before.before.before in
-    rule-written _ _ way.if1.false way.before.next.ensures c.write-record.ensures
+    let way = c in
+    rule-written _ _ way.if-mark-eq0.false way.next-end.ensures c.write_record-written.ensures
 
-pub write-rule-spec : {M : Type 1} → statement M
-write-rule-spec =
+pub write_rule_spec : {M : Type 1} → statement M
+write_rule_spec =
     tie.close
     (tie.spec
     (λ c κs. search rules)
-    (λ c. rule-left-out _ _ c.if1.true c.before.next.ensures)
+    (λ c. rule-left-out _ _ c.if-mark-eq0.true c.next-end.ensures)
     add_start
     sub-rule
     part-rule-start

@@ -7,36 +7,36 @@ use Rattle.clash_choice.proofs.Writes.{added_none, added_more, rule-asked}
 use Rattle.clash_choice.proofs.write_rules.Statement.{statement}
 use Rattle.clash_choice.proofs.write_rules.Tie as tie
 
-abbrev invariant-loop : tie.invariant-loop
-invariant-loop sheet marks buffer₀ count at p₀ most i₀ buffer p i =
+abbrev invariant-loop-i : tie.invariant-loop-i
+invariant-loop-i sheet marks buffer₀ count at p₀ most i₀ buffer p i =
     (i ≤ count) × RulesWritten sheet marks i at buffer₀ buffer p
 
-abbrev decreases-loop : tie.decreases-loop
-decreases-loop sheet marks buffer₀ count at p₀ most i₀ buffer p i = count - i
+abbrev decreases-loop-i : tie.decreases-loop-i
+decreases-loop-i sheet marks buffer₀ count at p₀ most i₀ buffer p i = count - i
 
-write-rule-requires : tie.Need-write-rule-requires invariant-loop decreases-loop
+write-rule-requires : tie.Need-write_rule-p-requires invariant-loop-i decreases-loop-i
 write-rule-requires c κs =
-    let turn = c.before.before.before in
-    rule-asked _ _ _ _ _ turn.before.before.requires c.before.before.loop-test.true (omega arith) turn.loop.invariant.1
+    let turn = c in
+    rule-asked _ _ _ _ _ turn.requires c.loop-i-test.true (omega arith) turn.loop-i.invariant.1
 
-loop-again : tie.Need-loop-preserved invariant-loop decreases-loop
+loop-again : tie.Need-loop-i-preserved invariant-loop-i decreases-loop-i
 loop-again c =
-    let turn = c.before.before.before.before in
-    (omega arith, added_more _ _ _ _ turn.loop.invariant.1 c.write-rule.ensures)
+    let turn = c in
+    (omega arith, added_more _ _ _ _ turn.loop-i.invariant.1 c.write_rule-p.ensures)
 
-returns : tie.Need-returns invariant-loop decreases-loop
+returns : tie.Need-returns invariant-loop-i decreases-loop-i
 returns c =
-    let start = c.before.before.before.args in
-    let all : c.before.loop.i ≡ start.count = omega arith in
-    rw (sym all) c.before.loop.invariant.1
+    let start = c.args in
+    let all : c.loop-i.i ≡ start.count = omega arith in
+    rw (sym all) c.loop-i.invariant.1
 
-pub write-rules-spec : {M : Type 1} → statement M
-write-rules-spec =
+pub write_rules_spec : {M : Type 1} → statement M
+write_rules_spec =
     tie.close
     (tie.spec
-    invariant-loop
-    decreases-loop
-    (λ c. (omega arith, added_none c.before.args.sheet.now c.before.args.marks.now _ _))
+    invariant-loop-i
+    decreases-loop-i
+    (λ c. (omega arith, added_none c.args.sheet.now c.args.marks.now _ _))
     (λ c. omega arith)
     write-rule-requires
     (λ c. omega arith)

@@ -8,46 +8,46 @@ use Rattle.clash_trials.proofs.Loops.{DropsSoFar, drop-start, drop-11, drop-12, 
 use Rattle.clash_trials.proofs.drop_rules.Statement.{statement}
 use Rattle.clash_trials.proofs.drop_rules.Tie as tie
 
-abbrev invariant-loop : tie.invariant-loop
-invariant-loop sheet marks₀ count table₀ words₀ scratch₀ i₀ marks table words scratch i =
+abbrev invariant-loop-i : tie.invariant-loop-i
+invariant-loop-i sheet marks₀ count table₀ words₀ scratch₀ i₀ marks table words scratch i =
     DropsSoFar sheet (lent_three table₀ words₀ scratch₀) count marks₀ i marks (lent_three table words scratch)
 
-abbrev decreases-loop : tie.decreases-loop
-decreases-loop sheet marks₀ count table₀ words₀ scratch₀ i₀ marks table words scratch i = i
+abbrev decreases-loop-i : tie.decreases-loop-i
+decreases-loop-i sheet marks₀ count table₀ words₀ scratch₀ i₀ marks table words scratch i = i
 
 -- a rule was left out and tried; the loop as it stood before
-abbrev tried : tie.After-slice-known6 invariant-loop decreases-loop → tie.After-left-out invariant-loop decreases-loop
+abbrev tried : tie.After-slice_known-in-loop-i-3-1 invariant-loop-i decreases-loop-i → tie.After-left_out-without invariant-loop-i decreases-loop-i
 tried c = c.before.before.before.before.before.before
 
-abbrev turn : tie.After-slice-known6 invariant-loop decreases-loop → tie.At-loop invariant-loop decreases-loop
+abbrev turn : tie.After-slice_known-in-loop-i-3-1 invariant-loop-i decreases-loop-i → tie.At-loop-i invariant-loop-i decreases-loop-i
 turn c = (tried c).before.before.before.before.before.before
 
-left-out-requires : tie.Need-left-out-requires invariant-loop decreases-loop
+left-out-requires : tie.Need-left_out-without-requires invariant-loop-i decreases-loop-i
 left-out-requires c κs =
-    let head = c.before.before.before.before.before in
-    (head.before.before.before.before.before.requires.0, omega (arith, head.loop.invariant.inside))
+    let head = c in
+    (head.requires.0, omega (arith, head.loop-i.invariant.inside))
 
-returns : tie.Need-returns invariant-loop decreases-loop
+returns : tie.Need-returns-in-NoRoom invariant-loop-i decreases-loop-i
 returns c =
-    let known = c.before.before in
-    drop-11 (turn known).loop.invariant (tried known).left_out.ensures (omega arith) (ap answer_for c.enum_told.given.1)
+    let known = c.before in
+    drop-11 (turn known).loop-i.invariant (tried known).left_out-without.ensures (omega arith) (ap answer_for c.in-NoRoom.is)
 
-loop-again : tie.Need-loop-preserved invariant-loop decreases-loop
+loop-again : tie.Need-loop-i-preserved-in-CanBeKept invariant-loop-i decreases-loop-i
 loop-again c =
-    let known = c.before.before in
-    drop-12 (turn known).loop.invariant (tried known).left_out.ensures (omega arith) (ap answer_for c.enum-told2.given.1)
+    let known = c.before in
+    drop-12 (turn known).loop-i.invariant (tried known).left_out-without.ensures (omega arith) (ap answer_for c.in-CanBeKept.is)
 
-loop-again-2 : tie.Need-loop-preserved-2 invariant-loop decreases-loop
+loop-again-2 : tie.Need-loop-i-preserved invariant-loop-i decreases-loop-i
 loop-again-2 c =
     let known = c.before.before in
-    drop-13 (turn known).loop.invariant (tried known).left_out.ensures (omega arith) (ap answer_for c.enum-told3.given.1)
+    drop-13 (turn known).loop-i.invariant (tried known).left_out-without.ensures (omega arith) (ap answer_for c.in-CannotBeKept.is)
 
-pub drop-rules-spec : {M : Type 1} → statement M
-drop-rules-spec =
+pub drop_rules_spec : {M : Type 1} → statement M
+drop_rules_spec =
     tie.close
     (tie.spec
-    invariant-loop
-    decreases-loop
+    invariant-loop-i
+    decreases-loop-i
     (λ c. drop-start)
     (λ c. omega arith)
     left-out-requires
@@ -60,10 +60,10 @@ drop-rules-spec =
     (λ c. omega arith)
     loop-again
     (λ c. search rules)
-    (λ c. omega (arith, (turn c.before.before).loop.inv.inside))
+    (λ c. omega (arith, (turn c.before.before).loop-i.invariant.inside))
     (λ c. omega arith)
     loop-again-2
-    (λ c. c.before.loop.invariant.lengths.table)
-    (λ c. c.before.loop.invariant.lengths.words)
-    (λ c. c.before.loop.invariant.lengths.scratch)
-    (λ c. drop_all c.before.loop.invariant (omega arith)))
+    (λ c. c.loop-i.invariant.lengths.table)
+    (λ c. c.loop-i.invariant.lengths.words)
+    (λ c. c.loop-i.invariant.lengths.scratch)
+    (λ c. drop_all c.loop-i.invariant (omega arith)))

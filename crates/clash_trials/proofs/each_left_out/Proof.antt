@@ -9,51 +9,51 @@ use Rattle.clash_trials.proofs.Loops.{EachSoFar, each_start, each-11, each-12, e
 use Rattle.clash_trials.proofs.each_left_out.Statement.{statement}
 use Rattle.clash_trials.proofs.each_left_out.Tie as tie
 
-abbrev invariant-loop : tie.invariant-loop
-invariant-loop sheet marks₀ table₀ words₀ scratch₀ worst₀ next₀ marks table words scratch worst next =
+abbrev invariant-loop-next : tie.invariant-loop-next
+invariant-loop-next sheet marks₀ table₀ words₀ scratch₀ worst₀ next₀ marks table words scratch worst next =
     EachSoFar sheet (lent_three table₀ words₀ scratch₀) marks₀ next (answer_for worst) marks (lent_three table words scratch)
 
-abbrev decreases-loop : tie.decreases-loop
-decreases-loop sheet marks₀ table₀ words₀ scratch₀ worst₀ next₀ marks table words scratch worst next = 255 - next
+abbrev decreases-loop-next : tie.decreases-loop-next
+decreases-loop-next sheet marks₀ table₀ words₀ scratch₀ worst₀ next₀ marks table words scratch worst next = 255 - next
 
 -- a rule was left out and tried; the loop as it stood before
-abbrev tried : tie.After-slice-known6 invariant-loop decreases-loop → tie.After-left-out invariant-loop decreases-loop
+abbrev tried : tie.After-slice_known-then-marks-i-ne0-3-1 invariant-loop-next decreases-loop-next → tie.After-left_out-less invariant-loop-next decreases-loop-next
 tried c = c.before.before.before.before.before.before
 
-abbrev turn : tie.After-slice-known6 invariant-loop decreases-loop → tie.At-loop invariant-loop decreases-loop
-turn c = (tried c).before.before.before.before.before.before.before.before
+abbrev turn : tie.After-slice_known-then-marks-i-ne0-3-1 invariant-loop-next decreases-loop-next → tie.At-loop-next invariant-loop-next decreases-loop-next
+turn c = (tried c).before.before.before.before.before.before.before.before.before
 
 -- places by name, each from one after it
-abbrev at-start : tie.At-loop invariant-loop decreases-loop → tie.Start invariant-loop decreases-loop
+abbrev at-start : tie.At-loop-next invariant-loop-next decreases-loop-next → tie.Start invariant-loop-next decreases-loop-next
 at-start c = c.before.before.before.before.before
 
-left-out-requires : tie.Need-left-out-requires invariant-loop decreases-loop
+left-out-requires : tie.Need-left_out-less-requires invariant-loop-next decreases-loop-next
 left-out-requires c κs = (
-  (at-start c.before.before.before.before.before.before.before).pre.0,
+  (at-start c.before.before.before.before.before.before.before.before).requires.0,
   omega arith,
 )
 
-returns : tie.Need-returns invariant-loop decreases-loop
+returns : tie.Need-returns-in-NoRoom invariant-loop-next decreases-loop-next
 returns c =
-    let known = c.before.before in
-    each-11 (turn known).loop.invariant (tried known).left_out.ensures (λ e. omega arith) (ap answer_for c.enum_told.given.1)
+    let known = c.before in
+    each-11 (turn known).loop-next.invariant (tried known).left_out-less.ensures (λ e. omega arith) (ap answer_for c.in-NoRoom.is)
 
-loop-again : tie.Need-loop-preserved invariant-loop decreases-loop
+loop-again : tie.Need-loop-next-preserved-in-CanBeKept invariant-loop-next decreases-loop-next
 loop-again c =
-    let known = c.before.before in
-    each-12 (turn known).loop.invariant (tried known).left_out.ensures (ap answer_for c.enum-told2.given.1)
+    let known = c.before in
+    each-12 (turn known).loop-next.invariant (tried known).left_out-less.ensures (ap answer_for c.in-CanBeKept.is)
 
-loop-again-2 : tie.Need-loop-preserved-2 invariant-loop decreases-loop
+loop-again-2 : tie.Need-loop-next-preserved-in-CannotBeKept invariant-loop-next decreases-loop-next
 loop-again-2 c =
-    let known = c.before.before in
-    each-13 (turn known).loop.invariant (tried known).left_out.ensures (λ e. omega arith) (ap answer_for c.enum-told3.given.1)
+    let known = c.before in
+    each-13 (turn known).loop-next.invariant (tried known).left_out-less.ensures (λ e. omega arith) (ap answer_for c.in-CannotBeKept.is)
 
-pub each-left-out-spec : {M : Type 1} → statement M
-each-left-out-spec =
+pub each_left_out_spec : {M : Type 1} → statement M
+each_left_out_spec =
     tie.close
     (tie.spec
-    invariant-loop
-    decreases-loop
+    invariant-loop-next
+    decreases-loop-next
     (λ c. each_start)
     (λ c. omega arith)
     (λ c. omega arith)
@@ -70,8 +70,8 @@ each-left-out-spec =
     (λ c. omega arith)
     loop-again-2
     (λ c. omega arith)
-    (λ c. each-unchosen c.before.before.before.loop.invariant (omega arith))
-    (λ c. c.before.loop.invariant.lengths.table)
-    (λ c. c.before.loop.invariant.lengths.words)
-    (λ c. c.before.loop.invariant.lengths.scratch)
-    (λ c. each_all c.before.loop.invariant (at-start c.before).pre.1 (omega arith)))
+    (λ c. each-unchosen c.loop-next.invariant (omega arith))
+    (λ c. c.loop-next.invariant.lengths.table)
+    (λ c. c.loop-next.invariant.lengths.words)
+    (λ c. c.loop-next.invariant.lengths.scratch)
+    (λ c. each_all c.loop-next.invariant (at-start c.before).requires.1 (omega arith)))

@@ -7,14 +7,14 @@ use Rattle.clash_trials.proofs.Trials.{bytes-judged}
 use Rattle.clash_trials.proofs.judge_front.Statement.{statement}
 use Rattle.clash_trials.proofs.judge_front.Tie as tie
 
-slice-aggregate-judge : tie.Need-slice-aggregate-judge
+slice-aggregate-judge : tie.Need-slice_bounds-judge-end
 slice-aggregate-judge c =
-    let start = c.before.before.before.before.before in
+    let start = c in
     let a = start.args in
-    sym (length-take-le a.n a.buffer.now (omega (arith, start.requires, c.before.bytes.given.0)))
+    sym (length-take-le a.n a.buffer.now (omega (arith, start.requires, c.bytes-1.given)))
 
-pub judge-front-spec : {M : Type 1} → statement M
-judge-front-spec =
+pub judge_front_spec : {M : Type 1} → statement M
+judge_front_spec =
     tie.close
     (tie.spec
     slice-aggregate-judge
@@ -24,4 +24,4 @@ judge-front-spec =
     (λ c. search rules)
     (λ c. search rules)
     (λ c. search rules)
-    (λ c. bytes-judged c.before.before.before.before.before.before.before.judge.ensures))
+    (λ c. bytes-judged c.judge-j.ensures))

@@ -6,12 +6,12 @@ use Rattle.clash_trials.proofs.left_out.Tie as tie
 
 returns : tie.Need-returns
 returns c =
-    let tried = c.before.before.before.before.before.before in
-    let a = tried.before.before.before.before.before.before.before.before.before.before.args in
-    (tried.trial.ensures, put_back a.marks.now a.i)
+    let tried = c in
+    let a = tried.args in
+    (tried.trial-n.ensures, put_back a.marks.now a.i)
 
-pub left-out-spec : {M : Type 1} → statement M
-left-out-spec =
+pub left_out_spec : {M : Type 1} → statement M
+left_out_spec =
     tie.close
     (tie.spec
     (λ c. search rules)

@@ -7,25 +7,25 @@ use Rattle.class.proofs.judge_class.Statement.{statement}
 use Rattle.class.proofs.judge_class.Tie as tie
 
 -- places by name, each from one after it
-abbrev at-then1 : tie.After-judge-all-arg5 → tie.Then1
+abbrev at-then1 : tie.After-judge_all-arg-then-taken-4-1 → tie.Then-taken
 at-then1 c = c.before.before.before.before.before
 
-returns : tie.Need-returns
+returns : tie.Need-returns-then-taken
 returns c =
-    let judged = c.before.before.before.before.before.before.before.before.before.before in
-    let taken = at-then1 judged.before in
-    in_turn (fair-not-refused (taken.before.fair.ensures.yes taken.if1.taken)) refl judged.judge-all.ensures
+    let judged = c in
+    let taken = at-then1 judged.before.before.before.before.before.before.before.before.before.before.before in
+    in_turn (fair-not-refused (taken.fair-taken.ensures.yes taken.if-taken.true)) refl judged.judge_all.ensures
 
-pub judge-class-spec : {M : Type 1} → statement M
-judge-class-spec =
+pub judge_class_spec : {M : Type 1} → statement M
+judge_class_spec =
     tie.close
     (tie.spec
     (λ c κs. search rules)
-    (λ c κs. (at-then1 c).before.fair.ensures.yes (at-then1 c).if1.true)
+    (λ c κs. (at-then1 c).fair-taken.ensures.yes (at-then1 c).if-taken.true)
     (λ c. search rules)
     (λ c. search rules)
     (λ c. search rules)
     (λ c. search rules)
     (λ c. search rules)
     returns
-    (λ c. turned_away (c.before.fair.ensures.never c.if1.false) refl refl))
+    (λ c. turned_away (c.fair-taken.ensures.never c.if-taken.false) refl refl))

@@ -4,14 +4,8 @@ use Rattle.class.proofs.Parts.{judged-noted}
 use Rattle.class.proofs.judge_one.Statement.{statement}
 use Rattle.class.proofs.judge_one.Tie as tie
 
-returns : tie.Need-returns
-returns c =
-    let noting = c.before.before in
-    let judging = noting.before.before.before.before.before.before.before.before.before.before in
-    judged-noted judging.judge.result judging.judge.ensures noting.note.ensures
-
-pub judge-one-spec : {M : Type 1} → statement M
-judge-one-spec =
+pub judge_one_spec : {M : Type 1} → statement M
+judge_one_spec =
     tie.close
     (tie.spec
     (λ c κs. search rules)
@@ -21,4 +15,4 @@ judge-one-spec =
     (λ c. search rules)
     (λ c. search rules)
     (λ c. search rules)
-    returns)
+    (λ c. judged-noted c.judge-r.result c.judge-r.ensures c.note.ensures))

@@ -6,36 +6,36 @@ use Rattle.distances.proofs.Spreads.{Begins, begins-none, begins-more, begins-op
 use Rattle.distances.proofs.begin.Statement.{statement}
 use Rattle.distances.proofs.begin.Tie as tie
 
-abbrev invariant-loop : tie.invariant-loop
-invariant-loop book k table words r near₀ i₀ near i = (i ≤ r) × Begins book k table words r i near
+abbrev invariant-loop-i : tie.invariant-loop-i
+invariant-loop-i book k table words r near₀ i₀ near i = (i ≤ r) × Begins book k table words r i near
 
-abbrev decreases-loop : tie.decreases-loop
-decreases-loop book k table words r near₀ i₀ near i = r - i
+abbrev decreases-loop-i : tie.decreases-loop-i
+decreases-loop-i book k table words r near₀ i₀ near i = r - i
 
-loop-again : tie.Need-loop-preserved invariant-loop decreases-loop
+loop-again : tie.Need-loop-i-preserved invariant-loop-i decreases-loop-i
 loop-again c =
-    (omega arith, begins-more _ _ _ _ _ _ _ _ c.before.before.before.before.loop.invariant.1 (omega arith) c.start.ensures)
+    (omega arith, begins-more _ _ _ _ _ _ _ _ c.loop-i.invariant.1 (omega arith) c.start-v.ensures)
 
 -- places by name, each from one after it
-abbrev at-start : tie.At-loop invariant-loop decreases-loop → tie.Start invariant-loop decreases-loop
+abbrev at-start : tie.At-loop-i invariant-loop-i decreases-loop-i → tie.Start invariant-loop-i decreases-loop-i
 at-start c = c.before.before.before.before.before
 
-pub begin-spec : {M : Type 1} → statement M
-begin-spec =
+pub begin_spec : {M : Type 1} → statement M
+begin_spec =
     tie.close
     (tie.spec
-    invariant-loop
-    decreases-loop
-    (λ c. (omega arith, begins-none _ _ _ _ _ _ c.before.before.before.before.requires.1))
-    (λ c. let l = (at-start c.before).pre.0.states.in_table in omega arith)
-    (λ c. let l = (at-start c.before.before).pre.0.states.in_table in omega arith)
-    (λ c. let l = (at-start c.before.before).pre.0.in_words_lem in omega arith)
-    (λ c. let l = (at-start c.before.before.before).pre.0.in_words_lem in omega arith)
-    (λ c κs. (at-start c.before.before.before).pre.0.states.shaped)
-    (λ c. let l = c.before.before.before.before.loop.invariant.1.long in omega arith)
-    (λ c. let l = c.before.before.before.before.loop.invariant.1.long in omega arith)
+    invariant-loop-i
+    decreases-loop-i
+    (λ c. (omega arith, begins-none _ _ _ _ _ _ c.requires.1))
+    (λ c. let l = (at-start c.before).requires.0.states.in_table in omega arith)
+    (λ c. let l = (at-start c.before.before).requires.0.states.in_table in omega arith)
+    (λ c. let l = (at-start c.before.before).requires.0.in_words in omega arith)
+    (λ c. let l = (at-start c.before.before.before).requires.0.in_words in omega arith)
+    (λ c κs. (at-start c.before.before.before).requires.0.states.shaped)
+    (λ c. let l = c.loop-i.invariant.1.long in omega arith)
+    (λ c. let l = c.loop-i.invariant.1.long in omega arith)
     (λ c. omega arith)
     (λ c. omega arith)
     loop-again
-    (λ c. c.before.loop.invariant.1.long ∙ sym (at-start c.before).pre.1)
-    (λ c. begins-opening _ _ _ _ _ _ _ c.before.loop.invariant.1 (omega arith)))
+    (λ c. c.loop-i.invariant.1.long ∙ sym (at-start c.before).requires.1)
+    (λ c. begins-opening _ _ _ _ _ _ _ c.loop-i.invariant.1 (omega arith)))

@@ -9,7 +9,7 @@ pub start_spec : {M : Type 1} → statement M
 start_spec =
     tie.close
     (tie.spec
-    (λ c. out c.if1.true)
-    (λ c κs. c.before.before.requires)
-    (λ c. there c.before.before.if1.false (sym c.before.kept.ensures ∙ c.if2.true))
-    (λ c. waits c.before.before.if1.false (λ g. passes _ (sym c.if2.false ∙ c.before.kept.ensures ∙ g))))
+    (λ c. out c.if-word-ne0.true)
+    (λ c κs. c.requires)
+    (λ c. there c.if-word-ne0.false (sym c.kept.ensures ∙ c.if-kept.true))
+    (λ c. waits c.if-word-ne0.false (λ g. passes _ (sym c.if-kept.false ∙ c.kept.ensures ∙ g))))

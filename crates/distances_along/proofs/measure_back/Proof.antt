@@ -9,102 +9,102 @@ use Rattle.distances_along.proofs.Along.{tracing-done}
 use Rattle.distances_along.proofs.measure_back.Statement.{statement}
 use Rattle.distances_along.proofs.measure_back.Tie as tie
 
-abbrev invariant-loop : tie.invariant-loop
-invariant-loop book k table words r back queue₀ near₀ tail₀ head₀ queue near tail head =
+abbrev invariant-loop-head : tie.invariant-loop-head
+invariant-loop-head book k table words r back queue₀ near₀ tail₀ head₀ queue near tail head =
     Tracing (book_system book) ((book_system book).Kept k) table words r back queue₀ queue near tail head
 
-abbrev decreases-loop : tie.decreases-loop
-decreases-loop book k table words r back queue₀ near₀ tail₀ head₀ queue near tail head = r - head
+abbrev decreases-loop-head : tie.decreases-loop-head
+decreases-loop-head book k table words r back queue₀ near₀ tail₀ head₀ queue near tail head = r - head
 
 -- the entry, seen from the loop
-abbrev entry : tie.At-loop invariant-loop decreases-loop → tie.Start invariant-loop decreases-loop
-entry l = l.before.before.before.before.before.before.before.before.before.before.before.before.before.before.before.before
+abbrev entry : tie.At-loop-head invariant-loop-head decreases-loop-head → tie.Start invariant-loop-head decreases-loop-head
+entry l = l.before.before.before.before.before.before.before.before.before.before.before.before.before.before.before
 
 -- the loop, seen from behind the call of `follow_row`
-abbrev turn : tie.After-follow-row invariant-loop decreases-loop → tie.In-loop invariant-loop decreases-loop
+abbrev turn : tie.After-follow_row-got invariant-loop-head decreases-loop-head → tie.In-loop-head invariant-loop-head decreases-loop-head
 turn c = c.before.before.before.before.before
 
 -- within the loop's body: what is known of the next place of the queue
-next : (c : tie.In-loop invariant-loop decreases-loop)
-    → Next c.before.loop.near c.before.loop.queue (entry c.before).args.r c.before.loop.head
-next c = tracing-next _ _ _ _ _ _ _ _ _ _ _ c.before.loop.invariant c.loop-test.true
+next : (c : tie.In-loop-head invariant-loop-head decreases-loop-head)
+    → Next c.loop-head.near c.loop-head.queue (entry c.before).args.r c.loop-head.head
+next c = tracing-next _ _ _ _ _ _ _ _ _ _ _ c.loop-head.invariant c.loop-head-test.true
 
 -- places by name, each from one after it
-abbrev at-start : tie.After-begin-arg invariant-loop decreases-loop → tie.Start invariant-loop decreases-loop
+abbrev at-start : tie.After-begin-arg-1 invariant-loop-head decreases-loop-head → tie.Start invariant-loop-head decreases-loop-head
 at-start c = c.before.before.before.before.before.before.before
 
-begin-requires : tie.Need-begin-requires invariant-loop decreases-loop
+begin-requires : tie.Need-begin-requires invariant-loop-head decreases-loop-head
 begin-requires c κs = (
   (at-start c).requires.0,
   (at-start c).requires.1,
 )
 
-line-up-requires : tie.Need-line-up-requires invariant-loop decreases-loop
+line-up-requires : tie.Need-line_up-tail-requires invariant-loop-head decreases-loop-head
 line-up-requires c κs =
-    let at-begin = c.before.before.before.before in
-    let pre = (at-start at-begin.before).pre in
+    let at-begin = c.before.before.before in
+    let pre = (at-start at-begin.before).requires in
     (omega (arith, at-begin.begin.ensures.sure.long), pre.3, pre.0.states.few)
 
-loop-holds : tie.Need-loop-init invariant-loop decreases-loop
+loop-holds : tie.Need-loop-head-init invariant-loop-head decreases-loop-head
 loop-holds c =
-    let at-line-up = c.before.before in
-    let at-begin = at-line-up.before.before.before.before.before in
-    let pre = (at-start at-begin.before).pre in
+    let at-line-up = c in
+    let at-begin = at-line-up.before.before.before.before.before.before in
+    let pre = (at-start at-begin.before).requires in
     tracing-none _ _ _ _ _ _ _ _ _ (moves-back _ _ _ _ pre.2) pre.0.states.few
-    (omega (arith, at-line-up.line-up.ensures.1, pre.3))
-    at-begin.begin.ensures at-line-up.line-up.ensures.0
+    (omega (arith, at-line-up.line_up-tail.ensures.1, pre.3))
+    at-begin.begin.ensures at-line-up.line_up-tail.ensures.0
 
-follow-row-requires : tie.Need-follow-row-requires invariant-loop decreases-loop
+follow-row-requires : tie.Need-follow_row-got-requires invariant-loop-head decreases-loop-head
 follow-row-requires c κs =
     let at-loop-test = c.before.before.before.before in
-    let at-loop = at-loop-test.before in
+    let at-loop = at-loop-test in
     let n = next at-loop-test in
-    tracing-ready _ _ _ _ _ _ _ _ _ _ _ at-loop.loop.invariant at-loop-test.loop-test.true _ (omega (arith, n.small))
+    tracing-ready _ _ _ _ _ _ _ _ _ _ _ at-loop.loop-head.invariant at-loop-test.loop-head-test.true _ (omega (arith, n.small))
 
-add-tail : tie.Need-overflow-add-tail invariant-loop decreases-loop
+add-tail : tie.Need-overflow_add-tail invariant-loop-head decreases-loop-head
 add-tail c =
     let at_row = c.before.before.before.before in
     let at-loop-test = turn at_row in
-    let at-loop = at-loop-test.before in
-    let t = tracing-more _ _ _ _ _ _ _ _ _ _ _ at-loop.loop.inv at-loop-test.loop-test.taken _ _ _ at_row.follow-row.ensures in
+    let at-loop = at-loop-test in
+    let t = tracing-more _ _ _ _ _ _ _ _ _ _ _ at-loop.loop-head.invariant at-loop-test.loop-head-test.true _ _ _ at_row.follow_row-got.ensures in
     omega (arith, t.along.room, t.few)
 
-add-head : tie.Need-overflow-add-head invariant-loop decreases-loop
+add-head : tie.Need-overflow_add-head invariant-loop-head decreases-loop-head
 add-head c =
     let at-loop-test = turn c.before.before.before.before in
-    omega (arith, (next at-loop-test).early, at-loop-test.before.loop.inv.few)
+    omega (arith, (next at-loop-test).early, at-loop-test.loop-head.invariant.few)
 
-loop-again : tie.Need-loop-preserved invariant-loop decreases-loop
+loop-again : tie.Need-loop-head-preserved invariant-loop-head decreases-loop-head
 loop-again c =
     let at_row = c.before.before.before.before in
     let at-loop-test = turn at_row in
-    tracing-more _ _ _ _ _ _ _ _ _ _ _ at-loop-test.before.loop.inv at-loop-test.loop-test.taken _ _ _
-    at_row.follow-row.ensures
+    tracing-more _ _ _ _ _ _ _ _ _ _ _ at-loop-test.loop-head.invariant at-loop-test.loop-head-test.true _ _ _
+    at_row.follow_row-got.ensures
 
-same-length-2 : tie.Need-same-length-2 invariant-loop decreases-loop
-same-length-2 c = c.before.loop.invariant.along.sure.long ∙ sym (entry c.before).pre.1
+same-length-2 : tie.Need-shape_of-near invariant-loop-head decreases-loop-head
+same-length-2 c = c.loop-head.invariant.along.sure.long ∙ sym (entry c.before).requires.1
 
-returns : tie.Need-returns invariant-loop decreases-loop
+returns : tie.Need-returns invariant-loop-head decreases-loop-head
 returns c =
-    let at-loop = c.before in (
-      tracing-done _ _ _ _ _ _ _ _ _ _ _ at-loop.loop.invariant (omega arith),
-      at-loop.loop.invariant.same
-          ∙ at-loop.before.before.before.line-up.ensures.1,
+    let at-loop = c in (
+      tracing-done _ _ _ _ _ _ _ _ _ _ _ at-loop.loop-head.invariant (omega arith),
+      at-loop.loop-head.invariant.same
+          ∙ at-loop.line_up-tail.ensures.1,
     )
 
-pub measure-back-spec : {M : Type 1} → statement M
-measure-back-spec =
+pub measure_back_spec : {M : Type 1} → statement M
+measure_back_spec =
     tie.close
     (tie.spec
-    invariant-loop
-    decreases-loop
+    invariant-loop-head
+    decreases-loop-head
     begin-requires
     line-up-requires
     loop-holds
-    (λ c. omega (arith, (next c).early, c.before.loop.invariant.few))
+    (λ c. omega (arith, (next c).early, c.loop-head.invariant.few))
     (λ c. (next c.before).in_queue)
-    (λ c. omega (arith, (next c.before).place, c.before.before.loop.invariant.few))
-    (λ c. omega (arith, (next c.before).place, c.before.before.loop.invariant.few))
+    (λ c. omega (arith, (next c.before).place, c.loop-head.invariant.few))
+    (λ c. omega (arith, (next c.before).place, c.loop-head.invariant.few))
     (λ c. (next c.before.before).in_near)
     (λ c. omega (arith, (next c.before.before).small))
     follow-row-requires
@@ -112,6 +112,6 @@ measure-back-spec =
     add-head
     (λ c. omega (arith, (next (turn c.before.before.before.before)).early))
     loop-again
-    (λ c. c.before.loop.invariant.same ∙ c.before.before.before.before.line-up.ensures.1)
+    (λ c. c.loop-head.invariant.same ∙ c.line_up-tail.ensures.1)
     same-length-2
     returns)

@@ -5,14 +5,14 @@ use Rattle.distances_tests.proofs.by_tests.Statement.{statement}
 use Rattle.distances_tests.proofs.by_tests.Tie as tie
 
 -- places by name, each from one after it
-abbrev at-start : tie.After-measure-arg2 → tie.Start
+abbrev at-start : tie.After-measure-arg-2-1 → tie.Start
 at-start c = c.before.before.before.before.before.before.before.before
 
 measure-requires : tie.Need-measure-requires
 measure-requires c κs =
     let pre = (at-start c).requires in (pre.0, part-long _ _ _ pre.1, pre.2, pre.3)
 
-same-length-2 : tie.Need-same-length-2
+same-length-2 : tie.Need-shape_of-dist
 same-length-2 c =
     let at-measure = c.before.before.before.before in
     let pre = (at-start at-measure.before).requires in
@@ -24,8 +24,8 @@ returns c =
     let pre = (at-start at-measure.before).requires in
     (near-measured _ _ _ _ _ _ _ _ pre.1 at-measure.measure.ensures.0, at-measure.measure.ensures.1)
 
-pub by-tests-spec : {M : Type 1} → statement M
-by-tests-spec =
+pub by_tests_spec : {M : Type 1} → statement M
+by_tests_spec =
     tie.close
     (tie.spec
     (λ c. search rules)

@@ -5,13 +5,13 @@ use Rattle.ground.proofs.Tests.{passes}
 use Rattle.distances_tests.proofs.serves.Statement.{statement}
 use Rattle.distances_tests.proofs.serves.Tie as tie
 
-returns-2 : tie.Need-returns-2
+returns-2 : tie.Need-returns-then-known
 returns-2 c e = record {
-  place = omega (arith, c.before.before.before.if1.false);
-  done = c.before.before.known.ensures.yes c.before.if2.true;
+  place = omega (arith, c.if-k-r.false);
+  done = c.known.ensures.yes c.if-known.true;
   wider = c.stricter.ensures e;
 }
 
-pub serves-spec : {M : Type 1} → statement M
-serves-spec =
+pub serves_spec : {M : Type 1} → statement M
+serves_spec =
     tie.close (tie.spec (λ c e. absurd (passes _ e)) (λ c κs. search rules) (λ c κs. search rules) returns-2 (λ c e. absurd (passes _ e)))

@@ -7,53 +7,53 @@ use Rattle.distances_tests.proofs.Sifts.{Sifting, Here, sifting-none, sift-here,
 use Rattle.distances_tests.proofs.spread.Statement.{statement}
 use Rattle.distances_tests.proofs.spread.Tie as tie
 
-abbrev invariant-loop : tie.invariant-loop
-invariant-loop book table signs j d left list₀ near₀ r kept₀ i₀ list near kept i =
+abbrev invariant-loop-i : tie.invariant-loop-i
+invariant-loop-i book table signs j d left list₀ near₀ r kept₀ i₀ list near kept i =
     (i ≤ left) × Sifting (λ m. To book table m j) d (length near₀) left near₀ list₀ i kept near list
 
-abbrev decreases-loop : tie.decreases-loop
-decreases-loop book table signs j d left list₀ near₀ r kept₀ i₀ list near kept i = left - i
+abbrev decreases-loop-i : tie.decreases-loop-i
+decreases-loop-i book table signs j d left list₀ near₀ r kept₀ i₀ list near kept i = left - i
 
 -- the entry, seen from the loop
-abbrev start : tie.At-loop invariant-loop decreases-loop → tie.Start invariant-loop decreases-loop
+abbrev start : tie.At-loop-i invariant-loop-i decreases-loop-i → tie.Start invariant-loop-i decreases-loop-i
 start l = l.before.before.before.before.before.before
 
 -- within the loop's body: what is known of the place that is looked at
-here : (c : tie.In-loop invariant-loop decreases-loop)
-    → Here (length (start c.before).args.near.now) c.before.loop.near c.before.loop.list c.before.loop.i
-    c.before.loop.auto
+here : (c : tie.In-loop-i invariant-loop-i decreases-loop-i)
+    → Here (length (start c.before).args.near.now) c.loop-i.near c.loop-i.list c.loop-i.i
+    c.loop-i.kept
 here c =
-    let pre = (start c.before).pre in
-    sift-here _ _ _ _ _ _ pre.0 pre.3 _ _ _ _ c.before.loop.invariant.1 c.loop-test.true
+    let pre = (start c.before).requires in
+    sift-here _ _ _ _ _ _ pre.0 pre.3 _ _ _ _ c.loop-i.invariant.1 c.loop-i-test.true
 
-meets-requires : tie.Need-meets-requires invariant-loop decreases-loop
-meets-requires c κs = let pre = (start c.before.before).pre in (pre.1, (here c.before).place, pre.2)
+meets-requires : tie.Need-meets-requires invariant-loop-i decreases-loop-i
+meets-requires c κs = let pre = (start c.before.before).requires in (pre.1, (here c.before).place, pre.2)
 
-loop-again : tie.Need-loop-preserved invariant-loop decreases-loop
+loop-again : tie.Need-loop-i-preserved-then-meets invariant-loop-i decreases-loop-i
 loop-again c =
     let at_test = c.before.before.before in
-    let pre = (start at_test.before).pre in (
+    let pre = (start at_test.before).requires in (
       omega arith,
-      sift-reach _ _ _ _ _ _ pre.0 pre.3 _ _ _ _ at_test.before.loop.invariant.1 at_test.loop-test.true
-          (c.before.meets.ensures.yes c.if1.true),
+      sift-reach _ _ _ _ _ _ pre.0 pre.3 _ _ _ _ at_test.loop-i.invariant.1 at_test.loop-i-test.true
+          (c.meets.ensures.yes c.if-meets.true),
     )
 
-loop-again-2 : tie.Need-loop-preserved-2 invariant-loop decreases-loop
+loop-again-2 : tie.Need-loop-i-preserved invariant-loop-i decreases-loop-i
 loop-again-2 c =
     let at_test = c.before.before.before in
-    let pre = (start at_test.before).pre in (
+    let pre = (start at_test.before).requires in (
       omega arith,
-      sift-keep _ _ _ _ _ _ pre.0 pre.3 _ _ _ _ at_test.before.loop.invariant.1 at_test.loop-test.true
-          (c.before.meets.ensures.never c.if1.false),
+      sift-keep _ _ _ _ _ _ pre.0 pre.3 _ _ _ _ at_test.loop-i.invariant.1 at_test.loop-i-test.true
+          (c.meets.ensures.never c.if-meets.false),
     )
 
-pub spread-spec : {M : Type 1} → statement M
-spread-spec =
+pub spread_spec : {M : Type 1} → statement M
+spread_spec =
     tie.close
     (tie.spec
-    invariant-loop
-    decreases-loop
-    (λ c. let pre = c.before.before.before.before.before.requires in (omega arith, sifting-none _ _ _ _ _ _ pre.0 pre.3))
+    invariant-loop-i
+    decreases-loop-i
+    (λ c. let pre = c.requires in (omega arith, sifting-none _ _ _ _ _ _ pre.0 pre.3))
     (λ c. omega (arith, (here c).in_list))
     (λ c. omega (arith, (here c.before).in_list))
     (λ c. omega (arith, (here c.before).few))
@@ -70,8 +70,8 @@ spread-spec =
     (λ c. omega arith)
     (λ c. omega arith)
     loop-again-2
-    (λ c. c.before.loop.invariant.1.same)
-    (λ c. c.before.loop.invariant.1.spread.long)
+    (λ c. c.loop-i.invariant.1.same)
+    (λ c. c.loop-i.invariant.1.spread.long)
     (λ c.
-    let pre = (start c.before).pre in
-    sifting-done _ _ _ _ _ _ pre.0 pre.3 _ _ _ _ c.before.loop.invariant.1 (omega arith)))
+    let pre = (start c.before).requires in
+    sifting-done _ _ _ _ _ _ pre.0 pre.3 _ _ _ _ c.loop-i.invariant.1 (omega arith)))

@@ -5,11 +5,11 @@ use Rattle.ground.proofs.Saying.{says-no, says-as}
 use Rattle.ends_tests.proofs.points.Statement.{statement}
 use Rattle.ends_tests.proofs.points.Tie as tie
 
-pub points-spec : {M : Type 1} → statement M
-points-spec =
+pub points_spec : {M : Type 1} → statement M
+points_spec =
     tie.close
     (tie.spec
-    (λ c. says-no (λ p. let a = p.0 in let e = c.if1.true in omega arith))
+    (λ c. says-no (λ p. let a = p.0 in let e = c.if-q-eq0.true in omega arith))
     (λ c. omega arith)
     (λ c. omega arith)
     (λ c. omega arith)

@@ -7,34 +7,34 @@ use Rattle.ends_tests.proofs.Least.{listed-none, listed-least, least-none, least
 use Rattle.ends_tests.proofs.seek_listed.Statement.{statement}
 use Rattle.ends_tests.proofs.seek_listed.Tie as tie
 
-next-states-requires : tie.Need-next-states-requires
+next-states-requires : tie.Need-next_states-n-requires
 next-states-requires c κs =
-    let pre = c.before.before.before.before.before.before.requires in
+    let pre = c.requires in
     (pre.signed.states.shaped, pre.signed.states.lawful _ pre.place, omega arith)
 
-returns : tie.Need-returns
-returns c = least-none _ _ _ _ _ _ _ (listed-none _ _ _ c.before.before.next-states.ensures refl c.if1.true)
+returns : tie.Need-returns-then-n-eq0
+returns c = least-none _ _ _ _ _ _ _ (listed-none _ _ _ c.next_states-n.ensures refl c.if-n-eq0.true)
 
-returns-2 : tie.Need-returns-2
+returns-2 : tie.Need-returns-then-still_stands
 returns-2 c =
-    let at = c.before.still-stands.ensures.yes c.if2.true in
-    let found = c.before.before in
-    let some = found.before in
-    least-found _ _ _ _ _ _ _ _ _ (listed-least _ _ _ some.before.before.next-states.ensures refl some.if1.false)
-    found.place.ensures
+    let at = c.still_stands.ensures.yes c.if-still_stands.true in
+    let found = c in
+    let some = found in
+    least-found _ _ _ _ _ _ _ _ _ (listed-least _ _ _ some.next_states-n.ensures refl some.if-n-eq0.false)
+    found.place-p.ensures
     at.0 at.1
 
-returns-4 : tie.Need-returns-4
+returns-4 : tie.Need-returns
 returns-4 c =
-    let found = c.before.before.before.before in
-    let some = found.before in
+    let found = c in
+    let some = found in
     sought-from _ _ _ _ _ _ _ _ _
-    (least-passed _ _ _ _ _ _ _ _ _ (listed-least _ _ _ some.before.before.next-states.ensures refl some.if1.false)
-    found.place.ensures)
-    c.seek2.ensures
+    (least-passed _ _ _ _ _ _ _ _ _ (listed-least _ _ _ some.next_states-n.ensures refl some.if-n-eq0.false)
+    found.place-p.ensures)
+    c.seek-2.ensures
 
-pub seek-listed-spec : {M : Type 1} → statement M
-seek-listed-spec =
+pub seek_listed_spec : {M : Type 1} → statement M
+seek_listed_spec =
     tie.close
     (tie.spec
     (λ c. search rules)

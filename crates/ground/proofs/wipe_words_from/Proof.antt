@@ -6,23 +6,23 @@ use Rattle.ground.proofs.Wiping.{Zeroed, zeroed-none, zeroed-more, zeroed_rest}
 use Rattle.ground.proofs.wipe_words_from.Statement.{statement}
 use Rattle.ground.proofs.wipe_words_from.Tie as tie
 
-abbrev invariant-loop : tie.invariant-loop
-invariant-loop l₀ from i₀ l i = Zeroed from i l₀ l
+abbrev invariant-loop-i : tie.invariant-loop-i
+invariant-loop-i l₀ from i₀ l i = Zeroed from i l₀ l
 
-abbrev decreases-loop : tie.decreases-loop
-decreases-loop l₀ from i₀ l i = length l - i
+abbrev decreases-loop-i : tie.decreases-loop-i
+decreases-loop-i l₀ from i₀ l i = length l - i
 
-pub wipe-words-from-spec : {M : Type 1} → statement M
-wipe-words-from-spec =
+pub wipe_words_from_spec : {M : Type 1} → statement M
+wipe_words_from_spec =
     tie.close
     (tie.spec
-    invariant-loop
-    decreases-loop
+    invariant-loop-i
+    decreases-loop-i
     (λ c. zeroed-none c.args.from c.args.l.now)
     (λ c. omega arith)
     (λ c. omega arith)
     (λ c. omega arith)
     (λ c. simp length-set (omega arith))
-    (λ c. zeroed-more _ _ _ _ c.before.loop.invariant (omega arith))
-    (λ c. c.before.loop.invariant.long)
-    (λ c. zeroed_rest _ _ _ _ c.before.loop.invariant c.before.before.requires (omega arith)))
+    (λ c. zeroed-more _ _ _ _ c.before.loop-i.invariant (omega arith))
+    (λ c. c.before.loop-i.invariant.long)
+    (λ c. zeroed_rest _ _ _ _ c.before.loop-i.invariant c.before.before.requires (omega arith)))

@@ -7,25 +7,25 @@ use Rattle.judge.proofs.judge.Statement.{statement}
 use Rattle.judge.proofs.judge.Tie as tie
 
 -- the entry, from where the sheet is read
-abbrev start : tie.After-read-in-numbers → tie.Start
+abbrev start : tie.After-read_in_numbers → tie.Start
 start c = c.before.before.before.before.before.before
 
-judge-good-requires : tie.Need-judge-good-requires
+judge-good-requires : tie.Need-judge_good-requires
 judge-good-requires c κs =
-    let known = c.before.before.before.before in
-    let read = known.before.before in
-    told (start read).args.sheet.now read.read-in-numbers.ensures known.enum_told.given.1
+    let known = c in
+    let read = known.before.before.before.before.before in
+    told (start read).args.sheet.now read.read_in_numbers.ensures known.in-Good.is
 
-returns-2 : tie.Need-returns-2
+returns-2 : tie.Need-returns-in-Refused
 returns-2 c =
-    let told_of = c.before.before in
+    let told_of = c in
     let read = told_of.before.before in
     let a = (start read).args in
     bad-judged (lent_of a.table.now a.words.now a.scratch.now a.run.now)
-    (told a.sheet.now read.read-in-numbers.ensures told_of.v.given.1) c.refusal.ensures
+    (told a.sheet.now read.read_in_numbers.ensures told_of.in-Refused.is) c.refusal.ensures
 
-pub judge-spec : {M : Type 1} → statement M
-judge-spec =
+pub judge_spec : {M : Type 1} → statement M
+judge_spec =
     tie.close
     (tie.spec
     (λ c κs. search rules)

@@ -6,23 +6,23 @@ use Rattle.judge.proofs.judge_good.Statement.{statement}
 use Rattle.judge.proofs.judge_good.Tie as tie
 
 -- places by name, each from one after it
-abbrev at-start : tie.After-book → tie.Start
+abbrev at-start : tie.After-book-1 → tie.Start
 at-start c = c.before.before.before.before.before.before
 
 compile-requires : tie.Need-compile-requires
 compile-requires c κs =
     let start = at-start c in
-    (start.pre, refl)
+    (start.requires, refl)
 
 returns : tie.Need-returns
 returns c =
-    let judged = c.before.before.before.before.before.before.before.before in
-    let compiled = judged.before.before.before.before.before.before.before in
-    let start = at-start compiled.before in
-    good-judged start.pre compiled.compile.ensures judged.judge-book.ensures
+    let judged = c in
+    let compiled = judged in
+    let start = at-start compiled.before.before.before.before.before.before.before.before.before.before.before.before.before.before.before.before in
+    good-judged start.requires compiled.compile.ensures judged.judge_book.ensures
 
-pub judge-good-spec : {M : Type 1} → statement M
-judge-good-spec =
+pub judge_good_spec : {M : Type 1} → statement M
+judge_good_spec =
     tie.close
     (tie.spec
     (λ c. search rules)

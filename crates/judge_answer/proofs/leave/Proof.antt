@@ -6,10 +6,10 @@ use Rattle.judge_answer.proofs.leave.Tie as tie
 
 returns : tie.Need-returns
 returns c =
-    let scratch = c.before.before in
-    let words = scratch.before.before.before.before in
-    let table = words.before.before.before.before in
-    wiped-left table.wipe-states-from.ensures words.wipe-words-from.ensures scratch.wipe-states-from2.ensures
+    let scratch = c in
+    let words = scratch in
+    let table = words in
+    wiped-left table.wipe_states_from.ensures words.wipe_words_from.ensures scratch.wipe_states_from-2.ensures
 
 pub leave_spec : {M : Type 1} → statement M
 leave_spec =

@@ -6,12 +6,12 @@ use Rattle.judge_answer.proofs.write_strikes.Tie as tie
 
 returns : tie.Need-returns
 returns c =
-    let left = c.before.before.before.before.before.before in
-    let ordered = left.before.before.before.before.before.before.before.before.before.before in
+    let left = c in
+    let ordered = left in
     wiped-strikes ordered.order.ensures left.leave.ensures
 
-pub write-strikes-spec : {M : Type 1} → statement M
-write-strikes-spec =
+pub write_strikes_spec : {M : Type 1} → statement M
+write_strikes_spec =
     tie.close
     (tie.spec
     (λ c κs. search rules)

@@ -5,18 +5,18 @@ use Rattle.judge_kept.specs.Kept.{too_long, in_room}
 use Rattle.judge_kept.proofs.hand_over.Statement.{statement}
 use Rattle.judge_kept.proofs.hand_over.Tie as tie
 
-returns : tie.Need-returns
+returns : tie.Need-returns-then-run-needed
 returns c =
-    let left = c.before.before.before.before.before.before.before in
-    too_long left.before.before.before.before.if1.true c.refusal.ensures left.leave.ensures
+    let left = c in
+    too_long left.if-run-needed.true c.refusal.ensures left.leave.ensures
 
-returns-2 : tie.Need-returns-2
+returns-2 : tie.Need-returns
 returns-2 c =
-    let left = c.before.before.before.before.before.before in
-    in_room left.before.before.before.before.if1.false refl left.leave2.ensures
+    let left = c in
+    in_room left.if-run-needed.false refl left.leave-2.ensures
 
-pub hand-over-spec : {M : Type 1} → statement M
-hand-over-spec =
+pub hand_over_spec : {M : Type 1} → statement M
+hand_over_spec =
     tie.close
     (tie.spec
     (λ c. search rules)

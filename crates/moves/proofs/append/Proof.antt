@@ -8,13 +8,13 @@ use Rattle.moves.proofs.Layouts.{appended}
 use Rattle.moves.proofs.append.Statement.{statement}
 use Rattle.moves.proofs.append.Tie as tie
 
-slice-write-moves-2 : tie.Need-slice-write-moves-2
+slice-write-moves-2 : tie.Need-bounds-moves-at
 slice-write-moves-2 c =
-    let entry = c.before.before.before in
-    omega (arith, length-set entry.args.moves.now (cells_from + c.row-end.result) entry.args.j)
+    let entry = c in
+    omega (arith, length-set entry.args.moves.now (cells_from + c.row_end-e.result) entry.args.j)
 
-pub append-spec : {M : Type 1} → statement M
-append-spec =
+pub append_spec : {M : Type 1} → statement M
+append_spec =
     tie.close
     (tie.spec
     (λ c κs. search rules)
@@ -28,4 +28,4 @@ append-spec =
     (λ c. search rules)
     slice-write-moves-2
     (λ c. search rules)
-    (λ c. appended _ _ _ _ c.before.before.before.requires.1 c.before.before.before.requires.3 c.row-end.ensures.0))
+    (λ c. appended _ _ _ _ c.requires.1 c.requires.3 c.row_end-e.ensures.0))

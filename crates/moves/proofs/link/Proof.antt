@@ -7,11 +7,11 @@ use Rattle.moves.proofs.Layouts.{link-read}
 use Rattle.moves.proofs.link.Statement.{statement}
 use Rattle.moves.proofs.link.Tie as tie
 
-cast-result : tie.Need-overflow-cast-result
-cast-result c = omega (arith, c.shared-slice-known.given (links_from + c.before.args.i))
+cast-result : tie.Need-overflow_cast-result
+cast-result c = omega (arith, c.shared_slice_known-1.given (links_from + c.args.i))
 
 returns : tie.Need-returns
-returns c = (link-read _ _, omega (arith, c.shared-slice-known.given (links_from + c.before.args.i)))
+returns c = (link-read _ _, omega (arith, c.shared_slice_known-1.given (links_from + c.args.i)))
 
-pub link-spec : {M : Type 1} → statement M
-link-spec = tie.close (tie.spec (λ c. search rules) (λ c. search rules) (λ c. search rules) cast-result returns)
+pub link_spec : {M : Type 1} → statement M
+link_spec = tie.close (tie.spec (λ c. search rules) (λ c. search rules) (λ c. search rules) cast-result returns)

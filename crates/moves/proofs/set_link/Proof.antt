@@ -4,8 +4,8 @@ use Rattle.moves.proofs.Layouts.{link_set}
 use Rattle.moves.proofs.set_link.Statement.{statement}
 use Rattle.moves.proofs.set_link.Tie as tie
 
-pub set-link-spec : {M : Type 1} → statement M
-set-link-spec =
+pub set_link_spec : {M : Type 1} → statement M
+set_link_spec =
     tie.close
     (tie.spec
     (λ c. search rules)

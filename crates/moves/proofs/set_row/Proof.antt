@@ -6,8 +6,8 @@ use Rattle.moves.proofs.Layouts.{row-set}
 use Rattle.moves.proofs.set_row.Statement.{statement}
 use Rattle.moves.proofs.set_row.Tie as tie
 
-pub set-row-spec : {M : Type 1} → statement M
-set-row-spec =
+pub set_row_spec : {M : Type 1} → statement M
+set_row_spec =
     tie.close
     (tie.spec
     (λ c. search rules)

@@ -12,13 +12,13 @@ use Rattle.moves_forth.proofs.budget.Tie as tie
 few : (each n : ℕ) → each ≤ most_cells → n ≤ most_states → each * n ≤ 268435456
 few each n a b = mul-le-mul a b
 
-pub budget-spec : {M : Type 1} → statement M
-budget-spec =
+pub budget_spec : {M : Type 1} → statement M
+budget_spec =
     tie.close
     (tie.spec
-    (λ c. omega (arith, few _ c.before.args.rows c.before.requires.0 (omega (arith, c.before.requires.1, c.before.requires.2))))
-    (λ c. omega (arith, few _ c.before.args.rows c.before.requires.0 (omega (arith, c.before.requires.1, c.before.requires.2))))
-    (λ c. omega (arith, few _ _ c.before.requires.0 c.before.requires.1))
-    (λ c. omega (arith, few _ _ c.before.requires.0 c.before.requires.1))
+    (λ c. omega (arith, few _ c.args.rows c.requires.0 (omega (arith, c.requires.1, c.requires.2))))
+    (λ c. omega (arith, few _ c.args.rows c.requires.0 (omega (arith, c.requires.1, c.requires.2))))
+    (λ c. omega (arith, few _ _ c.requires.0 c.requires.1))
+    (λ c. omega (arith, few _ _ c.requires.0 c.requires.1))
     (λ c. search rules)
     (λ c. search rules))

@@ -6,9 +6,9 @@ use Rattle.moves_forth.proofs.fill.Tie as tie
 
 returns : tie.Need-returns
 returns c =
-    let at-look-up = c.before.before in
-    let entry = at-look-up.before.before.before.before.before in
-    filled-back _ _ _ entry.args.moves.now at-look-up.look_up.new.1.1.1.1.1.0 entry.requires.4 at-look-up.look_up.ensures
+    let at-look-up = c in
+    let entry = at-look-up in
+    filled-back _ _ _ entry.args.moves.now at-look-up.look_up.new.cells entry.requires.4 at-look-up.look_up.ensures
 
 pub fill_spec : {M : Type 1} → statement M
 fill_spec =

@@ -5,16 +5,16 @@ use borrow.Author.Rules.{rules}
 use Rattle.moves_forth.proofs.same_moves.Statement.{statement}
 use Rattle.moves_forth.proofs.same_moves.Tie as tie
 
-returns : tie.Need-returns
+returns : tie.Need-returns-then-freer
 returns c =
     λ e. record {
-      before = c.before.before.before.before.before.if1.true;
-      freer = c.before.before.freer.ensures c.before.if2.true;
-      no_freer = c.freer2.ensures e;
+      before = c.if-k-i.true;
+      freer = c.freer.ensures c.if-freer.true;
+      no_freer = c.freer-then-freer.ensures e;
     }
 
-pub same-moves-spec : {M : Type 1} → statement M
-same-moves-spec =
+pub same_moves_spec : {M : Type 1} → statement M
+same_moves_spec =
     tie.close
     (tie.spec
     (λ c. search rules)

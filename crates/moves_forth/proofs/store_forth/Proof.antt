@@ -3,13 +3,13 @@ use borrow.Author.Rules.{rules}
 use Rattle.moves_forth.proofs.store_forth.Statement.{statement}
 use Rattle.moves_forth.proofs.store_forth.Tie as tie
 
-returns : tie.Need-returns
+returns : tie.Need-returns-then-store_rows
 returns c =
-    let E = c.before.before.before.before.before.store-rows.ensures in
-    (λ e. E.0 c.if1.true, E.1, E.2)
+    let E = c.store_rows.ensures in
+    (λ e. E.0 c.if-store_rows.true, E.1, E.2)
 
-pub store-forth-spec : {M : Type 1} → statement M
-store-forth-spec =
+pub store_forth_spec : {M : Type 1} → statement M
+store_forth_spec =
     tie.close
     (tie.spec
     (λ c κs. search rules)

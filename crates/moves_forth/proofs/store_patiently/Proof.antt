@@ -9,29 +9,29 @@ use Rattle.moves_forth.proofs.store_patiently.Statement.{statement}
 use Rattle.moves_forth.proofs.store_patiently.Tie as tie
 
 -- The room for places is as long as before, once the classes are counted.
-long-places : (c : tie.After-number) → length c.number.new.1.1.1.1.0 ≡ moves_size
+long-places : (c : tie.After-number-met) → length c.number-met.new.places ≡ moves_size
 long-places c =
-    let at_clear = c.before.before.before.before in
-    c.number.ensures.1 ∙ at_clear.clear.ensures ∙ at_clear.before.before.before.before.before.before.requires.2
+    let at_clear = c in
+    c.number-met.ensures.1 ∙ at_clear.clear.ensures ∙ at_clear.requires.2
 
 -- places by name, each from one after it
-abbrev at-start : tie.After-number → tie.Start
+abbrev at-start : tie.After-number-met → tie.Start
 at-start c = c.before.before.before.before.before.before.before.before.before.before
 
-returns : tie.Need-returns
+returns : tie.Need-returns-then-met-few
 returns c =
     let at-number = c.before.before.before in
     let pre = (at-start at-number).requires in
     (λ e. absurd (true≢false (sym e)), pre.1, long-places at-number)
 
-store-rows-requires : tie.Need-store-rows-requires
+store-rows-requires : tie.Need-store_rows-requires
 store-rows-requires c κs =
     let at-number = c.before.before.before.before.before in
     let pre = (at-start at-number).requires in
     (pre.0, div-le_self _ _, pre.1, long-places at-number)
 
-pub store-patiently-spec : {M : Type 1} → statement M
-store-patiently-spec =
+pub store_patiently_spec : {M : Type 1} → statement M
+store_patiently_spec =
     tie.close
     (tie.spec
     (λ c κs. search rules)

@@ -10,8 +10,8 @@ returns c =
     let entry = c.before.before.before.before.before.before in
     c.big_endian.ensures ∙ four_bytes entry.args.bytes.now entry.args.at entry.requires
 
-pub four-bytes-spec : {M : Type 1} → statement M
-four-bytes-spec =
+pub four_bytes_spec : {M : Type 1} → statement M
+four_bytes_spec =
     tie.close
     (tie.spec
     (λ c. search rules)

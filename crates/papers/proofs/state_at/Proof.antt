@@ -6,23 +6,23 @@ use Rattle.papers.proofs.Numbers.{states-length, state-in-bytes, state-after}
 use Rattle.papers.proofs.state_at.Statement.{statement}
 use Rattle.papers.proofs.state_at.Tie as tie
 
-returns : tie.Need-returns
+returns : tie.Need-returns-then-i-whole
 returns c =
-    let a = c.before.before.before.before.args in
+    let a = c.args in
     c.four_bytes.ensures ∙ sym (state-in-bytes a.bytes.now a.numbers.now a.i (omega arith))
 
-returns-2 : tie.Need-returns-2
+returns-2 : tie.Need-returns-else-i-whole
 returns-2 c =
-    let a = c.before.before.before.before.args in
+    let a = c.args in
     sym (state-after a.bytes.now a.numbers.now a.i (omega arith))
 
-pub state-at-spec : {M : Type 1} → statement M
-state-at-spec =
+pub state_at_spec : {M : Type 1} → statement M
+state_at_spec =
     tie.close
     (tie.spec
     (λ c. search rules)
     (λ c κs. search rules)
-    (λ c. let a = c.before.before.before.args in omega (arith, states-length a.bytes.now a.numbers.now))
-    (λ c. let a = c.before.before.before.before.args in omega (arith, states-length a.bytes.now a.numbers.now))
+    (λ c. let a = c.args in omega (arith, states-length a.bytes.now a.numbers.now))
+    (λ c. let a = c.args in omega (arith, states-length a.bytes.now a.numbers.now))
     returns
     returns-2)

@@ -5,8 +5,8 @@ use Rattle.papers.proofs.Numbers.{states-length}
 use Rattle.papers.proofs.states_in.Statement.{statement}
 use Rattle.papers.proofs.states_in.Tie as tie
 
-pub states-in-spec : {M : Type 1} → statement M
-states-in-spec =
+pub states_in_spec : {M : Type 1} → statement M
+states_in_spec =
     tie.close
     (tie.spec
     (λ c. search rules)

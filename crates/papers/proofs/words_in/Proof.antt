@@ -5,8 +5,8 @@ use Rattle.papers.proofs.Numbers.{words-length}
 use Rattle.papers.proofs.words_in.Statement.{statement}
 use Rattle.papers.proofs.words_in.Tie as tie
 
-pub words-in-spec : {M : Type 1} → statement M
-words-in-spec =
+pub words_in_spec : {M : Type 1} → statement M
+words_in_spec =
     tie.close
     (tie.spec
     (λ c. search rules)

@@ -6,7 +6,7 @@ use Rattle.reader.proofs.naxxurbi_read.Tie as tie
 
 returns : tie.Need-returns
 unfolding ReadPlaced
-returns c = c.verdict-on.ensures.number
+returns c = c.verdict_on-v.ensures.number
 
-pub naxxurbi-read-spec : {M : Type 1} → statement M
-naxxurbi-read-spec = tie.close (tie.spec (λ c κs. search rules) returns)
+pub naxxurbi_read_spec : {M : Type 1} → statement M
+naxxurbi_read_spec = tie.close (tie.spec (λ c κs. search rules) returns)

@@ -8,29 +8,28 @@ use Rattle.reader.proofs.Good.{reads-good, Faulty, reads-faulty}
 use Rattle.reader.proofs.read_in_numbers.Statement.{statement}
 use Rattle.reader.proofs.read_in_numbers.Tie as tie
 
--- the reader's fault
-bad : (c : tie.After-f) → Faulty c.before.before.before.before.args.sheet.now c.f.given.0.0
-bad c = reads-faulty _ c.before.before.read.ensures c.f.given.1
+-- the reader's fault, before its number is asked and after
+bad : (c : tie.In-Bad-2) → Faulty c.args.sheet.now c.f-1.given.0.0
+bad c = reads-faulty _ c.read.ensures c.f-1.given.1
 
-returns : tie.Need-returns
+returns : tie.Need-returns-in-Good
 returns c =
-    let read = c.before.before in
-    reads-good read.before.before.args.sheet.now read.read.ensures c.enum_told.given.1
+    let read = c.before in
+    reads-good read.args.sheet.now read.read.ensures c.in-Good.is
 
-returns-2 : tie.Need-returns-2
+returns-2 : tie.Need-returns-in-Bad
 returns-2 c =
-    let numbered = c.before in
-    let fault = numbered.before.before in
-    ap (λ (n : ℕ). Refused (record { answer = n; place = fault.f.given.0.0.at })) numbered.number.ensures ∙ (bad fault).reads
+    ap (λ (n : ℕ). Refused (record { answer = n; place = c.in-Bad.f.at })) c.number-answer.ensures
+    ∙ (reads-faulty _ c.read.ensures c.in-Bad.is).reads
 
-pub read-in-numbers-spec : {M : Type 1} → statement M
-read-in-numbers-spec =
+pub read_in_numbers_spec : {M : Type 1} → statement M
+read_in_numbers_spec =
     tie.close
     (tie.spec
     (λ c κs. search rules)
     (λ c. search rules)
     (λ c. search rules)
     (λ c κs. search rules)
-    (λ c. omega (arith, (bad c.before.before.before).small))
+    (λ c. omega (arith, (reads-faulty _ c.read.ensures c.in-Bad.is).small))
     returns
     returns-2)

@@ -4,16 +4,16 @@ use Rattle.reader.proofs.Good.{told, placed-good, placed-refused}
 use Rattle.reader.proofs.verdict_on.Statement.{statement}
 use Rattle.reader.proofs.verdict_on.Tie as tie
 
-returns : tie.Need-returns
+returns : tie.Need-returns-in-Good
 returns c =
-    let read = c.before.before in
-    placed-good _ (told read.before.before.args.sheet.now read.read-in-numbers.ensures c.enum_told.given.1)
+    let read = c.before in
+    placed-good _ (told read.args.sheet.now read.read_in_numbers.ensures c.in-Good.is)
 
-returns-2 : tie.Need-returns-2
+returns-2 : tie.Need-returns-in-Refused
 returns-2 c =
-    let read = c.before.before.before in
-    placed-refused _ (told read.before.before.args.sheet.now read.read-in-numbers.ensures c.before.v.given.1)
+    let read = c.before in
+    placed-refused _ (told read.args.sheet.now read.read_in_numbers.ensures c.in-Refused.is)
 
-pub verdict-on-spec : {M : Type 1} → statement M
-verdict-on-spec =
+pub verdict_on_spec : {M : Type 1} → statement M
+verdict_on_spec =
     tie.close (tie.spec (λ c κs. search rules) (λ c. search rules) (λ c. search rules) returns returns-2)

@@ -13,17 +13,17 @@ returns : tie.Need-returns
 unfolding stated_in byte letters_in
 returns c = refl
 
-pub read-header-spec : {M : Type 1} → statement M
-read-header-spec =
+pub read_header_spec : {M : Type 1} → statement M
+read_header_spec =
     tie.close
     (tie.spec
     (λ c. search rules)
-    (λ c. omega (arith, c.shared-slice-known.given length_byte))
+    (λ c. omega (arith, c.shared_slice_known-1.given length_byte))
     (λ c. search rules)
-    (λ c. omega (arith, c.shared-slice-known2.given (suc length_byte)))
+    (λ c. omega (arith, c.shared_slice_known-2-1.given (suc length_byte)))
     (λ c. search rules)
-    (λ c. omega (arith, c.shared-slice-known3.given length_byte))
-    (λ c. omega (arith, c.shared-slice-known3.given length_byte, c.shared-slice-known3.given (suc length_byte)))
+    (λ c. omega (arith, c.shared_slice_known-3-1.given length_byte))
+    (λ c. omega (arith, c.shared_slice_known-3-1.given length_byte, c.shared_slice_known-3-1.given (suc length_byte)))
     (λ c. search rules)
     (λ c. search rules)
     (λ c. search rules)

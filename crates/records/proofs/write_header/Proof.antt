@@ -6,10 +6,10 @@ use Rattle.records.proofs.write_header.Tie as tie
 
 returns : tie.Need-returns
 unfolding header
-returns c = c.before.before.write.ensures
+returns c = c.write.ensures
 
-pub write-header-spec : {M : Type 1} → statement M
-write-header-spec =
+pub write_header_spec : {M : Type 1} → statement M
+write_header_spec =
     tie.close
     (tie.spec
     (λ c. search rules)

@@ -7,10 +7,10 @@ use Rattle.records.proofs.write_record.Tie as tie
 returns : tie.Need-returns
 returns c =
     let own = c.before.before in
-    record-written own.before.before.before.before.write.ensures own.write2.ensures
+    record-written own.write.ensures own.write-2.ensures
 
-pub write-record-spec : {M : Type 1} → statement M
-write-record-spec =
+pub write_record_spec : {M : Type 1} → statement M
+write_record_spec =
     tie.close
     (tie.spec
     (λ c. search rules)

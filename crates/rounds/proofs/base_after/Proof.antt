@@ -5,10 +5,10 @@ use native.Mathlib.Omega.{arith}
 use Rattle.rounds.proofs.base_after.Statement.{statement}
 use Rattle.rounds.proofs.base_after.Tie as tie
 
-pub base-after-spec : {M : Type 1} → statement M
-base-after-spec =
+pub base_after_spec : {M : Type 1} → statement M
+base_after_spec =
     tie.close
     (tie.spec
-    (λ c. inl (c.if1.true, refl))
+    (λ c. inl (c.if-reason-p.true, refl))
     (λ c. omega arith)
     (λ c. inr (omega arith, refl)))

@@ -5,9 +5,9 @@ use native.Mathlib.Omega.{arith}
 use Rattle.rounds_along.proofs.news_from.Statement.{statement}
 use Rattle.rounds_along.proofs.news_from.Tie as tie
 
-pub news-from-spec : {M : Type 1} → statement M
-news-from-spec =
+pub news_from_spec : {M : Type 1} → statement M
+news_from_spec =
     tie.close
     (tie.spec
-    (λ c. inl (c.if1.true, refl))
+    (λ c. inl (c.if-reason-eq0.true, refl))
     (λ c. inr (omega arith, refl)))

@@ -10,38 +10,38 @@ use Rattle.rounds_along.proofs.phase.Statement.{statement}
 use Rattle.rounds_along.proofs.phase.Tie as tie
 
 -- places by name, each from one after it
-abbrev at-slice-known4 : tie.After-phase-arg7 → tie.After-slice-known4
+abbrev at-slice-known4 : tie.After-phase-arg-5-1 → tie.After-slice_known-4-1
 at-slice-known4 c = c.before.before.before.before.before
 
-abbrev at-start : tie.After-slice-known4 → tie.Start
+abbrev at-start : tie.After-slice_known-4-1 → tie.Start
 at-start c = c.before.before.before.before.before.before
 
-slice-aggregate-phase : tie.Need-slice-aggregate-phase
+slice-aggregate-phase : tie.Need-slice_bounds-phase-end-then-reason-eq0
 slice-aggregate-phase c =
     let entry = at-start c.before.before.before in
-    sym (length-take-le entry.args.r entry.args.wit.now (front-inside entry.args.turn.reason _ _ entry.pre.lent.room))
+    sym (length-take-le entry.args.r entry.args.wit.now (front-inside entry.args.turn.reason _ _ entry.requires.lent.room))
 
-returns : tie.Need-returns
+returns : tie.Need-returns-then-reason-eq0
 returns c =
-    let at-phase = c.before.before.before.before.before.before in
-    let test = at-phase.before.before.before.before in
-    let entry = at-start test.before in
-    (first-turned entry.pre.lent.room _ test.if1.true at-phase.phase.ensures.long at-phase.phase.ensures, refl)
+    let at-phase = c in
+    let test = at-phase in
+    let entry = at-start test.before.before.before.before.before.before.before.before.before.before.before in
+    (first-turned entry.requires.lent.room _ test.if-reason-eq0.true at-phase.phase.ensures.long at-phase.phase.ensures, refl)
 
-returns-2 : tie.Need-returns-2
+returns-2 : tie.Need-returns
 returns-2 c =
     let at-phase = c.before.before.before.before.before.before.before.before in
     let entry = at-start (at-slice-known4 at-phase.before) in
-    (promise-turned entry.pre.lent.room _ (omega arith) at-phase.phase2.ensures.0, at-phase.phase2.ensures.1)
+    (promise-turned entry.requires.lent.room _ (omega arith) at-phase.phase-2.ensures.0, at-phase.phase-2.ensures.1)
 
-pub phase-spec : {M : Type 1} → statement M
-phase-spec =
+pub phase_spec : {M : Type 1} → statement M
+phase_spec =
     tie.close
     (tie.spec
     (λ c. search rules)
     slice-aggregate-phase
     (λ c κs. turn-endable (at-start c.before.before.before.before).requires
-    c.before.before.before.if1.true)
+    c.if-reason-eq0.true)
     (λ c. search rules)
     (λ c. search rules)
     (λ c. search rules)

@@ -10,35 +10,35 @@ use Rattle.rounds_tests.proofs.phase.Statement.{statement}
 use Rattle.rounds_tests.proofs.phase.Tie as tie
 
 -- places by name, each from one after it
-abbrev at-slice-known4 : tie.After-phase-arg4 → tie.After-slice-known4
+abbrev at-slice-known4 : tie.After-phase-arg-4-1 → tie.After-slice_known-4-1
 at-slice-known4 c = c.before.before.before.before.before
 
-abbrev at-start : tie.After-slice-known4 → tie.Start
+abbrev at-start : tie.After-slice_known-4-1 → tie.Start
 at-start c = c.before.before.before.before.before.before.before
 
-slice-aggregate-dead-ends : tie.Need-slice-aggregate-dead-ends
+slice-aggregate-dead-ends : tie.Need-slice_bounds-dead_ends-end-then-reason-eq0
 slice-aggregate-dead-ends c =
     let entry = at-start c.before.before.before in
-    sym (length-take-le entry.args.r entry.args.wit.now (front-inside entry.args.turn.reason _ _ entry.pre.lent.room))
+    sym (length-take-le entry.args.r entry.args.wit.now (front-inside entry.args.turn.reason _ _ entry.requires.lent.room))
 
-returns : tie.Need-returns
+returns : tie.Need-returns-then-reason-eq0
 returns c =
-    let at-dead-ends = c.before.before.before.before.before.before in
-    let test = at-dead-ends.before.before.before.before in
-    let entry = at-start test.before in (
-      first-turned entry.pre.lent.room _ test.if1.true at-dead-ends.dead-ends.ensures.row-long
-          at-dead-ends.dead-ends.ensures,
+    let at-dead-ends = c in
+    let test = at-dead-ends in
+    let entry = at-start test.before.before.before.before.before.before.before.before.before.before.before in (
+      first-turned entry.requires.lent.room _ test.if-reason-eq0.true at-dead-ends.dead_ends.ensures.row-long
+          at-dead-ends.dead_ends.ensures,
       refl,
     )
 
-returns-2 : tie.Need-returns-2
+returns-2 : tie.Need-returns
 returns-2 c =
     let at-phase = c.before.before.before.before.before.before.before.before in
     let entry = at-start (at-slice-known4 at-phase.before) in
-    (promise-turned entry.pre.lent.room _ (omega arith) at-phase.phase.ensures.0, at-phase.phase.ensures.1)
+    (promise-turned entry.requires.lent.room _ (omega arith) at-phase.phase.ensures.0, at-phase.phase.ensures.1)
 
-pub phase-spec : {M : Type 1} → statement M
-phase-spec =
+pub phase_spec : {M : Type 1} → statement M
+phase_spec =
     tie.close
     (tie.spec
     (λ c. search rules)

@@ -4,11 +4,11 @@ use Rattle.rules_classes.proofs.Slots.{slot-inside}
 use Rattle.rules_classes.proofs.found.Statement.{statement}
 use Rattle.rules_classes.proofs.found.Tie as tie
 
-slot-of-requires : tie.Need-slot-of-requires
-slot-of-requires c κs = let pre = c.before.before.before.before.before.before.requires in (pre.2, slot-inside _ _ pre.1)
+slot-of-requires : tie.Need-slot_of-slot-requires
+slot-of-requires c κs = let pre = c.requires in (pre.2, slot-inside _ _ pre.1)
 
-pub found-spec : {M : Type 1} → statement M
-found-spec =
+pub found_spec : {M : Type 1} → statement M
+found_spec =
     tie.close
     (tie.spec
     (λ c κs. search rules)

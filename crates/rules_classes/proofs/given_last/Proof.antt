@@ -5,13 +5,13 @@ use borrow.Author.Rules.{rules}
 use Rattle.rules_classes.proofs.given_last.Statement.{statement}
 use Rattle.rules_classes.proofs.given_last.Tie as tie
 
-cast-result : tie.Need-overflow-cast-result
+cast-result : tie.Need-overflow_cast-result
 cast-result c =
-    let slot = c.before.before.before.args.slot in
-    omega (arith, c.shared-slice-known2.given (slot + slot))
+    let slot = c.args.slot in
+    omega (arith, c.shared_slice_known-then-places-next-1.given (slot + slot))
 
-pub given-last-spec : {M : Type 1} → statement M
-given-last-spec =
+pub given_last_spec : {M : Type 1} → statement M
+given_last_spec =
     tie.close
     (tie.spec
     (λ c. search rules)

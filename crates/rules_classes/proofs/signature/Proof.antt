@@ -5,28 +5,28 @@ use native.Mathlib.Omega.{arith}
 use Rattle.rules_classes.proofs.signature.Statement.{statement}
 use Rattle.rules_classes.proofs.signature.Tie as tie
 
-abbrev invariant-loop : tie.invariant-loop
-invariant-loop book s steps sign₀ i₀ sign i = sign < 2147483647
+abbrev invariant-loop-i : tie.invariant-loop-i
+invariant-loop-i book s steps sign₀ i₀ sign i = sign < 2147483647
 
-abbrev decreases-loop : tie.decreases-loop
-decreases-loop book s steps sign₀ i₀ sign i = steps - i
+abbrev decreases-loop-i : tie.decreases-loop-i
+decreases-loop-i book s steps sign₀ i₀ sign i = steps - i
 
-pub signature-spec : {M : Type 1} → statement M
-signature-spec =
+pub signature_spec : {M : Type 1} → statement M
+signature_spec =
     tie.close
     (tie.spec
-    invariant-loop
-    decreases-loop
-    (λ c κs. c.before.requires)
+    invariant-loop-i
+    decreases-loop-i
+    (λ c κs. c.requires)
     (λ c. omega arith)
-    (λ c κs. (c.before.before.before.before.requires, omega arith))
-    (λ c. omega arith)
-    (λ c. omega arith)
+    (λ c κs. (c.requires, omega arith))
     (λ c. omega arith)
     (λ c. omega arith)
     (λ c. omega arith)
     (λ c. omega arith)
     (λ c. omega arith)
     (λ c. omega arith)
-    (λ c. c.before.before.before.loop.invariant)
+    (λ c. omega arith)
+    (λ c. omega arith)
+    (λ c. c.loop-i.invariant)
     (λ c. tt))

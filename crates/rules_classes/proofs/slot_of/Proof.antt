@@ -6,32 +6,32 @@ use Rattle.rules_classes.proofs.Slots.{slot-inside}
 use Rattle.rules_classes.proofs.slot_of.Statement.{statement}
 use Rattle.rules_classes.proofs.slot_of.Tie as tie
 
-abbrev invariant-loop : tie.invariant-loop
-invariant-loop places home mark slots slot₀ left₀ slot left = slot + slot + 1 < length places
+abbrev invariant-loop-left : tie.invariant-loop-left
+invariant-loop-left places home mark slots slot₀ left₀ slot left = slot + slot + 1 < length places
 
-abbrev decreases-loop : tie.decreases-loop
-decreases-loop places home mark slots slot₀ left₀ slot left = left
+abbrev decreases-loop-left : tie.decreases-loop-left
+decreases-loop-left places home mark slots slot₀ left₀ slot left = left
 
 -- the entry, seen from the loop's body
-abbrev entry : tie.In-loop invariant-loop decreases-loop → tie.Start invariant-loop decreases-loop
+abbrev entry : tie.In-loop-left invariant-loop-left decreases-loop-left → tie.Start invariant-loop-left decreases-loop-left
 entry c = c.before.before
 
-pub slot-of-spec : {M : Type 1} → statement M
-slot-of-spec =
+pub slot_of_spec : {M : Type 1} → statement M
+slot_of_spec =
     tie.close
     (tie.spec
-    invariant-loop
-    decreases-loop
+    invariant-loop-left
+    decreases-loop-left
     (λ c. c.requires.1)
-    (λ c. omega (arith, c.before.loop.invariant, (entry c).requires.0))
-    (λ c. omega (arith, c.before.loop.invariant, (entry c).requires.0))
-    (λ c. omega (arith, c.before.loop.invariant, (entry c).requires.0))
-    (λ c. c.before.before.loop.invariant)
-    (λ c. c.before.before.before.loop.invariant)
-    (λ c. c.before.before.before.before.loop.invariant)
-    (λ c. omega (arith, c.before.before.before.before.loop.invariant, (entry c.before.before.before).pre.0))
-    (λ c. omega (arith, (entry c.before.before.before).pre.1))
+    (λ c. omega (arith, c.loop-left.invariant, (entry c).requires.0))
+    (λ c. omega (arith, c.loop-left.invariant, (entry c).requires.0))
+    (λ c. omega (arith, c.loop-left.invariant, (entry c).requires.0))
+    (λ c. c.loop-left.invariant)
+    (λ c. c.loop-left.invariant)
+    (λ c. c.loop-left.invariant)
+    (λ c. omega (arith, c.loop-left.invariant, (entry c.before.before.before).requires.0))
+    (λ c. omega (arith, (entry c.before.before.before).requires.1))
     (λ c. omega arith)
     (λ c. omega arith)
-    (λ c. slot-inside _ _ (omega (arith, (entry c.before.before.before).pre.1)))
-    (λ c. c.before.before.requires.1))
+    (λ c. slot-inside _ _ (omega (arith, (entry c.before.before.before).requires.1)))
+    (λ c. c.requires.1))

@@ -9,27 +9,27 @@ use Rattle.rules_signs.proofs.fill.Tie as tie
 abbrev start : tie.After-whole → tie.Start
 start c = c.before.before.before.before.before.before.before.before
 
-write-rows-requires : tie.Need-write-rows-requires
+write-rows-requires : tie.Need-write_rows-requires
 write-rows-requires c κs =
     let head = c.before.before in
     let s = start head in
-    let w = head.before.width.ensures in (
-      head.before.before.before.list-live.ensures.ruled,
-      s.pre.0.in_table,
-      s.pre.0.few,
+    let w = head.width-w.ensures in (
+      head.list_live-n.ensures.ruled,
+      s.requires.0.in_table,
+      s.requires.0.few,
       w.0,
-      omega (arith, w.1, head-long s.args.signs.now head.before.width.result head.whole.result),
+      omega (arith, w.1, head-long s.args.signs.now head.width-w.result head.whole.result),
     )
 
 returns : tie.Need-returns
 returns c =
-    let written = c.before.before in
-    let head = written.before.before.before in
+    let written = c in
+    let head = written.before.before.before.before.before in
     let s = start head in
-    let w = head.before.width.ensures in
-    filled s.pre.0 head.before.before.before.list-live.ensures head.before.width.result head.whole.result
+    let w = head.width-w.ensures in
+    filled s.requires.0 head.list_live-n.ensures head.width-w.result head.whole.result
     s.args.signs.now _
-    s.pre.1 head.whole.ensures w.0 w.1 written.write-rows.ensures.0 written.write-rows.ensures.1
+    s.requires.1 head.whole.ensures w.0 w.1 written.write_rows.ensures.0 written.write_rows.ensures.1
 
 pub fill_spec : {M : Type 1} → statement M
 fill_spec =

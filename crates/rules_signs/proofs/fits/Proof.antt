@@ -12,8 +12,8 @@ use Rattle.rules_signs.proofs.fits.Tie as tie
 small : (c : tie.Start) → c.args.r * (2 * c.args.w) ≤ 131072
 small c = rows-small c.args.r c.args.w c.requires.0 c.requires.1
 
-pub fits-spec : {M : Type 1} → statement M
-fits-spec =
+pub fits_spec : {M : Type 1} → statement M
+fits_spec =
     tie.close
     (tie.spec
     (λ c. search rules)

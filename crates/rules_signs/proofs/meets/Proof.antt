@@ -11,35 +11,35 @@ use Rattle.rules_signs.proofs.Rowing.{place-small, asked-place, unmet-place}
 use Rattle.rules_signs.proofs.meets.Statement.{statement}
 use Rattle.rules_signs.proofs.meets.Tie as tie
 
-abbrev start : tie.After-shared-slice-known4 → tie.Start
+abbrev start : tie.After-shared_slice_known-4-1 → tie.Start
 start c = c.before.before.before.before
 
 -- where the rows begin
-asked : (c : tie.After-shared-slice-known4) → (start c).args.i * (2 * get_or (start c).args.signs.now 0 0) ≤ 131072
+asked : (c : tie.After-shared_slice_known-4-1) → (start c).args.i * (2 * get_or (start c).args.signs.now 0 0) ≤ 131072
 asked c = place-small (start c).requires.0.roomed (start c).args.i (start c).requires.1
 
-unmet : (c : tie.After-shared-slice-known4) → (start c).args.j * (2 * get_or (start c).args.signs.now 0 0) ≤ 131072
+unmet : (c : tie.After-shared_slice_known-4-1) → (start c).args.j * (2 * get_or (start c).args.signs.now 0 0) ≤ 131072
 unmet c = place-small (start c).requires.0.roomed (start c).args.j (start c).requires.2
 
 apart-requires : tie.Need-apart-requires
 apart-requires c κs =
-    let s = start c in (asked-place s.pre.0.roomed _ (search rules), unmet-place s.pre.0.roomed _ (search rules))
+    let s = start c in (asked-place s.requires.0.roomed _ (search rules), unmet-place s.requires.0.roomed _ (search rules))
 
-returns : tie.Need-returns
+returns : tie.Need-returns-then-not-apart
 returns c =
     let s = start c.before.before in
-    says-no (λ move. c.before.apart.ensures.never (not-true _ c.if1.true) (s.pre.0.free s.args.i s.args.j s.pre.1
-    s.pre.2 move))
+    says-no (λ move. c.apart.ensures.never (not-true _ c.if-not-apart.true-raw) (s.requires.0.free s.args.i s.args.j s.requires.1
+    s.requires.2 move))
 
-returns-2 : tie.Need-returns-2
+returns-2 : tie.Need-returns-then-signs-eq1
 returns-2 c =
     let no-bit = c.before.before in
     let s = start no-bit.before.before in
-    let free = no-bit.before.apart.ensures.yes (not-false _ no-bit.if1.false) in
-    says-yes (s.pre.0.moves c.if2.true s.args.i s.args.j s.pre.1 s.pre.2 free)
+    let free = no-bit.apart.ensures.yes (not-false _ no-bit.if-not-apart.false-raw) in
+    says-yes (s.requires.0.moves c.if-signs-eq1.true s.args.i s.args.j s.requires.1 s.requires.2 free)
 
-pub meets-spec : {M : Type 1} → statement M
-meets-spec =
+pub meets_spec : {M : Type 1} → statement M
+meets_spec =
     tie.close
     (tie.spec
     (λ c. search rules)

@@ -4,8 +4,8 @@ use Rattle.runcheck.proofs.Answers.{run-placed}
 use Rattle.runcheck.proofs.check_run.Statement.{statement}
 use Rattle.runcheck.proofs.check_run.Tie as tie
 
-pub check-run-spec : {M : Type 1} → statement M
-check-run-spec =
+pub check_run_spec : {M : Type 1} → statement M
+check_run_spec =
     tie.close
     (tie.spec
     (λ c. search rules)

@@ -10,40 +10,40 @@ use Rattle.runcheck.proofs.Running.{Missed, missed-begins, missed_more, missed-a
 use Rattle.runcheck.proofs.keeps.Statement.{statement}
 use Rattle.runcheck.proofs.keeps.Tie as tie
 
-abbrev invariant-loop : tie.invariant-loop
-invariant-loop book bytes numbers a k count i₀ i = Missed (book_system book) (states_of bytes numbers) a k count i
+abbrev invariant-loop-i : tie.invariant-loop-i
+invariant-loop-i book bytes numbers a k count i₀ i = Missed (book_system book) (states_of bytes numbers) a k count i
 
-abbrev decreases-loop : tie.decreases-loop
-decreases-loop book bytes numbers a k count i₀ i = count - i
+abbrev decreases-loop-i : tie.decreases-loop-i
+decreases-loop-i book bytes numbers a k count i₀ i = count - i
 
-returns : tie.Need-returns invariant-loop decreases-loop
+returns : tie.Need-returns-then-kept invariant-loop-i decreases-loop-i
 returns c =
-    let i = c.before.before.before.before.loop.i in
+    let i = c.loop-i.i in
     says-yes (
       i,
       omega arith,
-      omega (arith, c.before.before.before.before.loop.invariant.counted),
-      (kept-says _ _ c.before.before.state-at.ensures
-          c.before.kept.ensures).yes c.if1.true,
+      omega (arith, c.loop-i.invariant.counted),
+      (kept-says _ _ c.state_at-s.ensures
+          c.kept.ensures).yes c.if-kept.true,
     )
 
-loop-again : tie.Need-loop-preserved invariant-loop decreases-loop
+loop-again : tie.Need-loop-i-preserved invariant-loop-i decreases-loop-i
 loop-again c =
-    missed_more c.before.before.before.before.loop.invariant c.before.before.before.loop-test.true
-    ((kept-says _ _ c.before.before.state-at.ensures c.before.kept.ensures).never c.if1.false)
+    missed_more c.loop-i.invariant c.loop-i-test.true
+    ((kept-says _ _ c.state_at-s.ensures c.kept.ensures).never c.if-kept.false)
 
 pub keeps_spec : {M : Type 1} → statement M
 keeps_spec =
     tie.close
     (tie.spec
-    invariant-loop
-    decreases-loop
+    invariant-loop-i
+    decreases-loop-i
     (λ c κs. search rules)
-    (λ c. missed-begins c.states-in.ensures c.before.before.before.before.requires.1)
-    (λ c κs. omega (arith, c.before.loop.invariant.counted))
-    (λ c κs. c.before.before.before.before.before.before.before.requires.0)
+    (λ c. missed-begins c.states_in-count.ensures c.requires.1)
+    (λ c κs. omega (arith, c.loop-i.invariant.counted))
+    (λ c κs. c.requires.0)
     returns
     (λ c. omega arith)
     (λ c. omega arith)
     loop-again
-    (λ c. says-no (missed-all c.before.loop.invariant c.loop-test.false)))
+    (λ c. says-no (missed-all c.loop-i.invariant c.loop-i-test.false)))

@@ -8,30 +8,30 @@ use Rattle.runcheck.specs.Run.{KeptFrom}
 use Rattle.runcheck.proofs.keeps_all.Statement.{statement}
 use Rattle.runcheck.proofs.keeps_all.Tie as tie
 
-abbrev invariant-loop : tie.invariant-loop
-invariant-loop book bytes numbers a promises k₀ k = Passed (KeptFrom (book_system book) (states_of bytes numbers) a) (book_system book).promises
+abbrev invariant-loop-k : tie.invariant-loop-k
+invariant-loop-k book bytes numbers a promises k₀ k = Passed (KeptFrom (book_system book) (states_of bytes numbers) a) (book_system book).promises
     promises k
 
-abbrev decreases-loop : tie.decreases-loop
-decreases-loop book bytes numbers a promises k₀ k = promises - k
+abbrev decreases-loop-k : tie.decreases-loop-k
+decreases-loop-k book bytes numbers a promises k₀ k = promises - k
 
-loop-holds : tie.Need-loop-init invariant-loop decreases-loop
+loop-holds : tie.Need-loop-k-init invariant-loop-k decreases-loop-k
 unfolding book_system
-loop-holds c = passed_none c.promises.ensures
+loop-holds c = passed_none c.promises-promises.ensures
 
-pub keeps-all-spec : {M : Type 1} → statement M
-keeps-all-spec =
+pub keeps_all_spec : {M : Type 1} → statement M
+keeps_all_spec =
     tie.close
     (tie.spec
-    invariant-loop
-    decreases-loop
-    (λ c κs. c.before.before.before.requires.0)
+    invariant-loop-k
+    decreases-loop-k
+    (λ c κs. c.requires.0)
     loop-holds
-    (λ c κs. c.before.before.before.before.before.before.requires)
-    (λ c. turn-fails c.before.before.before.loop.invariant c.before.before.loop-test.true c.before.keeps.ensures
-    c.if1.true)
+    (λ c κs. c.requires)
+    (λ c. turn-fails c.loop-k.invariant c.loop-k-test.true c.keeps.ensures
+    c.if-not-keeps.true-raw)
     (λ c. omega arith)
     (λ c. omega arith)
-    (λ c. turn-passes c.before.before.before.loop.invariant c.before.before.loop-test.true c.before.keeps.ensures
-    c.if1.false)
-    (λ c. all-passed c.before.loop.invariant c.loop-test.false))
+    (λ c. turn-passes c.loop-k.invariant c.loop-k-test.true c.keeps.ensures
+    c.if-not-keeps.false-raw)
+    (λ c. all-passed c.loop-k.invariant c.loop-k-test.false))

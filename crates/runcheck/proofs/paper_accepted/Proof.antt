@@ -5,17 +5,17 @@ use Rattle.runcheck.proofs.Answers.{odd-bytes, by-the-run}
 use Rattle.runcheck.proofs.paper_accepted.Statement.{statement}
 use Rattle.runcheck.proofs.paper_accepted.Tie as tie
 
-returns-2 : tie.Need-returns-2
+returns-2 : tie.Need-returns
 returns-2 c =
-    let compiled = c.before.before.before in
-    let test = compiled.before.before in
-    by-the-run _ _ _ _ test.if1.false compiled.compile.ensures c.accepted.ensures
+    let compiled = c in
+    let test = compiled in
+    by-the-run _ _ _ _ test.if-bytes-ne0.false compiled.compile.ensures c.accepted.ensures
 
-pub paper-accepted-spec : {M : Type 1} → statement M
-paper-accepted-spec =
+pub paper_accepted_spec : {M : Type 1} → statement M
+paper_accepted_spec =
     tie.close
     (tie.spec
-    (λ c. odd-bytes _ _ _ _ c.if1.true)
+    (λ c. odd-bytes _ _ _ _ c.if-bytes-ne0.true)
     (λ c. search rules)
     (λ c κs. search rules)
     (λ c. search rules)

@@ -8,25 +8,25 @@ use Rattle.sample.proofs.steer.Statement.{statement}
 use Rattle.sample.proofs.steer.Tie as tie
 
 -- places by name, each from one after it
-abbrev at-walk-stored : tie.After-slice-known6 → tie.After-walk-stored
+abbrev at-walk-stored : tie.After-slice_known-4-1 → tie.After-walk_stored
 at-walk-stored c = c.before.before.before.before
 
 -- the run was walked along stored moves
-returns-2 : tie.Need-returns-2
+returns-2 : tie.Need-returns-in-Along
 returns-2 c =
-    let at = c.before in
-    subst (WalkedAlong _ _ _ _ _) at.steps.given.1 (at-walk-stored at.before.before).walk-stored.ensures
+    let at = c in
+    subst (WalkedAlong _ _ _ _ _) at.in-Along.is (at-walk-stored at.before).walk_stored.ensures
 
 -- they had no room, and nothing was touched
-returns-3 : tie.Need-returns-3
+returns-3 : tie.Need-returns-in-NotStored
 returns-3 c =
-    let walked = c.before.before.before.before in
-    let told = walked.before.before.before in
-    let at = at-walk-stored told.before.before in
-    walked-after (subst (WalkedAlong _ _ _ _ _) told.enum_told.given.1 at.walk-stored.ensures) walked.walk-unstored.ensures
+    let walked = c in
+    let told = walked in
+    let at = at-walk-stored told.before.before.before.before.before.before.before.before in
+    walked-after (subst (WalkedAlong _ _ _ _ _) told.in-NotStored.is at.walk_stored.ensures) walked.walk_unstored.ensures
 
-pub steer-spec : {M : Type 1} → statement M
-steer-spec =
+pub steer_spec : {M : Type 1} → statement M
+steer_spec =
     tie.close
     (tie.spec
     (λ c κs. search rules)

@@ -5,13 +5,13 @@ use Rattle.sample.proofs.Ways.{tests-ready}
 use Rattle.sample.proofs.steer_signed.Statement.{statement}
 use Rattle.sample.proofs.steer_signed.Tie as tie
 
-walk-by-tests-requires : tie.Need-walk-by-tests-requires
+walk-by-tests-requires : tie.Need-walk_by_tests-requires
 walk-by-tests-requires c κs =
-    let pre = c.before.before.before.before.before.before.before.before.before.requires in
+    let pre = c.requires in
     tests-ready tiny_states pre.0 pre.1 pre.2
 
-pub steer-signed-spec : {M : Type 1} → statement M
-steer-signed-spec =
+pub steer_signed_spec : {M : Type 1} → statement M
+steer_signed_spec =
     tie.close
     (tie.spec
     (λ c. search rules)

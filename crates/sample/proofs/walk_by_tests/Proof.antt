@@ -7,12 +7,12 @@ use Rattle.sample.proofs.walk_by_tests.Tie as tie
 
 walk-requires : tie.Need-walk-requires
 walk-requires c κs =
-    let pre = c.before.before.before.before.before.before.before.before.before.before.before.before.requires in
+    let pre = c.requires in
     let ways = tested-ways _ _ refl pre.3 pre.2 in
     (pre.0, pre.1, ways.0, ways.1)
 
-pub walk-by-tests-spec : {M : Type 1} → statement M
-walk-by-tests-spec =
+pub walk_by_tests_spec : {M : Type 1} → statement M
+walk_by_tests_spec =
     tie.close
     (tie.spec
     (λ c. search rules)

@@ -8,17 +8,17 @@ use Rattle.sample.proofs.walk_many.Statement.{statement}
 use Rattle.sample.proofs.walk_many.Tie as tie
 
 -- places by name, each from one after it
-abbrev at-start : tie.After-signs → tie.Start
+abbrev at-start : tie.After-signs-1 → tie.Start
 at-start c = c.before.before.before.before.before
 
-walk-by-tests-requires : tie.Need-walk-by-tests-requires
+walk-by-tests-requires : tie.Need-walk_by_tests-requires
 walk-by-tests-requires c κs =
     let filled = c.before.before.before.before.before.before in
     let pre = (at-start filled.before).requires in
     tests-ready most_states pre filled.fill.ensures.0 pre.states.states.few
 
-pub walk-many-spec : {M : Type 1} → statement M
-walk-many-spec =
+pub walk_many_spec : {M : Type 1} → statement M
+walk_many_spec =
     tie.close
     (tie.spec
     (λ c. search rules)

@@ -12,26 +12,26 @@ use Rattle.sample.proofs.walk_stored.Statement.{statement}
 use Rattle.sample.proofs.walk_stored.Tie as tie
 
 -- the entry, from where the moves are stored
-abbrev start : tie.After-store → tie.Start
+abbrev start : tie.After-store-filled → tie.Start
 start c = c.before.before.before.before.before.before.before
 
-walk-requires : tie.Need-walk-requires
+walk-requires : tie.Need-walk-steps-requires
 walk-requires c κs =
-    let test = c.before.before.before.before.before.before.before in
-    let at = test.before.before.before in
+    let test = c in
+    let at = test.before.before.before.before.before.before.before.before.before.before in
     let pre = (start at).requires in
     let room = lent_rows pre.states most_states pre.states.states.few in
-    let ways = stored-ways _ _ at.store.ensures.0 test.if1.false room.1 in
+    let ways = stored-ways _ _ at.store-filled.ensures.0 test.if-filled-eq0.false room.1 in
     (pre, room.0, ways.0, ways.1)
 
-pub walk-stored-spec : {M : Type 1} → statement M
-walk-stored-spec =
+pub walk_stored_spec : {M : Type 1} → statement M
+walk_stored_spec =
     tie.close
     (tie.spec
     (λ c. search rules)
     (λ c. search rules)
     (λ c κs. (
-      table-storable c.before.before.before.before.before.before.requires.states,
+      table-storable c.requires.states,
       length-replicate {A = ℕ} moves_size 0,
       length-replicate {A = ℕ} moves_size 0,
     ))

@@ -9,32 +9,32 @@ use Rattle.rules.specs.Book.{book_first}
 use Rattle.sample_step.proofs.first_place.Statement.{statement}
 use Rattle.sample_step.proofs.first_place.Tie as tie
 
-abbrev invariant-loop : tie.invariant-loop
-invariant-loop book table r place₀ place = (place ≤ r) × ((y : ℕ) → y < place → book_first book (get_or table y 0) ≡ false)
+abbrev invariant-loop-place : tie.invariant-loop-place
+invariant-loop-place book table r place₀ place = (place ≤ r) × ((y : ℕ) → y < place → book_first book (get_or table y 0) ≡ false)
 
-abbrev decreases-loop : tie.decreases-loop
-decreases-loop book table r place₀ place = r - place
+abbrev decreases-loop-place : tie.decreases-loop-place
+decreases-loop-place book table r place₀ place = r - place
 
-pub first-place-spec : {M : Type 1} → statement M
-first-place-spec =
+pub first_place_spec : {M : Type 1} → statement M
+first_place_spec =
     tie.close
     (tie.spec
-    invariant-loop
-    decreases-loop
+    invariant-loop-place
+    decreases-loop-place
     (λ c. (omega arith, λ y h. absurd (omega arith)))
     (λ c. omega arith)
     (λ c. omega arith)
-    (λ c κs. c.before.before.before.before.before.requires.0)
+    (λ c κs. c.requires.0)
     (λ c. record {
       inside = omega arith;
-      earlier = c.before.before.before.before.loop.invariant.1;
-      here = λ h. sym c.before.first-state.ensures ∙ c.if1.true;
+      earlier = c.loop-place.invariant.1;
+      here = λ h. sym c.first_state.ensures ∙ c.if-first_state.true;
     })
     (λ c. omega arith)
     (λ c. omega arith)
     (λ c. (
       omega arith,
-      below_more _ _ c.before.before.before.before.loop.invariant.1 (sym c.before.first-state.ensures
-          ∙ c.if1.false),
+      below_more _ _ c.loop-place.invariant.1 (sym c.first_state.ensures
+          ∙ c.if-first_state.false),
     ))
-    (λ c. record { inside = omega arith; earlier = c.before.loop.invariant.1; here = λ h. absurd (omega arith) }))
+    (λ c. record { inside = omega arith; earlier = c.loop-place.invariant.1; here = λ h. absurd (omega arith) }))

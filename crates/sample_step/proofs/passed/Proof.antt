@@ -12,21 +12,21 @@ use Rattle.sample_step.proofs.passed.Tie as tie
 abbrev start : tie.After-kept → tie.Start
 start c = c.before.before.before.before
 
-pub passed-spec : {M : Type 1} → statement M
-passed-spec =
+pub passed_spec : {M : Type 1} → statement M
+passed_spec =
     tie.close
     (tie.spec
     (λ c κs. search rules)
-    (λ c. let a = c.before.before.before.args in passed_none (book_system a.book.now) a.aim a.s
+    (λ c. let a = c.args in passed_none (book_system a.book.now) a.aim a.s
     (omega (arith, promises-are a.book.now)))
     (λ c κs. search rules)
     (λ c. omega (arith, promises-are (start c.before).args.book.now))
     (λ c.
     let at = c.before.before in
-    passed_on _ _ _ (sym at.kept.ensures ∙ c.before.if2.true) (omega (arith, promises-are (start at).args.book.now)))
+    passed_on _ _ _ (sym at.kept.ensures ∙ c.if-kept.true) (omega (arith, promises-are (start at).args.book.now)))
     (λ c.
     let at = c.before.before in
-    passed-back _ _ _ (sym at.kept.ensures ∙ c.before.if2.true) (omega (arith, promises-are (start at).args.book.now)))
+    passed-back _ _ _ (sym at.kept.ensures ∙ c.if-kept.true) (omega (arith, promises-are (start at).args.book.now)))
     (λ c.
     let at = c.before in
-    passed-not _ _ _ (sym at.kept.ensures ∙ c.if2.false) (omega (arith, promises-are (start at).args.book.now)) (start at).requires.1))
+    passed-not _ _ _ (sym at.kept.ensures ∙ c.if-kept.false) (omega (arith, promises-are (start at).args.book.now)) (start at).requires.1))

@@ -11,59 +11,59 @@ use Rattle.sample_step.proofs.Distances.{RowsTo, one-more-row, row_room, rowed-o
 use Rattle.sample_step.proofs.promise_rows.Statement.{statement}
 use Rattle.sample_step.proofs.promise_rows.Tie as tie
 
-abbrev invariant-loop : tie.invariant-loop
-invariant-loop book table words dist₀ r p back queue₀ signs q₀ dist queue q =
+abbrev invariant-loop-q : tie.invariant-loop-q
+invariant-loop-q book table words dist₀ r p back queue₀ signs q₀ dist queue q =
     (q ≤ p) × (length dist ≡ length dist₀) × RowsTo (book_system book) table r q dist × (length queue ≡ length queue₀)
 
-abbrev decreases-loop : tie.decreases-loop
-decreases-loop book table words dist₀ r p back queue₀ signs q₀ dist queue q = p - q
+abbrev decreases-loop-q : tie.decreases-loop-q
+decreases-loop-q book table words dist₀ r p back queue₀ signs q₀ dist queue q = p - q
 
-abbrev start : tie.At-loop invariant-loop decreases-loop → tie.Start invariant-loop decreases-loop
+abbrev start : tie.At-loop-q invariant-loop-q decreases-loop-q → tie.Start invariant-loop-q decreases-loop-q
 start c = c.before.before.before.before.before.before.before.before
 
 -- within the loop's body: row q has room
-room : (c : tie.In-loop invariant-loop decreases-loop)
-    → c.before.loop.q * (start c.before).args.r + (start c.before).args.r ≤ (start c.before).args.p * (start c.before).args.r
-room c = row_room c.before.loop.q (start c.before).args.p (start c.before).args.r c.loop-test.true
+room : (c : tie.In-loop-q invariant-loop-q decreases-loop-q)
+    → c.loop-q.q * (start c.before).args.r + (start c.before).args.r ≤ (start c.before).args.p * (start c.before).args.r
+room c = row_room c.loop-q.q (start c.before).args.p (start c.before).args.r c.loop-q-test.true
 
-distances-requires : tie.Need-distances-requires invariant-loop decreases-loop
+distances-requires : tie.Need-distances-requires invariant-loop-q decreases-loop-q
 distances-requires c κs =
     let head = c.before.before.before in
     let pre = (start head).requires in (
-      rows-measurable pre.0 head.loop.q (omega arith),
+      rows-measurable pre.0 head.loop-q.q (omega arith),
       omega (arith, room c.before.before),
-      followable-queue _ _ _ _ _ _ _ pre.4 head.loop.invariant.3,
+      followable-queue _ _ _ _ _ _ _ pre.4 head.loop-q.invariant.3,
     )
 
-loop-again : tie.Need-loop-preserved invariant-loop decreases-loop
+loop-again : tie.Need-loop-q-preserved invariant-loop-q decreases-loop-q
 loop-again c =
-    let at = c.before.before.before.before in
-    let head = at.before.before.before.before in (
+    let at = c in
+    let head = at.before.before.before.before.before.before.before.before in (
       omega arith,
-      at.distances.ensures.0.long ∙ head.loop.invariant.1,
-      one-more-row (start head).requires.0 head.loop.q head.loop.dist _ (omega arith) at.distances.ensures.0 head.loop.invariant.2,
-      at.distances.ensures.1 ∙ head.loop.invariant.3,
+      at.distances.ensures.0.long ∙ head.loop-q.invariant.1,
+      one-more-row (start head).requires.0 head.loop-q.q head.loop-q.dist _ (omega arith) at.distances.ensures.0 head.loop-q.invariant.2,
+      at.distances.ensures.1 ∙ head.loop-q.invariant.3,
     )
 
-returns : tie.Need-returns invariant-loop decreases-loop
+returns : tie.Need-returns invariant-loop-q decreases-loop-q
 returns c =
     let head = c.before in
-    let all = rowed-of-rows head.loop.q (omega (arith, promises-are (start head).args.book.now)) (omega arith)
-    head.loop.invariant.2 in
-    record { rowed = all; long = head.loop.invariant.1 }
+    let all = rowed-of-rows head.loop-q.q (omega (arith, promises-are (start head).args.book.now)) (omega arith)
+    head.loop-q.invariant.2 in
+    record { rowed = all; long = head.loop-q.invariant.1 }
 
-pub promise-rows-spec : {M : Type 1} → statement M
-promise-rows-spec =
+pub promise_rows_spec : {M : Type 1} → statement M
+promise_rows_spec =
     tie.close
     (tie.spec
-    invariant-loop
-    decreases-loop
+    invariant-loop-q
+    decreases-loop-q
     (λ c. (omega arith, refl, λ q x h. absurd (omega arith), refl))
     (λ c. omega (arith, room c))
     distances-requires
     (λ c. omega arith)
     (λ c. omega arith)
     loop-again
-    (λ c. c.before.loop.invariant.1)
-    (λ c. c.before.loop.invariant.3)
+    (λ c. c.loop-q.invariant.1)
+    (λ c. c.loop-q.invariant.3)
     returns)

@@ -10,27 +10,27 @@ use Rattle.sample_step.proofs.seek.Statement.{statement}
 use Rattle.sample_step.proofs.seek.Tie as tie
 
 -- the entry, from where it is known what is lent
-abbrev start : tie.After-shared-slice-known4 → tie.Start
+abbrev start : tie.After-shared_slice_known-4-1 → tie.Start
 start c = c.before.before.before.before
 
 -- the row of the aim has room
-room : (c : tie.After-shared-slice-known4) → (start c).args.aim * (start c).args.r + (start c).args.r ≤ length (start c).args.dist.now
+room : (c : tie.After-shared_slice_known-4-1) → (start c).args.aim * (start c).args.r + (start c).args.r ≤ length (start c).args.dist.now
 room c = row_within (start c).requires.0 (start c).args.aim (start c).requires.2
 
-returns : tie.Need-returns
+returns : tie.Need-returns-then-hit-r
 returns c =
-    let wanted = c.before.before in
-    let s = start wanted.before.before in
-    best-hit s.pre.0 s.args.place s.args.aim s.pre.1 s.pre.2 _ _ wanted.one_less.ensures
-    c.before.first-at.ensures c.if1.true
+    let wanted = c in
+    let s = start wanted.before.before.before.before in
+    best-hit s.requires.0 s.args.place s.args.aim s.requires.1 s.requires.2 _ _ wanted.one_less-wanted.ensures
+    c.first_at-hit.ensures c.if-hit-r.true
 
-returns-2 : tie.Need-returns-2
+returns-2 : tie.Need-returns
 returns-2 c =
     let s = start c.before.before.before.before.before in
-    best-tested s.pre.0 s.args.place s.args.aim s.pre.1 s.pre.2 c.nearest.result c.nearest.ensures
+    best-tested s.requires.0 s.args.place s.args.aim s.requires.1 s.requires.2 c.nearest.result c.nearest.ensures
 
-pub seek-spec : {M : Type 1} → statement M
-seek-spec =
+pub seek_spec : {M : Type 1} → statement M
+seek_spec =
     tie.close
     (tie.spec
     (λ c. omega (arith, room c))
@@ -38,10 +38,10 @@ seek-spec =
     (λ c. omega (arith, room c, (start c).requires.1))
     (λ c. omega (arith, room c.before, (start c.before).requires.1))
     (λ c κs. search rules)
-    (λ c κs. let s = start c.before.before in next-scannable s.pre.0 s.args.place s.args.aim s.pre.1 s.pre.2
-    s.pre.3)
+    (λ c κs. let s = start c.before.before in next-scannable s.requires.0 s.args.place s.args.aim s.requires.1 s.requires.2
+    s.requires.3)
     returns
     (λ c κs.
     let s = start c.before.before.before.before in
-    next-scannable s.pre.0 s.args.place s.args.aim s.pre.1 s.pre.2 s.pre.3)
+    next-scannable s.requires.0 s.args.place s.args.aim s.requires.1 s.requires.2 s.requires.3)
     returns-2)

@@ -4,10 +4,10 @@ use mathlib.Core.Logic.{inl, inr}
 use Rattle.sample_walk.proofs.back_from.Statement.{statement}
 use Rattle.sample_walk.proofs.back_from.Tie as tie
 
-pub back-from-spec : {M : Type 1} → statement M
-back-from-spec =
+pub back_from_spec : {M : Type 1} → statement M
+back_from_spec =
     tie.close
     (tie.spec
-    (λ c. inl (c.before.if1.true, c.if2.true, refl))
-    (λ c. inr (λ p q. c.if2.false q, refl))
-    (λ c. inr (λ p q. c.if1.false p, refl)))
+    (λ c. inl (c.if-place-last.true, c.if-aim-goal.true, refl))
+    (λ c. inr (λ p q. c.if-aim-goal.false q, refl))
+    (λ c. inr (λ p q. c.if-place-last.false p, refl)))

@@ -13,52 +13,52 @@ use Rattle.sample_walk.proofs.Trails.{walking-asks, walking-ends, walking-room, 
 use Rattle.sample_walk.proofs.find_end.Statement.{statement}
 use Rattle.sample_walk.proofs.find_end.Tie as tie
 
-abbrev invariant-loop : tie.invariant-loop
-invariant-loop book table words₀ dist r forth signs place₀ aim₀ b₀ words place aim b = Walking book table dist forth signs words₀ words r b
+abbrev invariant-loop-next : tie.invariant-loop-next
+invariant-loop-next book table words₀ dist r forth signs place₀ aim₀ b₀ words place aim b = Walking book table dist forth signs words₀ words r b
     place aim
 
-abbrev decreases-loop : tie.decreases-loop
-decreases-loop book table words₀ dist r forth signs place₀ aim₀ b₀ words place aim b = r * aims_of (book_system book) - b
+abbrev decreases-loop-next : tie.decreases-loop-next
+decreases-loop-next book table words₀ dist r forth signs place₀ aim₀ b₀ words place aim b = r * aims_of (book_system book) - b
 
 -- within the loop's body: where the walk has come to, and that its pair is not marked
-abbrev head : tie.Then1 invariant-loop decreases-loop → tie.At-loop invariant-loop decreases-loop
+abbrev head : tie.In-loop-next invariant-loop-next decreases-loop-next → tie.At-loop-next invariant-loop-next decreases-loop-next
 head c = c.before.before.before
 
-unmet : (c : tie.Then1 invariant-loop decreases-loop) → bit (head c).loop.aim (get_or (head c).loop.words (head c).loop.place 0) ≡ 1 → ⊥
-unmet c = unmarked-of _ c.before.met.result c.before.met.ensures c.if1.true
+unmet : (c : tie.In-loop-next invariant-loop-next decreases-loop-next) → bit (head c).loop-next.aim (get_or (head c).loop-next.words (head c).loop-next.place 0) ≡ 1 → ⊥
+unmet c = unmarked-of _ c.met.result c.met.ensures c.loop-next-test.true-raw
 
-loop-again : tie.Need-loop-preserved invariant-loop decreases-loop
+loop-again : tie.Need-loop-next-preserved invariant-loop-next decreases-loop-next
 loop-again c =
-    let stepped = c.before.before in
-    let body = stepped.before in
-    walking-goes (head body).loop.invariant (unmet body) _ _ _ c.mark.ensures stepped.step.ensures
+    let stepped = c in
+    let body = stepped.before.before.before in
+    walking-goes (head body).loop-next.invariant (unmet body) _ _ _ c.mark.ensures stepped.step-next.ensures
 
 -- places by name, each from one after it
-abbrev at-start : tie.After-shared-slice-known5 invariant-loop decreases-loop → tie.Start invariant-loop decreases-loop
+abbrev at-start : tie.After-shared_slice_known-5-1 invariant-loop-next decreases-loop-next → tie.Start invariant-loop-next decreases-loop-next
 at-start c = c.before.before.before.before.before.before
 
-pub find-end-spec : {M : Type 1} → statement M
-find-end-spec =
+pub find_end_spec : {M : Type 1} → statement M
+find_end_spec =
     tie.close
     (tie.spec
-    invariant-loop
-    decreases-loop
+    invariant-loop-next
+    decreases-loop-next
     (λ c κs. let states = (at-start c).requires.0.states.states in (states.shaped, states.in_table))
     (λ c.
-    let pre = (at-start c.before).pre in
-    walking-begins pre.0 pre.3 pre.1 pre.2 _ c.first-place.ensures)
-    (λ c. omega (arith, walking-small c.loop.invariant))
-    (λ c. walking-at c.before.loop.invariant)
-    (λ c κs. omega (arith, walking-aim c.before.loop.invariant))
-    (λ c κs. walking-asks (head c).loop.invariant)
-    (λ c. omega (arith, walking-small (head c.before).loop.inv))
-    (λ c. walking-at (head c.before.before).loop.inv)
-    (λ c κs. let inv = (head c.before.before).loop.inv in omega (arith, walking-aim inv, walking-next inv c.before.step.ensures))
-    (λ c. omega (arith, walking-small (head c.before.before.before).loop.inv))
-    (λ c. walking-at (head c.before.before.before).loop.inv)
-    (λ c. omega (arith, walking-few (head c.before.before.before).loop.inv (unmet c.before.before.before)))
-    (λ c. omega (arith, walking-room (head c.before.before.before).loop.inv (unmet c.before.before.before)))
+    let pre = (at-start c.before).requires in
+    walking-begins pre.0 pre.3 pre.1 pre.2 _ c.first_place-place.ensures)
+    (λ c. omega (arith, walking-small c.loop-next.invariant))
+    (λ c. walking-at c.loop-next.invariant)
+    (λ c κs. omega (arith, walking-aim c.loop-next.invariant))
+    (λ c κs. walking-asks (head c).loop-next.invariant)
+    (λ c. omega (arith, walking-small (head c.before).loop-next.invariant))
+    (λ c. walking-at (head c.before.before).loop-next.invariant)
+    (λ c κs. let inv = (head c.before.before).loop-next.invariant in omega (arith, walking-aim inv, walking-next inv c.step-next.ensures))
+    (λ c. omega (arith, walking-small (head c.before.before.before).loop-next.invariant))
+    (λ c. walking-at (head c.before.before.before).loop-next.invariant)
+    (λ c. omega (arith, walking-few (head c.before.before.before).loop-next.invariant (unmet c.before.before.before)))
+    (λ c. omega (arith, walking-room (head c.before.before.before).loop-next.invariant (unmet c.before.before.before)))
     loop-again
-    (λ c. c.before.before.before.loop.invariant.long)
-    (λ c. walking-ends c.before.before.before.loop.invariant (marked-of _ c.before.met.result c.before.met.ensures
-    c.if1.false)))
+    (λ c. c.loop-next.invariant.long)
+    (λ c. walking-ends c.loop-next.invariant (marked-of _ c.met.result c.met.ensures
+    c.loop-next-test.false-raw)))

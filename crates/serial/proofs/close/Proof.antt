@@ -9,7 +9,7 @@ pub close_spec : {M : Type 1} → statement M
 close_spec =
     tie.close
     (tie.spec
-    (λ c. again c.if1.true refl refl refl)
+    (λ c. again c.if-lead-ne0.true refl refl refl)
     (λ c. search rules)
     (λ c κs. search rules)
-    (λ c. ends c.before.before.if1.false c.front.ensures refl))
+    (λ c. ends c.if-lead-ne0.false c.front-told.ensures refl))

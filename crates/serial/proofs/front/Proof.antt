@@ -7,11 +7,11 @@ use Rattle.serial.specs.Serial.{read, over}
 use Rattle.serial.proofs.front.Statement.{statement}
 use Rattle.serial.proofs.front.Tie as tie
 
-pub front-spec : {M : Type 1} → statement M
-front-spec =
+pub front_spec : {M : Type 1} → statement M
+front_spec =
     tie.close
     (tie.spec
     (λ c. over (omega arith) refl refl)
     (λ c. sym (length-take-le _ _ (omega arith)))
     (λ c κs. search rules)
-    (λ c. read (omega arith) c.verdict-on.ensures))
+    (λ c. read (omega arith) c.verdict_on.ensures))

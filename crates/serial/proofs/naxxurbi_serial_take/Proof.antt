@@ -6,8 +6,8 @@ use Rattle.serial.proofs.naxxurbi_serial_take.Tie as tie
 
 returns : tie.Need-returns
 returns c =
-    let taken = c.before.before.take in
+    let taken = c.take-r in
     record { after = taken.result.lead; promise = taken.ensures; written = refl }
 
-pub naxxurbi-serial-take-spec : {M : Type 1} → statement M
-naxxurbi-serial-take-spec = tie.close (tie.spec (λ c. search rules) (λ c. search rules) (λ c κs. search rules) returns)
+pub naxxurbi_serial_take_spec : {M : Type 1} → statement M
+naxxurbi_serial_take_spec = tie.close (tie.spec (λ c. search rules) (λ c. search rules) (λ c κs. search rules) returns)

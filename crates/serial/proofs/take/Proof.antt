@@ -7,17 +7,17 @@ use Rattle.serial.specs.declared.Lead.{Lead}
 use Rattle.serial.proofs.take.Statement.{statement}
 use Rattle.serial.proofs.take.Tie as tie
 
-returns-2 : tie.Need-returns-2
+returns-2 : tie.Need-returns
 returns-2 c =
     let start = c.before.before.before.before.before in
     let after : ℕ → Lead = λ n. record { taken = n; closed = start.args.lead.closed } in
-    added c.before.before.before.if1.false refl (ap after c.count.ensures) c.before.write.ensures
+    added c.if-closed-ne0.false refl (ap after c.count-after.ensures) c.write.ensures
 
 pub take_spec : {M : Type 1} → statement M
 take_spec =
     tie.close
     (tie.spec
-    (λ c. late c.if1.true refl refl refl)
+    (λ c. late c.if-closed-ne0.true refl refl refl)
     (λ c. search rules)
     (λ c κs. search rules)
     (λ c κs. search rules)

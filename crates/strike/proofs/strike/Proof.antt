@@ -6,23 +6,23 @@ use Rattle.strike.proofs.strike.Statement.{statement}
 use Rattle.strike.proofs.strike.Tie as tie
 
 -- places by name, each from one after it
-abbrev at-start : tie.After-wipe-words-front → tie.Start
+abbrev at-start : tie.After-wipe_words_front → tie.Start
 at-start c = c.before.before.before.before.before
 
-strike-few-requires : tie.Need-strike-few-requires
+strike-few-requires : tie.Need-strike_few-requires
 strike-few-requires c κs =
     let wiped = c.before.before.before.before in
-    let told = wiped.wipe-words-front.ensures in
+    let told = wiped.wipe_words_front.ensures in
     (wiped-strikable (at-start wiped).requires told.long, told.zeros, omega arith)
 
-strike-many-requires : tie.Need-strike-many-requires
+strike-many-requires : tie.Need-strike_many-requires
 strike-many-requires c κs =
     let wiped = c.before.before.before.before in
-    let told = wiped.wipe-words-front.ensures in
+    let told = wiped.wipe_words_front.ensures in
     (wiped-strikable (at-start wiped).requires told.long, told.zeros)
 
-pub strike-spec : {M : Type 1} → statement M
-strike-spec =
+pub strike_spec : {M : Type 1} → statement M
+strike_spec =
     tie.close
     (tie.spec
     (λ c κs. search rules)

@@ -6,13 +6,13 @@ use Rattle.strike.proofs.Ready.{rows-room}
 use Rattle.strike.proofs.strike_along.Statement.{statement}
 use Rattle.strike.proofs.strike_along.Tie as tie
 
-strike-rounds-requires : tie.Need-strike-rounds-requires
+strike-rounds-requires : tie.Need-strike_rounds-requires
 strike-rounds-requires c κs =
-    let pre = c.before.before.before.before.before.before.before.before.before.requires in
+    let pre = c.requires in
     (record { stored = pre.0; roomed = rows-room most_states pre.0.asked pre.0.asked.few (omega arith) }, pre.1)
 
-pub strike-along-spec : {M : Type 1} → statement M
-strike-along-spec =
+pub strike_along_spec : {M : Type 1} → statement M
+strike_along_spec =
     tie.close
     (tie.spec
     (λ c. search rules)

@@ -6,18 +6,18 @@ use Rattle.strike.proofs.Ready.{signs-ready, tests-ready}
 use Rattle.strike.proofs.strike_few.Statement.{statement}
 use Rattle.strike.proofs.strike_few.Tie as tie
 
-strike-rounds-requires : tie.Need-strike-rounds-requires
+strike-rounds-requires : tie.Need-strike_rounds-requires
 strike-rounds-requires c κs =
-    let filled = c.before.before.before.before.before.before in
-    let pre = filled.before.before.before.before.before.requires in
+    let filled = c in
+    let pre = filled.requires in
     tests-ready few_states pre.0 pre.1 filled.fill.ensures.0 pre.2 (omega arith)
 
-pub strike-few-spec : {M : Type 1} → statement M
-strike-few-spec =
+pub strike_few_spec : {M : Type 1} → statement M
+strike_few_spec =
     tie.close
     (tie.spec
     (λ c. search rules)
-    (λ c κs. signs-ready few_signs c.before.before.before.before.requires.0 (omega arith))
+    (λ c κs. signs-ready few_signs c.requires.0 (omega arith))
     (λ c. search rules)
     (λ c. search rules)
     (λ c. search rules)

@@ -6,18 +6,18 @@ use Rattle.strike.proofs.Ready.{still-strikable}
 use Rattle.strike.proofs.strike_many.Statement.{statement}
 use Rattle.strike.proofs.strike_many.Tie as tie
 
-returns : tie.Need-returns
-returns c = subst (StrickenIfStored _ _ _ _ _) c.before.struck.given.1
-    c.before.before.before.before.before.strike-stored.ensures
+returns : tie.Need-returns-in-Left
+returns c = subst (StrickenIfStored _ _ _ _ _) c.in-Left.is
+    c.strike_stored-struck.ensures
 
-strike-by-tests-requires : tie.Need-strike-by-tests-requires
+strike-by-tests-requires : tie.Need-strike_by_tests-requires
 strike-by-tests-requires c κs =
-    let stored = c.before.before.before.before.before in
-    still-strikable stored.before.before.before.before.before.requires
-    (subst (StrickenIfStored _ _ _ _ _) c.before.enum_told.given.1 stored.strike-stored.ensures)
+    let stored = c in
+    still-strikable stored.requires
+    (subst (StrickenIfStored _ _ _ _ _) c.in-NotStored.is stored.strike_stored-struck.ensures)
 
-pub strike-many-spec : {M : Type 1} → statement M
-strike-many-spec =
+pub strike_many_spec : {M : Type 1} → statement M
+strike_many_spec =
     tie.close
     (tie.spec
     (λ c κs. search rules)

@@ -6,15 +6,15 @@ use Rattle.strike.proofs.Ready.{tests-ready, wiped-strikable}
 use Rattle.strike.proofs.strike_signed.Statement.{statement}
 use Rattle.strike.proofs.strike_signed.Tie as tie
 
-strike-rounds-requires : tie.Need-strike-rounds-requires
+strike-rounds-requires : tie.Need-strike_rounds-requires
 strike-rounds-requires c κs =
-    let wiped = c.before.before.before.before.before.before in
-    let pre = wiped.before.before.before.before.before.before.requires in
-    let told = wiped.wipe-words-front.ensures in
+    let wiped = c in
+    let pre = wiped.requires in
+    let told = wiped.wipe_words_front.ensures in
     tests-ready tiny_states (wiped-strikable pre.0 told.long) told.zeros pre.1 pre.2 (omega arith)
 
-pub strike-signed-spec : {M : Type 1} → statement M
-strike-signed-spec =
+pub strike_signed_spec : {M : Type 1} → statement M
+strike_signed_spec =
     tie.close
     (tie.spec
     (λ c κs. search rules)

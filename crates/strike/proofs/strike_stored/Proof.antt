@@ -8,18 +8,18 @@ use Rattle.strike.proofs.strike_stored.Statement.{statement}
 use Rattle.strike.proofs.strike_stored.Tie as tie
 
 -- places by name, each from one after it
-abbrev at-start : tie.After-back → tie.Start
+abbrev at-start : tie.After-back-1 → tie.Start
 at-start c = c.before.before.before.before.before
 
-strike-along-requires : tie.Need-strike-along-requires
+strike-along-requires : tie.Need-strike_along-left-requires
 strike-along-requires c κs =
     let pre = (at-start c.before.before.before.before.before.before.before).requires in (
-      kept-along pre.0 c.before.before.before.before.before.before.store.ensures.0 c.before.before.before.if1.false,
+      kept-along pre.0 c.store-filled.ensures.0 c.if-filled-eq0.false,
       pre.1,
     )
 
-pub strike-stored-spec : {M : Type 1} → statement M
-strike-stored-spec =
+pub strike_stored_spec : {M : Type 1} → statement M
+strike_stored_spec =
     tie.close
     (tie.spec
     (λ c. search rules)

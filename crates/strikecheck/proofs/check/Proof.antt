@@ -6,25 +6,25 @@ use Rattle.strikecheck.specs.Strikes.{PaperChecked}
 use Rattle.strikecheck.proofs.check.Statement.{statement}
 use Rattle.strikecheck.proofs.check.Tie as tie
 
-returns : tie.Need-returns
+returns : tie.Need-returns-in-Good
 unfolding PaperChecked
 returns c =
-    let paper = c.before in
-    let known = paper.before in
-    placed-paper _ (told _ known.before.before.read-in-numbers.ensures known.enum_told.given.1)
-    paper.paper-accepted.ensures c.on-paper.ensures
+    let paper = c in
+    let known = paper in
+    placed-paper _ (told _ known.read_in_numbers.ensures known.in-Good.is)
+    paper.paper_accepted.ensures c.on_paper.ensures
 
-returns-2 : tie.Need-returns-2
+returns-2 : tie.Need-returns-in-Refused
 unfolding PaperChecked
-returns-2 c = placed-refused _ (told _ c.before.before.before.read-in-numbers.ensures c.before.v.given.1)
+returns-2 c = placed-refused _ (told _ c.read_in_numbers.ensures c.in-Refused.is)
 
-pub check-spec : {M : Type 1} → statement M
-check-spec =
+pub check_spec : {M : Type 1} → statement M
+check_spec =
     tie.close
     (tie.spec
     (λ c κs. search rules)
     (λ c. search rules)
-    (λ c κs. told _ c.before.before.read-in-numbers.ensures c.enum_told.given.1)
+    (λ c κs. told _ c.read_in_numbers.ensures c.in-Good.is)
     (λ c κs. search rules)
     (λ c. search rules)
     returns

@@ -4,8 +4,8 @@ use Rattle.strikecheck.proofs.Answers.{strikes-placed}
 use Rattle.strikecheck.proofs.check_strikes.Statement.{statement}
 use Rattle.strikecheck.proofs.check_strikes.Tie as tie
 
-pub check-strikes-spec : {M : Type 1} → statement M
-check-strikes-spec =
+pub check_strikes_spec : {M : Type 1} → statement M
+check_strikes_spec =
     tie.close
     (tie.spec
     (λ c. search rules)

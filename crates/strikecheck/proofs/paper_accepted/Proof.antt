@@ -5,18 +5,18 @@ use Rattle.strikecheck.proofs.Answers.{odd-states, odd-words, by-the-list}
 use Rattle.strikecheck.proofs.paper_accepted.Statement.{statement}
 use Rattle.strikecheck.proofs.paper_accepted.Tie as tie
 
-returns-3 : tie.Need-returns-3
+returns-3 : tie.Need-returns
 returns-3 c =
-    let compiled = c.before.before.before in
-    let wordy = compiled.before.before in
-    by-the-list _ _ _ _ _ wordy.before.if1.false wordy.if2.false compiled.compile.ensures c.accepted.ensures
+    let compiled = c in
+    let wordy = compiled in
+    by-the-list _ _ _ _ _ wordy.if-sb-ne0.false wordy.if-wb-ne0.false compiled.compile.ensures c.accepted.ensures
 
-pub paper-accepted-spec : {M : Type 1} → statement M
-paper-accepted-spec =
+pub paper_accepted_spec : {M : Type 1} → statement M
+paper_accepted_spec =
     tie.close
     (tie.spec
-    (λ c. odd-states _ _ _ _ _ c.if1.true)
-    (λ c. odd-words _ _ _ _ _ c.if2.true)
+    (λ c. odd-states _ _ _ _ _ c.if-sb-ne0.true)
+    (λ c. odd-words _ _ _ _ _ c.if-wb-ne0.true)
     (λ c. search rules)
     (λ c κs. search rules)
     (λ c. search rules)

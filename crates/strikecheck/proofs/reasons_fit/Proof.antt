@@ -12,38 +12,38 @@ use Rattle.strikecheck.proofs.Conditions.{reason-fits, reason-above}
 use Rattle.strikecheck.proofs.reasons_fit.Statement.{statement}
 use Rattle.strikecheck.proofs.reasons_fit.Tie as tie
 
-abbrev invariant-loop : tie.invariant-loop
-invariant-loop book wb wn promises words i₀ i = Passed (λ j. get_or (words_of wb wn) j 0 % 32 ≤ (book_system book).promises) (length (words_of wb wn))
+abbrev invariant-loop-i : tie.invariant-loop-i
+invariant-loop-i book wb wn promises words i₀ i = Passed (λ j. get_or (words_of wb wn) j 0 % 32 ≤ (book_system book).promises) (length (words_of wb wn))
     words i
 
-abbrev decreases-loop : tie.decreases-loop
-decreases-loop book wb wn promises words i₀ i = words - i
+abbrev decreases-loop-i : tie.decreases-loop-i
+decreases-loop-i book wb wn promises words i₀ i = words - i
 
-returns : tie.Need-returns invariant-loop decreases-loop
+returns : tie.Need-returns-then-promises-reason invariant-loop-i decreases-loop-i
 returns c =
-    let at-loop = c.before.before.before in
-    says-no (failed-not-all at-loop.loop.invariant c.before.before.loop-test.true
-    (reason-above _ c.before.word_at.ensures at-loop.before.before.promises.ensures c.if1.true))
+    let at-loop = c in
+    says-no (failed-not-all at-loop.loop-i.invariant c.loop-i-test.true
+    (reason-above _ c.word_at-word.ensures at-loop.promises-promises.ensures c.if-promises-reason.true))
 
-loop-again : tie.Need-loop-preserved invariant-loop decreases-loop
+loop-again : tie.Need-loop-i-preserved invariant-loop-i decreases-loop-i
 loop-again c =
-    let at-loop = c.before.before.before in
-    passed-more at-loop.loop.invariant c.before.before.loop-test.true
-    (reason-fits _ c.before.word_at.ensures at-loop.before.before.promises.ensures c.if1.false)
+    let at-loop = c in
+    passed-more at-loop.loop-i.invariant c.loop-i-test.true
+    (reason-fits _ c.word_at-word.ensures at-loop.promises-promises.ensures c.if-promises-reason.false)
 
-pub reasons-fit-spec : {M : Type 1} → statement M
-reasons-fit-spec =
+pub reasons_fit_spec : {M : Type 1} → statement M
+reasons_fit_spec =
     tie.close
     (tie.spec
-    invariant-loop
-    decreases-loop
-    (λ c κs. c.before.before.before.requires)
+    invariant-loop-i
+    decreases-loop-i
+    (λ c κs. c.requires)
     (λ c κs. search rules)
-    (λ c. passed_none c.words-in.ensures)
-    (λ c κs. omega (arith, c.before.loop.invariant.counted))
+    (λ c. passed_none c.words_in-words.ensures)
+    (λ c κs. omega (arith, c.loop-i.invariant.counted))
     (λ c. omega arith)
     returns
     (λ c. omega arith)
     (λ c. omega arith)
     loop-again
-    (λ c. all-passed c.before.loop.invariant c.loop-test.false))
+    (λ c. all-passed c.loop-i.invariant c.loop-i-test.false))

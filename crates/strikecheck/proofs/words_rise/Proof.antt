@@ -8,35 +8,35 @@ use Rattle.strikecheck.proofs.Conditions.{Risen, risen-begins, risen-more, risen
 use Rattle.strikecheck.proofs.words_rise.Statement.{statement}
 use Rattle.strikecheck.proofs.words_rise.Tie as tie
 
-abbrev invariant-loop : tie.invariant-loop
-invariant-loop wb wn words i₀ i = Risen (words_of wb wn) words i
+abbrev invariant-loop-i : tie.invariant-loop-i
+invariant-loop-i wb wn words i₀ i = Risen (words_of wb wn) words i
 
-abbrev decreases-loop : tie.decreases-loop
-decreases-loop wb wn words i₀ i = words - i
+abbrev decreases-loop-i : tie.decreases-loop-i
+decreases-loop-i wb wn words i₀ i = words - i
 
-returns : tie.Need-returns invariant-loop decreases-loop
+returns : tie.Need-returns-then-later-earlier invariant-loop-i decreases-loop-i
 returns c =
-    says-no (fall-not-rising c.before.before.before.before.loop.invariant c.before.before.before.loop-test.true
-    (omega (arith, c.before.before.word_at.ensures, c.before.word-at2.ensures, c.if1.true)))
+    says-no (fall-not-rising c.loop-i.invariant c.loop-i-test.true
+    (omega (arith, c.word_at-earlier.ensures, c.word_at-later.ensures, c.if-later-earlier.true)))
 
-pub words-rise-spec : {M : Type 1} → statement M
-words-rise-spec =
+pub words_rise_spec : {M : Type 1} → statement M
+words_rise_spec =
     tie.close
     (tie.spec
-    invariant-loop
-    decreases-loop
+    invariant-loop-i
+    decreases-loop-i
     (λ c κs. search rules)
-    (λ c. risen-begins c.words-in.ensures)
-    (λ c. omega (arith, c.before.loop.invariant.begun))
-    (λ c κs. omega (arith, c.before.loop.invariant.counted))
-    (λ c κs. omega (arith, c.before.before.loop.invariant.counted))
+    (λ c. risen-begins c.words_in-words.ensures)
+    (λ c. omega (arith, c.loop-i.invariant.begun))
+    (λ c κs. omega (arith, c.loop-i.invariant.counted))
+    (λ c κs. omega (arith, c.loop-i.invariant.counted))
     returns
     (λ c. omega arith)
     (λ c. omega arith)
-    (λ c. risen-more c.before.before.before.before.loop.invariant (omega (
+    (λ c. risen-more c.loop-i.invariant (omega (
       arith,
-      c.before.before.word_at.ensures,
-      c.before.word-at2.ensures,
-      c.if1.false,
+      c.word_at-earlier.ensures,
+      c.word_at-later.ensures,
+      c.if-later-earlier.false,
     )))
-    (λ c. says-yes (risen-all c.before.loop.invariant c.loop-test.false)))
+    (λ c. says-yes (risen-all c.loop-i.invariant c.loop-i-test.false)))

@@ -8,56 +8,56 @@ use Rattle.strikes_apart.proofs.Windows.{Seen, seen_none, seen_below, seen-later
 use Rattle.strikes_apart.proofs.window.Statement.{statement}
 use Rattle.strikes_apart.proofs.window.Tie as tie
 
-abbrev invariant-loop : tie.invariant-loop
-invariant-loop sb sn low states marks₀ next₀ i₀ marks next i = Seen (states_of sb sn) low states marks next i
+abbrev invariant-loop-i : tie.invariant-loop-i
+invariant-loop-i sb sn low states marks₀ next₀ i₀ marks next i = Seen (states_of sb sn) low states marks next i
 
-abbrev decreases-loop : tie.decreases-loop
-decreases-loop sb sn low states marks₀ next₀ i₀ marks next i = states - i
+abbrev decreases-loop-i : tie.decreases-loop-i
+decreases-loop-i sb sn low states marks₀ next₀ i₀ marks next i = states - i
 
-loop-again : tie.Need-loop-preserved invariant-loop decreases-loop
+loop-again : tie.Need-loop-i-preserved-then-s-low invariant-loop-i decreases-loop-i
 loop-again c =
-    seen_below c.before.before.before.loop.invariant c.before.before.loop-test.true c.before.state-at.ensures c.if1.true
+    seen_below c.loop-i.invariant c.loop-i-test.true c.state_at-s.ensures c.if-s-low.true
 
 -- places by name, each from one after it
-abbrev at-at-loop : tie.Else3 invariant-loop decreases-loop → tie.At-loop invariant-loop decreases-loop
+abbrev at-at-loop : tie.Else-met invariant-loop-i decreases-loop-i → tie.At-loop-i invariant-loop-i decreases-loop-i
 at-at-loop c = c.before.before.before.before.before.before
 
-loop-again-2 : tie.Need-loop-preserved-2 invariant-loop decreases-loop
+loop-again-2 : tie.Need-loop-i-preserved-then-k-lt-WINDOW invariant-loop-i decreases-loop-i
 loop-again-2 c =
-    let asked = c.before.before in
-    let read = asked.before.before.before in
-    seen-marked read.before.before.loop.invariant read.before.loop-test.true read.state-at.ensures
-    (read.state-at.result - read.before.before.before.before.before.before.args.low) (omega arith) asked.before.if2.true
-    asked.met.ensures c.before.if3.false c.mark.ensures
+    let asked = c in
+    let read = asked in
+    seen-marked read.loop-i.invariant read.loop-i-test.true read.state_at-s.ensures
+    (read.state_at-s.result - read.args.low) (omega arith) asked.if-k-lt-WINDOW.true
+    asked.met.ensures c.if-met.false c.mark.ensures
 
-loop-again-3 : tie.Need-loop-preserved-3 invariant-loop decreases-loop
+loop-again-3 : tie.Need-loop-i-preserved invariant-loop-i decreases-loop-i
 loop-again-3 c =
-    let read = c.before.before.before in
-    seen-later read.before.before.loop.invariant read.before.loop-test.true read.state-at.ensures (omega arith)
-    c.smaller.ensures
+    let read = c in
+    seen-later read.loop-i.invariant read.loop-i-test.true read.state_at-s.ensures (omega arith)
+    c.smaller-next.ensures
 
-pub window-spec : {M : Type 1} → statement M
-window-spec =
+pub window_spec : {M : Type 1} → statement M
+window_spec =
     tie.close
     (tie.spec
-    invariant-loop
-    decreases-loop
+    invariant-loop-i
+    decreases-loop-i
     (λ c κs. search rules)
-    (λ c. seen_none _ c.states-in.ensures refl c.before.before.before.requires)
-    (λ c κs. omega (arith, c.before.loop.invariant.counted))
+    (λ c. seen_none _ c.states_in-states.ensures refl c.requires)
+    (λ c κs. omega (arith, c.loop-i.invariant.counted))
     (λ c. omega arith)
     (λ c. omega arith)
     loop-again
     (λ c. search rules)
     (λ c. omega arith)
-    (λ c. omega (arith, c.before.before.before.before.loop.invariant.long))
+    (λ c. omega (arith, c.loop-i.invariant.long))
     (λ c κs. omega arith)
     (λ c. tt)
     (λ c. omega arith)
-    (λ c. omega (arith, (at-at-loop c).loop.invariant.long))
+    (λ c. omega (arith, (c.before.before.before.before.before.before).loop-i.invariant.long))
     (λ c κs. omega arith)
     (λ c. omega arith)
-    (λ c. omega (arith, (at-at-loop c.before).loop.inv.long))
+    (λ c. omega (arith, (at-at-loop c.before).loop-i.invariant.long))
     (λ c. omega arith)
     (λ c. omega arith)
     loop-again-2
@@ -65,5 +65,5 @@ window-spec =
     (λ c. omega arith)
     (λ c. omega arith)
     loop-again-3
-    (λ c. let seen = c.before.before.loop.invariant in (seen.above, seen-settled seen c.before.loop-test.false))
-    (λ c. λ before. seen-different c.before.before.loop.invariant c.before.loop-test.false before c.if4.false))
+    (λ c. let seen = c.loop-i.invariant in (seen.above, seen-settled seen c.loop-i-test.false))
+    (λ c. λ before. seen-different c.loop-i.invariant c.loop-i-test.false before c.if-next-lt-ALL_STATES.false))

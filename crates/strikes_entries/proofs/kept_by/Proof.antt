@@ -2,16 +2,17 @@
 use mathlib.Core.Path.{refl}
 use borrow.Author.Rules.{rules}
 use Rattle.ground.proofs.Saying.{says-no}
+use Rattle.rules.specs.Book.{book_system}
 use Rattle.rules.proofs.Saying.{kept-says}
 use Rattle.strikes_entries.proofs.Entries.{zero-keeps-none, kept-by-says}
 use Rattle.strikes_entries.proofs.kept_by.Statement.{statement}
 use Rattle.strikes_entries.proofs.kept_by.Tie as tie
 
-pub kept-by-spec : {M : Type 1} → statement M
-kept-by-spec =
+pub kept_by_spec : {M : Type 1} → statement M
+kept_by_spec =
     tie.close
     (tie.spec
-    (λ c. says-no (zero-keeps-none _ _ _ c.if1.true))
+    (λ c. says-no (zero-keeps-none (book_system c.args.book.now) _ _ c.if-reason-eq0.true))
     (λ c. search rules)
     (λ c κs. search rules)
-    (λ c. kept-by-says _ _ _ c.before.if1.false (kept-says _ _ refl c.kept.ensures)))
+    (λ c. kept-by-says (book_system c.args.book.now) _ _ c.if-reason-eq0.false (kept-says c.args.book.now _ refl c.kept.ensures)))

@@ -6,12 +6,12 @@ use Rattle.strikes_entries.proofs.Entries.{follows-at}
 use Rattle.strikes_entries.proofs.shown_by.Statement.{statement}
 use Rattle.strikes_entries.proofs.shown_by.Tie as tie
 
-returns : tie.Need-returns
-returns c = λ e. follows-at c.before.before.before.if1.true c.before.before.state-at.ensures c.before.state-at2.ensures
+returns : tie.Need-returns-then-k-i
+returns c = λ e. follows-at c.if-k-i.true c.state_at-wide.ensures c.state_at-s.ensures
     (c.freer.ensures e)
 
-pub shown-by-spec : {M : Type 1} → statement M
-shown-by-spec =
+pub shown_by_spec : {M : Type 1} → statement M
+shown_by_spec =
     tie.close
     (tie.spec
     (λ c κs. search rules)

@@ -4,11 +4,11 @@ use Rattle.watch.proofs.Helped.{helper-sought, helper-other}
 use Rattle.watch_along.proofs.helper.Statement.{statement}
 use Rattle.watch_along.proofs.helper.Tie as tie
 
-pub helper-spec : {M : Type 1} → statement M
-helper-spec =
+pub helper_spec : {M : Type 1} → statement M
+helper_spec =
     tie.close
     (tie.spec
-    (λ c κs. (omega arith, c.before.before.before.requires.1))
-    (λ c κs. c.before.before.before.before.before.requires)
-    (λ c. helper-sought _ _ _ _ _ c.before.before.is-so.ensures c.before.if1.true c.seek-helper.ensures)
-    (λ c. helper-other _ _ _ _ c.before.is-so.ensures c.if1.false))
+    (λ c κs. (omega arith, c.requires.1))
+    (λ c κs. c.requires)
+    (λ c. helper-sought _ _ _ _ _ c.is_so.ensures c.if-is_so.true c.seek_helper.ensures)
+    (λ c. helper-other _ _ _ _ c.is_so.ensures c.if-is_so.false))

@@ -4,8 +4,8 @@ use Rattle.watch_tests.proofs.Ranking.{brought-set}
 use Rattle.watch_tests.proofs.bring.Statement.{statement}
 use Rattle.watch_tests.proofs.bring.Tie as tie
 
-pub bring-spec : {M : Type 1} → statement M
-bring-spec =
+pub bring_spec : {M : Type 1} → statement M
+bring_spec =
     tie.close
     (tie.spec
     (λ c. search rules)
@@ -17,4 +17,4 @@ bring-spec =
     (λ c. search rules)
     (λ c. search rules)
     (λ c. search rules)
-    (λ c. brought-set _ _ _ c.before.before.requires.0 c.before.before.requires.1))
+    (λ c. brought-set _ _ _ c.requires.0 c.requires.1))

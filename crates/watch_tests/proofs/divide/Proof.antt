@@ -8,80 +8,80 @@ use Rattle.watch_tests.proofs.Dividing.{dividing-helped, dividing-struck, dividi
 use Rattle.watch_tests.proofs.divide.Statement.{statement}
 use Rattle.watch_tests.proofs.divide.Tie as tie
 
-abbrev invariant-loop : tie.invariant-loop
-invariant-loop words row log₀ m line₀ helped₀ tail₀ i₀ log line helped tail i = Dividing words row log₀ log m tail line₀ line helped i
+abbrev invariant-loop-i : tie.invariant-loop-i
+invariant-loop-i words row log₀ m line₀ helped₀ tail₀ i₀ log line helped tail i = Dividing words row log₀ log m tail line₀ line helped i
 
-abbrev decreases-loop : tie.decreases-loop
-decreases-loop words row log₀ m line₀ helped₀ tail₀ i₀ log line helped tail i = length row - i
+abbrev decreases-loop-i : tie.decreases-loop-i
+decreases-loop-i words row log₀ m line₀ helped₀ tail₀ i₀ log line helped tail i = length row - i
 
-abbrev start : tie.At-loop invariant-loop decreases-loop → tie.Start invariant-loop decreases-loop
+abbrev start : tie.At-loop-i invariant-loop-i decreases-loop-i → tie.Start invariant-loop-i decreases-loop-i
 start c = c.before
 
 -- from a place that stands alone, and from one that has a witness, the loop's body
-abbrev of-lone : tie.Then2 invariant-loop decreases-loop → tie.In-loop invariant-loop decreases-loop
+abbrev of-lone : tie.Then-row-i invariant-loop-i decreases-loop-i → tie.In-loop-i invariant-loop-i decreases-loop-i
 of-lone c = c.before.before.before.before
 
-abbrev of-helped : tie.Else2 invariant-loop decreases-loop → tie.In-loop invariant-loop decreases-loop
+abbrev of-helped : tie.Else-row-i invariant-loop-i decreases-loop-i → tie.In-loop-i invariant-loop-i decreases-loop-i
 of-helped c = c.before.before.before.before
 
 -- within the loop: the line has room for the place, and all numbers are small;
-front : (c : tie.In-loop invariant-loop decreases-loop)
-    → (c.before.loop.helped < length c.before.loop.line) × (c.before.loop.helped < most_states)
-    × (c.before.loop.i < most_states)
-front c = let pre = (start c.before).pre in dividing-front pre.0 c.before.loop.invariant pre.2 c.loop-test.true
+front : (c : tie.In-loop-i invariant-loop-i decreases-loop-i)
+    → (c.loop-i.helped < length c.loop-i.line) × (c.loop-i.helped < most_states)
+    × (c.loop-i.i < most_states)
+front c = let pre = (start c.before).requires in dividing-front pre.0 c.loop-i.invariant pre.2 c.loop-i-test.true
 
 -- and where it stands alone, the log has room for it
-room : (c : tie.Then2 invariant-loop decreases-loop) → ((of-lone c).before.loop.tail < length (of-lone c).before.loop.log)
-    × ((of-lone c).before.loop.tail < most_states)
+room : (c : tie.Then-row-i invariant-loop-i decreases-loop-i) → ((of-lone c).loop-i.tail < length (of-lone c).loop-i.log)
+    × ((of-lone c).loop-i.tail < most_states)
 room c =
     let l = of-lone c in
-    let pre = (start l.before).pre in
-    dividing-room pre.0 l.before.loop.inv pre.1 l.loop-test.taken c.before.before.if1.true c.if2.true
+    let pre = (start l.before).requires in
+    dividing-room pre.0 l.loop-i.invariant pre.1 l.loop-i-test.true c.if-words-i-eq0.true c.if-row-i.true
 
-loop-again : tie.Need-loop-preserved invariant-loop decreases-loop
+loop-again : tie.Need-loop-i-preserved-then-row-i invariant-loop-i decreases-loop-i
 loop-again c =
     let l = of-lone c in
-    dividing-lone (start l.before).pre.0 l.before.loop.inv l.loop-test.taken c.before.before.if1.true c.if2.true
+    dividing-lone (start l.before).requires.0 l.loop-i.invariant l.loop-i-test.true c.if-words-i-eq0.true c.if-row-i.true
 
-loop-again-2 : tie.Need-loop-preserved-2 invariant-loop decreases-loop
+loop-again-2 : tie.Need-loop-i-preserved-else-row-i invariant-loop-i decreases-loop-i
 loop-again-2 c =
     let l = of-helped c in
-    let pre = (start l.before).pre in
-    dividing-helped pre.0 l.before.loop.inv l.loop-test.taken pre.2 c.before.before.if1.true c.if2.false
+    let pre = (start l.before).requires in
+    dividing-helped pre.0 l.loop-i.invariant l.loop-i-test.true pre.2 c.if-words-i-eq0.true c.if-row-i.false
 
-loop-again-3 : tie.Need-loop-preserved-3 invariant-loop decreases-loop
+loop-again-3 : tie.Need-loop-i-preserved invariant-loop-i decreases-loop-i
 loop-again-3 c =
     let l = c.before.before in
-    dividing-struck (start l.before).pre.0 l.before.loop.invariant l.loop-test.true c.if1.false
+    dividing-struck (start l.before).requires.0 l.loop-i.invariant l.loop-i-test.true c.if-words-i-eq0.false
 
-pub divide-spec : {M : Type 1} → statement M
-divide-spec =
+pub divide_spec : {M : Type 1} → statement M
+divide_spec =
     tie.close
     (tie.spec
-    invariant-loop
-    decreases-loop
+    invariant-loop-i
+    decreases-loop-i
     (λ c. dividing-none _ _ _ _ _)
     (λ c. omega (arith, (front c).2))
-    (λ c. let l = c.before in omega (arith, l.loop-test.true, (start l.before).pre.0.log_is.in_words))
+    (λ c. let l = c.before in omega (arith, l.loop-i-test.true, (start l.before).requires.0.log_is.in_words))
     (λ c. omega (arith, (front c.before.before).2))
-    (λ c. c.before.before.before.loop-test.true)
+    (λ c. c.loop-i-test.true)
     (λ c. omega (arith, (front (of-lone c)).2))
     (λ c. omega (arith, (room c).1))
     (λ c. (room c).0)
     (λ c. omega (arith, (room c).1))
     (λ c. omega (arith, (front (of-lone c)).2))
-    (λ c. omega (arith, (of-lone c).loop-test.true))
+    (λ c. omega (arith, (of-lone c).loop-i-test.true))
     loop-again
     (λ c. omega (arith, (front (of-helped c)).2))
     (λ c. omega (arith, (front (of-helped c)).1))
     (λ c. (front (of-helped c)).0)
     (λ c. omega (arith, (front (of-helped c)).1))
     (λ c. omega (arith, (front (of-helped c)).2))
-    (λ c. omega (arith, (of-helped c).loop-test.true))
+    (λ c. omega (arith, (of-helped c).loop-i-test.true))
     loop-again-2
     (λ c. omega (arith, (front c.before.before).2))
-    (λ c. omega (arith, c.before.before.loop-test.true))
+    (λ c. omega (arith, c.loop-i-test.true))
     loop-again-3
-    (λ c. c.before.loop.invariant.lone.log_long)
-    (λ c. c.before.loop.invariant.front.long)
-    (λ c. dividing-done (start c.before).pre.0 c.before.loop.invariant (omega (arith, c.loop-test.false))))
+    (λ c. c.loop-i.invariant.lone.log_long)
+    (λ c. c.loop-i.invariant.front.long)
+    (λ c. dividing-done (start c.before).requires.0 c.loop-i.invariant (omega (arith, c.loop-i-test.false))))

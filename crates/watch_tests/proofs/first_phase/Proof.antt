@@ -7,70 +7,70 @@ use Rattle.watch_tests.proofs.first_phase.Statement.{statement}
 use Rattle.watch_tests.proofs.first_phase.Tie as tie
 
 -- from each call, the one before it
-abbrev start : tie.After-divide → tie.Start
-start c = c.before.before.before.before.before.before.before.before.before.before.before.before
+abbrev start : tie.After-divide-d → tie.Start
+start c = c.before.before.before.before.before.before.before.before.before.before
 
-abbrev divided : tie.After-copy → tie.After-divide
-divided c = c.before.before.before.before.before.before.before
+abbrev divided : tie.After-copy-k → tie.After-divide-d
+divided c = c.before.before.before.before.before.before
 
-abbrev copied : tie.After-spread → tie.After-copy
-copied c = c.before.before.before.before.before.before
+abbrev copied : tie.After-spread → tie.After-copy-k
+copied c = c.before.before.before.before.before
 
 abbrev spread : tie.After-fall → tie.After-spread
-spread c = c.before.before.before.before.before.before.before.before
+spread c = c.before.before.before.before.before.before.before
 
-divide-requires : tie.Need-divide-requires
+divide-requires : tie.Need-divide-d-requires
 divide-requires c κs =
-    let pre = c.before.before.before.before.before.before.before.before.before.before.before.requires in
+    let pre = c.requires in
     (before-fresh (omega arith) pre.before, pre.log_few, pre.line_is)
 
-copy-requires : tie.Need-copy-requires
+copy-requires : tie.Need-copy-k-requires
 copy-requires c κs =
-    let d = c.before.before.before.before.before.before in
-    let D = d.divide.ensures in
+    let d = c.before.before.before.before.before in
+    let D = d.divide-d.ensures in
     first-copy (start d).requires D.0 D.1 D.2
 
 spread-requires : tie.Need-spread-requires
 spread-requires c κs =
-    let k = c.before.before.before.before.before in
+    let k = c.before.before.before.before in
     let pre = (start (divided k)).requires in
-    let D = (divided k).divide.ensures in
-    let C = k.copy.ensures in
+    let D = (divided k).divide-d.ensures in
+    let C = k.copy-k.ensures in
     (first-testable pre D.0 D.1 D.2 C, first-spreading pre D.0 D.1 D.2 C)
 
 fall-requires : tie.Need-fall-requires
 fall-requires c κs =
-    let s = c.before.before.before.before.before.before.before in
+    let s = c.before.before.before.before.before.before in
     let d = divided (copied s) in
-    let pre = (start d).pre in
-    let L = d.divide.ensures.0 in
+    let pre = (start d).requires in
+    let L = d.divide-d.ensures.0 in
     (lost-fallable pre.before L pre.some s.spread.ensures.0, omega (arith, pre.log_few, L.log_long))
 
 -- at the end: the line is as long as it was
-line_long : tie.Need-same-length-4
+line_long : tie.Need-shape_of-line
 line_long c =
     let s = spread c.before.before.before.before in
-    s.spread.ensures.1 ∙ (copied s).copy.ensures.long ∙ (divided (copied s)).divide.ensures.1.long
+    s.spread.ensures.1 ∙ (copied s).copy-k.ensures.long ∙ (divided (copied s)).divide-d.ensures.1.long
 
 returns : tie.Need-returns
 returns c =
     let f = c.before.before.before.before in
     let s = spread f in
     let d = divided (copied s) in
-    let pre = (start d).pre in
-    (phase-watched pre.before d.divide.ensures.0 pre.some s.spread.ensures.0 f.fall.ensures, line_long c)
+    let pre = (start d).requires in
+    (phase-watched pre.before d.divide-d.ensures.0 pre.some s.spread.ensures.0 f.fall.ensures, line_long c)
 
-pub first-phase-spec : {M : Type 1} → statement M
-first-phase-spec =
+pub first_phase_spec : {M : Type 1} → statement M
+first_phase_spec =
     tie.close
     (tie.spec
     divide-requires
     copy-requires
     spread-requires
     fall-requires
-    (λ c. c.before.before.before.before.fall.ensures.long)
+    (λ c. c.fall.ensures.long)
     (λ c. (spread c.before.before.before.before).spread.ensures.0.long)
     (λ c. let f = c.before.before.before.before in f.fall.ensures.log_long
-    ∙ (divided (copied (spread f))).divide.ensures.0.log_long)
+    ∙ (divided (copied (spread f))).divide-d.ensures.0.log_long)
     line_long
     returns)

@@ -5,14 +5,14 @@ use Rattle.watch_tests.proofs.helper.Statement.{statement}
 use Rattle.watch_tests.proofs.helper.Tie as tie
 
 -- places by name, each from one after it
-abbrev at-start : tie.After-shared-slice-known5 → tie.Start
+abbrev at-start : tie.After-shared_slice_known-5-1 → tie.Start
 at-start c = c.before.before.before.before.before
 
-pub helper-spec : {M : Type 1} → statement M
-helper-spec =
+pub helper_spec : {M : Type 1} → statement M
+helper_spec =
     tie.close
     (tie.spec
     (λ c κs. let pre = (at-start c).requires in (omega (arith, pre.1, pre.2), pre.1))
     (λ c κs. (at-start c.before.before).requires)
-    (λ c. helper-sought _ _ _ _ _ c.before.before.is-so.ensures c.before.if1.true c.seek-helper.ensures)
-    (λ c. helper-other _ _ _ _ c.before.is-so.ensures c.if1.false))
+    (λ c. helper-sought _ _ _ _ _ c.is_so.ensures c.if-is_so.true c.seek_helper.ensures)
+    (λ c. helper-other _ _ _ _ c.is_so.ensures c.if-is_so.false))

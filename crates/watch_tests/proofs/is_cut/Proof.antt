@@ -4,8 +4,8 @@ use Rattle.watch_tests.proofs.Cutting.{cut-helped, cut-lost, cut-alone, cut-stru
 use Rattle.watch_tests.proofs.is_cut.Statement.{statement}
 use Rattle.watch_tests.proofs.is_cut.Tie as tie
 
-pub is-cut-spec : {M : Type 1} → statement M
-is-cut-spec =
+pub is_cut_spec : {M : Type 1} → statement M
+is_cut_spec =
     tie.close
     (tie.spec
     (λ c. search rules)
@@ -14,8 +14,8 @@ is-cut-spec =
     (λ c. search rules)
     (λ c κs. search rules)
     (λ c κs. search rules)
-    (λ c. cut-helped c.before.before.before.wide.ensures c.before.is-helped.ensures c.if3.true)
-    (λ c. cut-lost c.before.before.before.wide.ensures c.before.before.before.before.before.if1.true
-    c.before.before.if2.true)
-    (λ c. cut-alone c.before.wide.ensures c.if2.false)
-    (λ c. cut-struck c.if1.false))
+    (λ c. cut-helped c.wide-w.ensures c.is_helped.ensures c.if-is_helped.true)
+    (λ c. cut-lost c.wide-w.ensures c.if-words-i-eq0.true
+    c.if-w-row.true)
+    (λ c. cut-alone c.wide-w.ensures c.if-w-row.false)
+    (λ c. cut-struck c.if-words-i-eq0.false))

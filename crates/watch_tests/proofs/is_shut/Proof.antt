@@ -6,13 +6,13 @@ use Rattle.watch_tests.proofs.Sifting.{seen-shut}
 use Rattle.watch_tests.proofs.is_shut.Statement.{statement}
 use Rattle.watch_tests.proofs.is_shut.Tie as tie
 
-returns-2 : tie.Need-returns-2
-returns-2 c = λ e words S. seen-shut _ _ _ _ c.before.before.before.before.before.slot.ensures
-    c.before.before.before.wide.ensures
-    c.before.before.if2.true refl c.before.if3.true (c.stricter.ensures e) S
+returns-2 : tie.Need-returns-then-place-r
+returns-2 c = λ e words S. seen-shut _ _ _ _ c.slot-q.ensures
+    c.wide-noted.ensures
+    c.if-noted-gt0.true refl c.if-place-r.true (c.stricter.ensures e) S
 
-pub is-shut-spec : {M : Type 1} → statement M
-is-shut-spec =
+pub is_shut_spec : {M : Type 1} → statement M
+is_shut_spec =
     tie.close
     (tie.spec
     (λ c. λ e words S. absurd (no_both e refl))

@@ -5,8 +5,8 @@ use Rattle.watch_tests.proofs.Sifting.{noted-none, noted-set}
 use Rattle.watch_tests.proofs.note.Statement.{statement}
 use Rattle.watch_tests.proofs.note.Tie as tie
 
-pub note-spec : {M : Type 1} → statement M
-note-spec =
+pub note_spec : {M : Type 1} → statement M
+note_spec =
     tie.close
     (tie.spec
     (λ c. noted-none _ _)

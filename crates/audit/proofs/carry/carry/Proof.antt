@@ -7,19 +7,19 @@ use borrow.Author.Rules.{rules}
 use Rattle.audit.proofs.carry.carry.Statement.{statement}
 use Rattle.audit.proofs.carry.carry.Tie as tie
 
-head-of-requires : tie.Need-head-of-requires
+head-of-requires : tie.Need-head_of-head-requires
 head-of-requires c κs = search rules
 
 -- places by name, each from one after it
-abbrev at-start : tie.After-broken2 → tie.Start
+abbrev at-start : tie.After-broken-2-1 → tie.Start
 at-start c = c.before.before.before.before.before.before.before
 
-follow-requires : tie.Need-follow-requires
+follow-requires : tie.Need-follow-last-requires
 follow-requires c κs =
     let start = at-start c in (
-      start.pre.0,
-      subst (λ (a : Account). Carriable a (length start.args.states.now)) (sym c.before.before.head_of.ensures)
-          start.pre.1,
+      start.requires.0,
+      subst (λ (a : Account). Carriable a (length start.args.states.now)) (sym c.head_of-head.ensures)
+          start.requires.1,
     )
 
 joined-requires : tie.Need-joined-requires
@@ -28,9 +28,9 @@ joined-requires c κs = search rules
 returns : tie.Need-returns
 returns c =
     let start = at-start c.before.before in
-    c.joined.ensures ∙ c.before.follow.ensures
+    c.joined.ensures ∙ c.follow-last.ensures
     ∙ ap (λ (a : Account). book_carried start.args.book.now a start.args.states.now)
-    c.before.before.before.before.head_of.ensures
+    c.head_of-head.ensures
 
-pub carry-spec : {M : Type 1} → statement M
-carry-spec = tie.close (tie.spec head-of-requires follow-requires joined-requires returns)
+pub carry_spec : {M : Type 1} → statement M
+carry_spec = tie.close (tie.spec head-of-requires follow-requires joined-requires returns)

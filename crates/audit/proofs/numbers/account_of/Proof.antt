@@ -6,11 +6,11 @@ use Rattle.audit.proofs.numbers.account_of.Tie as tie
 
 returns : tie.Need-returns
 returns c =
-    account-read _ _ _ c.before.before.before.before.before.before.tallies-at.ensures
-    c.before.before.before.before.before.tallies-at2.ensures
+    account-read _ _ _ c.tallies_at-kept.ensures
+    c.tallies_at-broken.ensures
 
-pub account-of-spec : {M : Type 1} → statement M
-account-of-spec =
+pub account_of_spec : {M : Type 1} → statement M
+account_of_spec =
     tie.close
     (tie.spec
     (λ c κs. search rules)

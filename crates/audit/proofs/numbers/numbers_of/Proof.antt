@@ -6,8 +6,8 @@ use borrow.Author.Rules.{rules}
 use Rattle.audit.proofs.numbers.numbers_of.Statement.{statement}
 use Rattle.audit.proofs.numbers.numbers_of.Tie as tie
 
-pub numbers-of-spec : {M : Type 1} → statement M
-numbers-of-spec =
+pub numbers_of_spec : {M : Type 1} → statement M
+numbers_of_spec =
     tie.close
     (tie.spec
     (λ c. search rules)
@@ -16,6 +16,6 @@ numbers-of-spec =
     (λ c. search rules)
     (λ c. search rules)
     (λ c κs. (omega arith, refl))
-    (λ c κs. (omega arith, c.before.before.put-tallies.ensures.long))
-    (λ c. numbers-written _ _ _ _ refl refl refl refl refl refl c.before.before.before.put-tallies.ensures
-    c.put-tallies2.ensures))
+    (λ c κs. (omega arith, c.put_tallies.ensures.long))
+    (λ c. numbers-written _ _ _ _ refl refl refl refl refl refl c.put_tallies.ensures
+    c.put_tallies-2.ensures))

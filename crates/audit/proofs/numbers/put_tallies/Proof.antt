@@ -8,31 +8,31 @@ use Rattle.audit_account.proofs.Written.{copied_none, copied_next}
 use Rattle.audit.proofs.numbers.put_tallies.Statement.{statement}
 use Rattle.audit.proofs.numbers.put_tallies.Tie as tie
 
-abbrev invariant-loop : tie.invariant-loop
-invariant-loop numbers₀ from tallies i₀ numbers i = (i ≤ 255) × (lib.ListN.length numbers₀ ≡ 515) × Copied i tallies 0 numbers₀ from numbers
+abbrev invariant-loop-i : tie.invariant-loop-i
+invariant-loop-i numbers₀ from tallies i₀ numbers i = (i ≤ 255) × (lib.ListN.length numbers₀ ≡ 515) × Copied i tallies 0 numbers₀ from numbers
 
-abbrev decreases-loop : tie.decreases-loop
-decreases-loop numbers₀ from tallies i₀ numbers i = 255 - i
+abbrev decreases-loop-i : tie.decreases-loop-i
+decreases-loop-i numbers₀ from tallies i₀ numbers i = 255 - i
 
-loop-again : tie.Need-loop-preserved invariant-loop decreases-loop
+loop-again : tie.Need-loop-i-preserved invariant-loop-i decreases-loop-i
 loop-again c =
-    let l = c.before.before.loop in
+    let l = c.loop-i in
     (omega arith, l.invariant.1, copied_next l.i _ _ _ _ _ _ _ l.invariant.2 refl (omega arith) (omega arith))
 
-returns : tie.Need-returns invariant-loop decreases-loop
+returns : tie.Need-returns invariant-loop-i decreases-loop-i
 returns c =
-    let e : c.before.loop.i ≡ 255 = omega arith in
+    let e : c.loop-i.i ≡ 255 = omega arith in
     subst
-    (λ (n : ℕ). Copied n c.before.before.args.tallies.now 0 c.before.before.args.numbers.now c.before.before.args.from
-    c.before.loop.numbers)
-    e c.before.loop.invariant.2
+    (λ (n : ℕ). Copied n c.args.tallies.now 0 c.args.numbers.now c.args.from
+    c.loop-i.numbers)
+    e c.loop-i.invariant.2
 
-pub put-tallies-spec : {M : Type 1} → statement M
-put-tallies-spec =
+pub put_tallies_spec : {M : Type 1} → statement M
+put_tallies_spec =
     tie.close
     (tie.spec
-    invariant-loop
-    decreases-loop
+    invariant-loop-i
+    decreases-loop-i
     (λ c. (omega arith, c.requires.1, copied_none _ _ _ _))
     (λ c. omega arith)
     (λ c. omega arith)

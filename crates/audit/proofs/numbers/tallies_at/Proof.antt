@@ -8,33 +8,33 @@ use Rattle.audit_account.proofs.Written.{copied_none, copied_next, numbers-read}
 use Rattle.audit.proofs.numbers.tallies_at.Statement.{statement}
 use Rattle.audit.proofs.numbers.tallies_at.Tie as tie
 
-abbrev invariant-loop : tie.invariant-loop
-invariant-loop numbers from tallies₀ i₀ tallies i = (i ≤ 255) × (lib.ListN.length tallies₀ ≡ 255) × Copied i numbers from tallies₀ 0 tallies
+abbrev invariant-loop-i : tie.invariant-loop-i
+invariant-loop-i numbers from tallies₀ i₀ tallies i = (i ≤ 255) × (lib.ListN.length tallies₀ ≡ 255) × Copied i numbers from tallies₀ 0 tallies
 
-abbrev decreases-loop : tie.decreases-loop
-decreases-loop numbers from tallies₀ i₀ tallies i = 255 - i
+abbrev decreases-loop-i : tie.decreases-loop-i
+decreases-loop-i numbers from tallies₀ i₀ tallies i = 255 - i
 
-loop-again : tie.Need-loop-preserved invariant-loop decreases-loop
+loop-again : tie.Need-loop-i-preserved invariant-loop-i decreases-loop-i
 loop-again c =
-    let l = c.before.before.loop in
+    let l = c.loop-i in
     (omega arith, refl, copied_next l.i _ _ _ _ _ _ _ l.invariant.2 (omega arith) refl (omega arith))
 
-returns : tie.Need-returns invariant-loop decreases-loop
+returns : tie.Need-returns invariant-loop-i decreases-loop-i
 returns c =
-    let e : c.before.loop.i ≡ 255 = omega arith in
-    numbers-read 255 c.before.before.args.numbers.now c.before.before.args.from (replicate {A = ℕ} 255 0)
-    c.before.loop.tallies refl
+    let e : c.loop-i.i ≡ 255 = omega arith in
+    numbers-read 255 c.args.numbers.now c.args.from (replicate {A = ℕ} 255 0)
+    c.loop-i.tallies refl
     (subst
-    (λ (n : ℕ). Copied n c.before.before.args.numbers.now c.before.before.args.from (replicate {A = ℕ} 255 0) 0
-    c.before.loop.tallies)
-    e c.before.loop.invariant.2)
+    (λ (n : ℕ). Copied n c.args.numbers.now c.args.from (replicate {A = ℕ} 255 0) 0
+    c.loop-i.tallies)
+    e c.loop-i.invariant.2)
 
-pub tallies-at-spec : {M : Type 1} → statement M
-tallies-at-spec =
+pub tallies_at_spec : {M : Type 1} → statement M
+tallies_at_spec =
     tie.close
     (tie.spec
-    invariant-loop
-    decreases-loop
+    invariant-loop-i
+    decreases-loop-i
     (λ c. (omega arith, refl, copied_none _ _ _ _))
     (λ c. omega arith)
     (λ c. omega arith)

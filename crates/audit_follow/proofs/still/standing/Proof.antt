@@ -8,33 +8,33 @@ use Rattle.audit_account.proofs.Standstill.{standing-none, standing-next}
 use Rattle.audit_follow.proofs.still.standing.Statement.{statement}
 use Rattle.audit_follow.proofs.still.standing.Tie as tie
 
-abbrev invariant-loop : tie.invariant-loop
-invariant-loop states from s i₀ i = (from ≤ i) × Standing states from s (i - from)
+abbrev invariant-loop-i : tie.invariant-loop-i
+invariant-loop-i states from s i₀ i = (from ≤ i) × Standing states from s (i - from)
 
-abbrev decreases-loop : tie.decreases-loop
-decreases-loop states from s i₀ i = length states - i
+abbrev decreases-loop-i : tie.decreases-loop-i
+decreases-loop-i states from s i₀ i = length states - i
 
-loop-again : tie.Need-loop-preserved invariant-loop decreases-loop
+loop-again : tie.Need-loop-i-preserved invariant-loop-i decreases-loop-i
 loop-again c =
-    let turn = c.before.before in (
-      omega (arith, turn.before.loop.invariant.0),
-      standing-next turn.before.loop.invariant.0 turn.loop-test.true
-          turn.before.loop.invariant.1 c.if1.false,
+    let turn = c in (
+      omega (arith, turn.loop-i.invariant.0),
+      standing-next turn.loop-i.invariant.0 turn.loop-i-test.true
+          turn.loop-i.invariant.1 c.if-states-i.false,
     )
 
-pub standing-spec : {M : Type 1} → statement M
-standing-spec =
+pub standing_spec : {M : Type 1} → statement M
+standing_spec =
     tie.close
     (tie.spec
-    invariant-loop
-    decreases-loop
+    invariant-loop-i
+    decreases-loop-i
     (λ c. (omega arith, standing-none _ _ _ _ c.requires refl))
     (λ c. omega arith)
     (λ c. omega arith)
-    (λ c. omega (arith, c.before.before.before.loop.invariant.0))
-    (λ c. c.before.before.before.loop.invariant.1)
+    (λ c. omega (arith, c.loop-i.invariant.0))
+    (λ c. c.loop-i.invariant.1)
     (λ c. omega arith)
     (λ c. omega arith)
     loop-again
-    (λ c. omega (arith, c.before.loop.invariant.0))
-    (λ c. c.before.loop.invariant.1))
+    (λ c. omega (arith, c.loop-i.invariant.0))
+    (λ c. c.loop-i.invariant.1))

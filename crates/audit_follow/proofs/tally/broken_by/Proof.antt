@@ -8,7 +8,7 @@ use Rattle.audit_follow.proofs.tally.broken_by.Tie as tie
 
 returns : tie.Need-returns
 unfolding broken_by
-returns c = ap₂ (λ (x y : Bool). x && not y) c.before.step-asks.ensures c.step-allows.ensures
+returns c = ap₂ (λ (x y : Bool). x && not y) c.step_asks-asks.ensures c.step_allows-allows.ensures
 
-pub broken-by-spec : {M : Type 1} → statement M
-broken-by-spec = tie.close (tie.spec (λ c κs. search rules) (λ c κs. search rules) returns)
+pub broken_by_spec : {M : Type 1} → statement M
+broken_by_spec = tie.close (tie.spec (λ c κs. search rules) (λ c κs. search rules) returns)

@@ -8,55 +8,55 @@ use Rattle.audit_account.proofs.Tallies.{first-is, first-none}
 use Rattle.audit_follow.proofs.tally.first_broken.Statement.{statement}
 use Rattle.audit_follow.proofs.tally.first_broken.Tie as tie
 
-abbrev invariant-loop : tie.invariant-loop
-invariant-loop book s t count i₀ i = (i ≤ count) × (first_of (broken_by book s t) i ≡ 0)
+abbrev invariant-loop-i : tie.invariant-loop-i
+invariant-loop-i book s t count i₀ i = (i ≤ count) × (first_of (broken_by book s t) i ≡ 0)
 
-abbrev decreases-loop : tie.decreases-loop
-decreases-loop book s t count i₀ i = count - i
+abbrev decreases-loop-i : tie.decreases-loop-i
+decreases-loop-i book s t count i₀ i = count - i
 
-loop-holds : tie.Need-loop-init invariant-loop decreases-loop
+loop-holds : tie.Need-loop-i-init invariant-loop-i decreases-loop-i
 unfolding first_of
 loop-holds c = (omega arith, refl)
 
-returns : tie.Need-returns invariant-loop decreases-loop
+returns : tie.Need-returns-then-broken_by invariant-loop-i decreases-loop-i
 unfolding book_broke
 returns c =
-    let turn = c.before.before in
-    let start = turn.before.before.before.before in
-    let within : turn.before.loop.i < steps_of start.args.book.now = omega (
+    let turn = c in
+    let start = turn in
+    let within : turn.loop-i.i < steps_of start.args.book.now = omega (
       arith,
-      turn.before.before.steps.ensures,
-      turn.loop-test.true,
+      turn.steps-count.ensures,
+      turn.loop-i-test.true,
     ) in
-    let one : turn.before.loop.i + 1 ≡ suc turn.before.loop.i = omega arith in
-    one ∙ first-is _ _ _ turn.before.loop.invariant.1 (sym c.before.broken-by.ensures ∙ c.if1.true) within
+    let one : turn.loop-i.i + 1 ≡ suc turn.loop-i.i = omega arith in
+    one ∙ first-is _ _ _ turn.loop-i.invariant.1 (sym c.broken_by.ensures ∙ c.if-broken_by.true) within
 
-returns-2 : tie.Need-returns-2 invariant-loop decreases-loop
+returns-2 : tie.Need-returns invariant-loop-i decreases-loop-i
 unfolding book_broke
 returns-2 c =
-    let start = c.before.before.before.before in
-    let count = c.before.before.steps.ensures in
-    let all : c.before.loop.i ≡ steps_of start.args.book.now = omega (arith, count, c.before.loop.invariant.0, c.loop-test.false) in
-    sym c.before.loop.invariant.1 ∙ ap (first_of (broken_by start.args.book.now start.args.s start.args.t)) all
+    let start = c in
+    let count = c.steps-count.ensures in
+    let all : c.loop-i.i ≡ steps_of start.args.book.now = omega (arith, count, c.loop-i.invariant.0, c.loop-i-test.false) in
+    sym c.loop-i.invariant.1 ∙ ap (first_of (broken_by start.args.book.now start.args.s start.args.t)) all
 
-pub first-broken-spec : {M : Type 1} → statement M
-first-broken-spec =
+pub first_broken_spec : {M : Type 1} → statement M
+first_broken_spec =
     tie.close
     (tie.spec
-    invariant-loop
-    decreases-loop
-    (λ c κs. c.before.requires)
+    invariant-loop-i
+    decreases-loop-i
+    (λ c κs. c.requires)
     loop-holds
-    (λ c κs. (c.before.before.before.before.requires, omega (arith, c.before.before.steps.ensures, c.loop-test.true)))
+    (λ c κs. (c.requires, omega (arith, c.steps-count.ensures, c.loop-i-test.true)))
     (λ c. omega arith)
     (λ c. omega (
       arith,
-      c.before.before.before.before.steps.ensures,
-      c.before.before.loop-test.true,
-      c.before.before.before.before.before.before.requires.few_steps,
+      c.steps-count.ensures,
+      c.loop-i-test.true,
+      c.requires.few_steps,
     ))
     returns
     (λ c. omega arith)
     (λ c. omega arith)
-    (λ c. (omega arith, first-none _ _ c.before.before.before.loop.invariant.1 (sym c.before.broken-by.ensures ∙ c.if1.false)))
+    (λ c. (omega arith, first-none _ _ c.loop-i.invariant.1 (sym c.broken_by.ensures ∙ c.if-broken_by.false)))
     returns-2)

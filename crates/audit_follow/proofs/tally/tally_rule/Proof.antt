@@ -7,33 +7,33 @@ use Rattle.audit_follow.proofs.tally.tally_rule.Statement.{statement}
 use Rattle.audit_follow.proofs.tally.tally_rule.Tie as tie
 
 -- places by name, each from one after it
-abbrev at-start : tie.After-so-far → tie.Start
-at-start c = c.before.before.before.before.before
+abbrev at-start : tie.After-so_far-1 → tie.Start
+at-start c = c.before.before.before.before.before.before
 
-add_kept : tie.Need-overflow-add-kept
+add_kept : tie.Need-overflow_add-kept
 add_kept c =
-    let keeps = c.before.before.before.step-asks.result && c.before.before.step-allows.result in
-    omega (arith, counted-fits keeps _ _ _ _ c.before.counted.ensures (at-start c).requires.2)
+    let keeps = c.step_asks-asks.result && c.step_allows-allows.result in
+    omega (arith, counted-fits keeps _ _ _ _ c.counted-more_kept.ensures (at-start c).requires.2)
 
-add-broken : tie.Need-overflow-add-broken
+add-broken : tie.Need-overflow_add-broken
 add-broken c =
-    let breaks = c.before.before.before.before.before.step-asks.result && not
-    c.before.before.before.before.step-allows.result in
+    let breaks = c.step_asks-asks.result && not
+    c.step_allows-allows.result in
     omega (
       arith,
-      counted-fits breaks _ _ _ _ c.before.counted2.ensures
-          (at-start c.before.before).requires.3,
+      counted-fits breaks _ _ _ _ c.counted-more_broken.ensures
+          (at-start c.before.before.before).requires.3,
     )
 
 returns : tie.Need-returns
 returns c =
-    let tested = c.before.before.before.before in
-    rule-tallied _ _ _ _ _ _ _ _ _ _ _ tested.before.step-asks.ensures tested.step-allows.ensures
-    c.before.before.before.counted.ensures
-    c.before.counted2.ensures
+    let tested = c in
+    rule-tallied _ _ _ _ _ _ _ _ _ _ _ tested.step_asks-asks.ensures tested.step_allows-allows.ensures
+    c.counted-more_kept.ensures
+    c.counted-more_broken.ensures
 
-pub tally-rule-spec : {M : Type 1} → statement M
-tally-rule-spec =
+pub tally_rule_spec : {M : Type 1} → statement M
+tally_rule_spec =
     tie.close
     (tie.spec
     (λ c κs. search rules)

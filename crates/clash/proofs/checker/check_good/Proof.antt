@@ -8,44 +8,44 @@ use Rattle.clash.proofs.checker.check_good.Statement.{statement}
 use Rattle.clash.proofs.checker.check_good.Tie as tie
 
 -- places by name, each from one after it
-abbrev at-start : tie.After-shared-slice-known3 → tie.Start
+abbrev at-start : tie.After-shared_slice_known-3-1 → tie.Start
 at-start c = c.before.before.before.before.before.before
 
-shared-slice-read-count : tie.Need-shared-slice-read-count
+shared-slice-read-count : tie.Need-bounds-sheet-6
 shared-slice-read-count c =
-    let start = at-start c in
-    has-count start.args.sheet.now start.pre
+    let start = c.before.before.before.before.before.before in
+    has-count start.args.sheet.now start.requires
 
-mark-requires : tie.Need-mark-requires
+mark-requires : tie.Need-mark-marks-requires
 mark-requires c κs =
-    let tested = c.before in
-    proposal-wider (omega (arith, tested.before.shared-slice-known3.given 6)) (tested.is-proposal.ensures.yes c.if1.true)
+    let tested = c in
+    proposal-wider (omega (arith, tested.shared_slice_known-3-1.given 6)) (tested.is_proposal-proposed.ensures.yes c.if-proposed.true)
 
-returns : tie.Need-returns
+returns : tie.Need-returns-then-proposed
 returns c =
-    let wiped = c.before.before.before.before.before.before in
-    let told = wiped.before.before.before.before.before.before.before.before.before.before in
-    let marked = told.before.before.before.before.before in
-    let tested = marked.before.before in
-    let start = at-start tested.before in
-    checked-weighed start.pre (tested.is-proposal.ensures.yes marked.before.if1.true) marked.mark.ensures
-    told.weigh.ensures
+    let wiped = c in
+    let told = wiped in
+    let marked = told in
+    let tested = marked in
+    let start = at-start tested.before.before.before.before.before.before.before.before.before.before.before.before.before.before.before.before.before.before.before.before.before.before.before.before in
+    checked-weighed start.requires (tested.is_proposal-proposed.ensures.yes marked.if-proposed.true) marked.mark-marks.ensures
+    told.weigh-answer.ensures
     wiped.clear.ensures
 
-returns-2 : tie.Need-returns-2
+returns-2 : tie.Need-returns
 returns-2 c =
-    let tested = c.before in
-    let start = at-start tested.before in
+    let tested = c in
+    let start = at-start tested.before.before in
     let a = start.args in
-    checked-misnumbered (lent_three a.table.now a.words.now a.scratch.now) start.pre tested.is-proposal.ensures
-    c.if1.false
+    checked-misnumbered (lent_three a.table.now a.words.now a.scratch.now) start.requires tested.is_proposal-proposed.ensures
+    c.if-proposed.false
 
-pub check-good-spec : {M : Type 1} → statement M
-check-good-spec =
+pub check_good_spec : {M : Type 1} → statement M
+check_good_spec =
     tie.close
     (tie.spec
     shared-slice-read-count
-    (λ c. omega (arith, c.shared-slice-known3.given 6))
+    (λ c. omega (arith, c.shared_slice_known-3-1.given 6))
     (λ c κs. search rules)
     mark-requires
     (λ c κs. search rules)

@@ -6,12 +6,12 @@ use Rattle.clash.proofs.slices.clear.Tie as tie
 
 returns : tie.Need-returns
 returns c =
-    let scratch = c.before.before in
-    let words = scratch.before.before.before.before in
-    let table = words.before.before.before.before in
-    let a = table.before.before.before.before.before.args in
+    let scratch = c in
+    let words = scratch in
+    let table = words in
+    let a = table.args in
     cleared-three a.table.now a.words.now a.scratch.now
-    table.wipe-states-from.ensures words.wipe-words-from.ensures scratch.wipe-states-from2.ensures
+    table.wipe_states_from.ensures words.wipe_words_from.ensures scratch.wipe_states_from-2.ensures
 
 pub clear_spec : {M : Type 1} → statement M
 clear_spec =

@@ -6,9 +6,9 @@ use Rattle.compile.proofs.build.put_list.Tie as tie
 
 returns : tie.Need-returns
 returns c =
-    let p = c.before.before.put-masks.ensures in
-    let m = c.before.before.before.before.masks-of.ensures in
+    let p = c.put_masks.ensures in
+    let m = c.masks_of-m.ensures in
     record { keeps = p.keeps; masks = record { held = p.first ∙ m.0; unheld = p.second ∙ m.1 } }
 
-pub put-list-spec : {M : Type 1} → statement M
-put-list-spec = tie.close (tie.spec (λ c κs. search rules) (λ c κs. search rules) (λ c. search rules) returns)
+pub put_list_spec : {M : Type 1} → statement M
+put_list_spec = tie.close (tie.spec (λ c κs. search rules) (λ c κs. search rules) (λ c. search rules) returns)

@@ -28,28 +28,28 @@ written : (start : tie.Start) (after : List ℕ) (next : ℕ) {k : Kind} → sta
     → wrote start after next start.args.kind
 written start after next e w = subst (wrote start after next) (sym e) w
 
-pub compile-spec : {M : Type 1} → statement M
-compile-spec =
+pub compile_spec : {M : Type 1} → statement M
+compile_spec =
     tie.close
     (tie.spec
     (λ c. search rules)
-    (λ c κs. let told = c.before in asked told.before.before.before.before told.enum_told.given.1)
+    (λ c κs. let told = c.before in asked told.before.before.before told.in-Limit.is)
     (λ c. search rules)
-    (λ c κs. let told = c.before in asked told.before.before.before.before told.enum-told2.given.1)
+    (λ c κs. let told = c.before in asked told.before.before.before told.in-FirstRule.is)
     (λ c. search rules)
-    (λ c κs. let told = c.before in asked told.before.before.before.before told.enum-told3.given.1)
+    (λ c κs. let told = c.before in asked told.before.before.before told.in-StepRule.is)
     (λ c. search rules)
-    (λ c κs. let told = c.before in asked told.before.before.before.before told.enum-told4.given.1)
-    (λ c. search rules)
-    (λ c. let told = c.before.before.before.before in
-    written told.before.before.before.before _ _ told.enum_told.given.1 c.before.before.limit.ensures)
+    (λ c κs. let told = c.before in asked told.before.before.before told.in-Promise.is)
     (λ c. search rules)
     (λ c. let told = c.before.before.before.before in
-    written told.before.before.before.before _ _ told.enum-told2.given.1 c.before.before.list.ensures)
+    written told.before.before.before _ _ told.in-Limit.is c.limit.ensures)
     (λ c. search rules)
     (λ c. let told = c.before.before.before.before in
-    written told.before.before.before.before _ _ told.enum-told3.given.1 c.before.before.step.ensures)
+    written told.before.before.before _ _ told.in-FirstRule.is c.list.ensures)
     (λ c. search rules)
     (λ c. let told = c.before.before.before.before in
-    written told.before.before.before.before _ _ told.enum-told4.given.1
-    (promise-written _ _ _ _ _ _ c.before.before.list2.ensures)))
+    written told.before.before.before _ _ told.in-StepRule.is c.step.ensures)
+    (λ c. search rules)
+    (λ c. let told = c.before.before.before.before in
+    written told.before.before.before _ _ told.in-Promise.is
+    (promise-written _ _ _ _ _ _ c.list-in-Promise.ensures)))

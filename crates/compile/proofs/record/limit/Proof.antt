@@ -6,37 +6,37 @@ use Rattle.compile.proofs.record.limit.Statement.{statement}
 use Rattle.compile.proofs.record.limit.Tie as tie
 
 -- the places of the calls, and the start seen from the first
-abbrev start_of : tie.After-limit-parts → tie.Start
+abbrev start_of : tie.After-limit_parts-p → tie.Start
 start_of c = c.before.before.before
 
-abbrev put : tie.After-least → tie.After-put-list
+abbrev put : tie.After-least-least → tie.After-put_list
 put c = c.before.before.before
 
-abbrev parts : tie.After-least → tie.After-limit-parts
+abbrev parts : tie.After-least-least → tie.After-limit_parts-p
 parts c = (put c).before.before
 
-put-list-requires : tie.Need-put-list-requires
+put-list-requires : tie.Need-put_list-requires
 put-list-requires c κs =
     let start = start_of c.before in
-    let h = start.pre.1 in
-    (limit-list _ _ _ c.before.limit-parts.ensures start.pre.0, omega arith)
+    let h = start.requires.1 in
+    (limit-list _ _ _ c.limit_parts-p.ensures start.requires.0, omega arith)
 
-put-bounds-requires : tie.Need-put-bounds-requires
+put-bounds-requires : tie.Need-put_bounds-requires
 put-bounds-requires c κs =
     let least = c.before.before in
     let h = (start_of (parts least)).requires.1 in
-    let e = (put least).put-list.ensures.keeps.long in
+    let e = (put least).put_list.ensures.keeps.long in
     omega arith
 
 returns : tie.Need-returns
 returns c =
-    let bounds = c.before.before in
-    let least = bounds.before.before.before in
-    limit-written _ _ _ (parts least).limit-parts.ensures _ _ _ _ _ (put least).put-list.ensures least.least.ensures
-    bounds.put-bounds.ensures
+    let bounds = c in
+    let least = bounds.before.before.before.before.before in
+    limit-written _ _ _ (parts least).limit_parts-p.ensures _ _ _ _ _ (put least).put_list.ensures least.least-least.ensures
+    bounds.put_bounds.ensures
 
-pub limit-spec : {M : Type 1} → statement M
-limit-spec =
+pub limit_spec : {M : Type 1} → statement M
+limit_spec =
     tie.close
     (tie.spec
     (λ c κs. search rules)

@@ -18,13 +18,13 @@ use Rattle.compile.proofs.sections.compile.Tie as tie
 abbrev from-counts : tie.After-counts → tie.Start
 from-counts c = c.before.before.before.before
 
-abbrev counted : tie.After-section → tie.After-counts
+abbrev counted : tie.After-section-first_rules → tie.After-counts
 counted c = c.before.before.before.before.before
 
-abbrev limits : tie.After-section2 → tie.After-section
+abbrev limits : tie.After-section-step_rules → tie.After-section-first_rules
 limits c = c.before.before.before.before.before
 
-abbrev firsts : tie.After-section3 → tie.After-section2
+abbrev firsts : tie.After-section-promises → tie.After-section-step_rules
 firsts c = c.before.before.before.before.before
 
 -- what the start asks
@@ -32,34 +32,34 @@ asks : (start : tie.Start) → (first_fault start.args.sheet.now ≡ none) × (r
 asks start = let good = start.requires.0 in (good, (good-header _ good).least)
 
 -- the book keeps its length
-limits-long : (c : tie.After-section) → length c.section.new.1.1.1.1.0 ≡ book_size
-limits-long c = c.section.ensures.keeps.long ∙ (counted c).counts.ensures.1
+limits-long : (c : tie.After-section-first_rules) → length c.section-first_rules.new.book ≡ book_size
+limits-long c = c.section-first_rules.ensures.keeps.long ∙ (counted c).counts.ensures.1
 
-firsts-long : (c : tie.After-section2) → length c.section2.new.1.1.1.1.0 ≡ book_size
-firsts-long c = c.section2.ensures.keeps.long ∙ limits-long (limits c)
+firsts-long : (c : tie.After-section-step_rules) → length c.section-step_rules.new.book ≡ book_size
+firsts-long c = c.section-step_rules.ensures.keeps.long ∙ limits-long (limits c)
 
-steps-long : (c : tie.After-section3) → length c.section3.new.1.1.1.1.0 ≡ book_size
-steps-long c = c.section3.ensures.keeps.long ∙ firsts-long (firsts c)
+steps-long : (c : tie.After-section-promises) → length c.section-promises.new.book ≡ book_size
+steps-long c = c.section-promises.ensures.keeps.long ∙ firsts-long (firsts c)
 
-section-requires : tie.Need-section-requires
+section-requires : tie.Need-section-first_rules-requires
 unfolding byte
 section-requires c κs =
     let n = c.before.before.before.before in
     record { good = (asks (from-counts n)).0; long = n.counts.ensures.1; all = refl; begins = refl }
 
-section-requires-2 : tie.Need-section-requires-2
+section-requires-2 : tie.Need-section-step_rules-requires
 unfolding byte firsts_at
 section-requires-2 c κs =
     let l = c.before.before.before.before in
-    record { good = (asks (from-counts (counted l))).0; long = limits-long l; all = refl; begins = l.section.ensures.there }
+    record { good = (asks (from-counts (counted l))).0; long = limits-long l; all = refl; begins = l.section-first_rules.ensures.there }
 
-section-requires-3 : tie.Need-section-requires-3
+section-requires-3 : tie.Need-section-promises-requires
 unfolding byte steps_at
 section-requires-3 c κs =
     let f = c.before.before.before.before in
-    record { good = (asks (from-counts (counted (limits f)))).0; long = firsts-long f; all = refl; begins = f.section2.ensures.there }
+    record { good = (asks (from-counts (counted (limits f)))).0; long = firsts-long f; all = refl; begins = f.section-step_rules.ensures.there }
 
-section-requires-4 : tie.Need-section-requires-4
+section-requires-4 : tie.Need-section-requires
 unfolding byte promises_at
 section-requires-4 c κs =
     let t = c.before.before.before.before in
@@ -67,28 +67,28 @@ section-requires-4 c κs =
       good = (asks (from-counts (counted (limits (firsts t))))).0;
       long = steps-long t;
       all = refl;
-      begins = t.section3.ensures.there;
+      begins = t.section-promises.ensures.there;
     }
 
 returns : tie.Need-returns
 unfolding byte
 returns c =
-    let p = c.before.before in
-    let t = p.before.before.before.before.before in
+    let p = c in
+    let t = p.before.before.before.before.before.before.before in
     let f = firsts t in
     let l = limits f in
     let n = counted l in
     let known = n.before.before.before in
-    let s = known.before.args.sheet.now in
+    let s = known.args.sheet.now in
     let good = (asks known.before).0 in
-    let f5 : firsts_in s ≤ most_rules = omega (arith, known.shared-slice-known.given firsts_byte) in
-    let f6 : steps_in s ≤ most_rules = omega (arith, known.shared-slice-known.given steps_byte) in
+    let f5 : firsts_in s ≤ most_rules = omega (arith, known.shared_slice_known-1.given firsts_byte) in
+    let f6 : steps_in s ≤ most_rules = omega (arith, known.shared_slice_known-1.given steps_byte) in
     written-book s _ good f5 f6
     (all-written s _ _ _ _ _ _ _ _ _ (good-header s good).few_limits f5 f6 n.counts.ensures.0 n.counts.ensures.1
-    l.section.ensures f.section2.ensures t.section3.ensures p.section4.ensures)
+    l.section-first_rules.ensures f.section-step_rules.ensures t.section-promises.ensures p.section.ensures)
 
-pub compile-spec : {M : Type 1} → statement M
-compile-spec =
+pub compile_spec : {M : Type 1} → statement M
+compile_spec =
     tie.close
     (tie.spec
     (λ c κs. search rules)

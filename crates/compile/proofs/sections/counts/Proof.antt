@@ -10,16 +10,16 @@ use Rattle.compile.proofs.sections.counts.Statement.{statement}
 use Rattle.compile.proofs.sections.counts.Tie as tie
 
 -- the start, seen from each read
-abbrev from-letters : tie.After-shared-slice-known2 → tie.Start
+abbrev from-letters : tie.After-shared_slice_known-2-1 → tie.Start
 from-letters c = c.before.before.before
 
-abbrev from-limits : tie.After-shared-slice-known3 → tie.Start
+abbrev from-limits : tie.After-shared_slice_known-3-1 → tie.Start
 from-limits c = from-letters c.before
 
-abbrev from-firsts : tie.After-shared-slice-known4 → tie.Start
+abbrev from-firsts : tie.After-shared_slice_known-4-1 → tie.Start
 from-firsts c = from-limits c.before
 
-abbrev from-steps : tie.After-shared-slice-known5 → tie.Start
+abbrev from-steps : tie.After-shared_slice_known-5-1 → tie.Start
 from-steps c = from-firsts c.before
 
 -- a good sheet has its header
@@ -28,22 +28,22 @@ header c = (good-header c.args.sheet.now c.requires.0).least
 
 returns : tie.Need-returns
 unfolding byte
-returns c = c.before.before.put-counts.ensures
+returns c = c.put_counts.ensures
 
-pub counts-spec : {M : Type 1} → statement M
-counts-spec =
+pub counts_spec : {M : Type 1} → statement M
+counts_spec =
     tie.close
     (tie.spec
-    (λ c. omega (arith, header (from-letters c)))
-    (λ c. omega (arith, c.shared-slice-known2.given letters_byte))
-    (λ c. omega (arith, header (from-limits c)))
-    (λ c. omega (arith, c.shared-slice-known3.given limits_byte))
-    (λ c. omega (arith, header (from-firsts c)))
-    (λ c. omega (arith, c.shared-slice-known4.given firsts_byte))
-    (λ c. omega (arith, header (from-steps c)))
-    (λ c. omega (arith, c.shared-slice-known5.given steps_byte))
+    (λ c. omega (arith, header (c.before.before.before)))
+    (λ c. omega (arith, c.shared_slice_known-2-1.given letters_byte))
+    (λ c. omega (arith, header (c.before.before.before.before)))
+    (λ c. omega (arith, c.shared_slice_known-3-1.given limits_byte))
+    (λ c. omega (arith, header (c.before.before.before.before.before)))
+    (λ c. omega (arith, c.shared_slice_known-4-1.given firsts_byte))
+    (λ c. omega (arith, header (c.before.before.before.before.before.before)))
+    (λ c. omega (arith, c.shared_slice_known-5-1.given steps_byte))
     (λ c. omega (arith, header (from-steps c.before)))
-    (λ c. omega (arith, c.shared-slice-known6.given promises_byte))
+    (λ c. omega (arith, c.shared_slice_known-6-1.given promises_byte))
     (λ c κs. search rules)
     (λ c. search rules)
     returns)

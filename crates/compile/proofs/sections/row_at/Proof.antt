@@ -12,8 +12,8 @@ use Rattle.compile.proofs.sections.row_at.Tie as tie
 abbrev at : tie.Start → Kind → ℕ
 at start k = row_at (kind_of k) start.args.i
 
-pub row-at-spec : {M : Type 1} → statement M
-row-at-spec =
+pub row_at_spec : {M : Type 1} → statement M
+row_at_spec =
     tie.close
     (tie.spec
     (λ c. search rules)
@@ -24,7 +24,7 @@ row-at-spec =
     (λ c κs. search rules)
     (λ c. search rules)
     (λ c κs. search rules)
-    (λ c. c.limit-at.ensures ∙ ap (at c.before.before.before) (sym c.before.enum_told.given.1))
-    (λ c. c.first-at.ensures ∙ ap (at c.before.before.before) (sym c.before.enum-told2.given.1))
-    (λ c. c.step-at.ensures ∙ ap (at c.before.before.before) (sym c.before.enum-told3.given.1))
-    (λ c. c.promise-at.ensures ∙ ap (at c.before.before.before) (sym c.before.enum-told4.given.1)))
+    (λ c. c.limit_at.ensures ∙ ap (at c.before.before) (sym c.in-Limit.is))
+    (λ c. c.first_at.ensures ∙ ap (at c.before.before) (sym c.in-FirstRule.is))
+    (λ c. c.step_at.ensures ∙ ap (at c.before.before) (sym c.in-StepRule.is))
+    (λ c. c.promise_at.ensures ∙ ap (at c.before.before) (sym c.in-Promise.is)))

@@ -10,66 +10,66 @@ use Rattle.compile.proofs.SectionLaws.{sound, row_within, none_written, row_more
 use Rattle.compile.proofs.sections.section.Statement.{statement}
 use Rattle.compile.proofs.sections.section.Tie as tie
 
-abbrev invariant-loop : tie.invariant-loop
-invariant-loop kind sheet count from book₀ records at₀ i₀ book at i = (i ≤ records) × Section (kind_of kind) sheet book₀ book i at
+abbrev invariant-loop-i : tie.invariant-loop-i
+invariant-loop-i kind sheet count from book₀ records at₀ i₀ book at i = (i ≤ records) × Section (kind_of kind) sheet book₀ book i at
 
-abbrev decreases-loop : tie.decreases-loop
-decreases-loop kind sheet count from book₀ records at₀ i₀ book at i = records - i
+abbrev decreases-loop-i : tie.decreases-loop-i
+decreases-loop-i kind sheet count from book₀ records at₀ i₀ book at i = records - i
 
 -- a turn that has begun, seen from behind its row's place, and the start
-abbrev turn : tie.After-row-at invariant-loop decreases-loop → tie.In-loop invariant-loop decreases-loop
+abbrev turn : tie.After-row_at-row invariant-loop-i decreases-loop-i → tie.In-loop-i invariant-loop-i decreases-loop-i
 turn c = c.before
 
-abbrev start : tie.In-loop invariant-loop decreases-loop → tie.Start invariant-loop decreases-loop
+abbrev start : tie.In-loop-i invariant-loop-i decreases-loop-i → tie.Start invariant-loop-i decreases-loop-i
 start c = c.before.before.before.before
 
-compile-requires : tie.Need-compile-requires invariant-loop decreases-loop
+compile-requires : tie.Need-compile-at-requires invariant-loop-i decreases-loop-i
 compile-requires c κs =
     let row = c.before in
-    let l = (turn row).before.loop in
+    let l = (turn row).loop-i in
     let entry = start (turn row) in
     let s = entry.args.sheet.now in
     let kind = kind_of entry.args.kind in
-    let all = entry.pre.all in
-    let h : l.i < records_of kind s = omega (arith, (turn row).loop-test.true) in
-    let long : length l.book ≡ book_size = l.inv.1.keeps.long ∙ entry.pre.long in
-    let room = row_within s entry.pre.good kind l.i h (omega arith) in
+    let all = entry.requires.all in
+    let h : l.i < records_of kind s = omega (arith, (turn row).loop-i-test.true) in
+    let long : length l.book ≡ book_size = l.invariant.1.keeps.long ∙ entry.requires.long in
+    let room = row_within s entry.requires.good kind l.i h (omega arith) in
     let within : row_at kind l.i + width_of kind ≤ length l.book = omega arith in (
-      subst (Sound kind s) (sym l.inv.1.there) (sound s entry.pre.good kind l.i h),
-      subst (λ (row : ℕ). row + width_of kind ≤ length l.book) (sym row.row_at.ensures) within,
+      subst (Sound kind s) (sym l.invariant.1.there) (sound s entry.requires.good kind l.i h),
+      subst (λ (row : ℕ). row + width_of kind ≤ length l.book) (sym row.row_at-row.ensures) within,
     )
 
-loop-again : tie.Need-loop-preserved invariant-loop decreases-loop
+loop-again : tie.Need-loop-i-preserved invariant-loop-i decreases-loop-i
 loop-again c =
-    let w = c.before.before.compile in
+    let w = c.compile-at in
     let row = c.before.before.before.before in
     let a = (start (turn row)).args in
-    let l = (turn row).before.loop in
+    let l = (turn row).loop-i in
     let kind = kind_of a.kind in
-    let written = subst (λ (row : ℕ). RowWritten kind a.sheet.now l.at l.book row w.new.1.1.1.0 w.result)
-    row.row_at.ensures w.ensures in
-    (omega arith, row_more kind _ _ _ _ l.i l.at w.result l.inv.1 written)
+    let written = subst (λ (row : ℕ). RowWritten kind a.sheet.now l.at l.book row w.new.book w.result)
+    row.row_at-row.ensures w.ensures in
+    (omega arith, row_more kind _ _ _ _ l.i l.at w.result l.invariant.1 written)
 
-returns : tie.Need-returns invariant-loop decreases-loop
+returns : tie.Need-returns invariant-loop-i decreases-loop-i
 returns c =
-    let a = c.before.before.before.before.args in
-    let l = c.before.loop in
-    let h = c.loop-test.false in
+    let a = c.args in
+    let l = c.loop-i in
+    let h = c.loop-i-test.false in
     let k = l.invariant.0 in
     let e : l.i ≡ a.count = omega arith in
     subst (λ (x : ℕ). Section (kind_of a.kind) a.sheet.now a.book.now l.book x l.at) e l.invariant.1
 
-pub section-spec : {M : Type 1} → statement M
-section-spec =
+pub section_spec : {M : Type 1} → statement M
+section_spec =
     tie.close
     (tie.spec
-    invariant-loop
-    decreases-loop
-    (λ c. let entry = c.before.before in (omega arith, none_written _ _ _ _ entry.requires.begins))
+    invariant-loop-i
+    decreases-loop-i
+    (λ c. let entry = c in (omega arith, none_written _ _ _ _ entry.requires.begins))
     (λ c κs. omega arith)
     compile-requires
     (λ c. omega arith)
     (λ c. omega arith)
     loop-again
-    (λ c. c.before.loop.invariant.1.keeps.long)
+    (λ c. c.loop-i.invariant.1.keeps.long)
     returns)

@@ -7,8 +7,8 @@ use Rattle.ground.proofs.Bits.{bit_shifted}
 use Rattle.ground.proofs.marks.met.Statement.{statement}
 use Rattle.ground.proofs.marks.met.Tie as tie
 
-pub met-spec : {M : Type 1} → statement M
-met-spec =
+pub met_spec : {M : Type 1} → statement M
+met_spec =
     tie.close
     (tie.spec
     (λ c. search rules)

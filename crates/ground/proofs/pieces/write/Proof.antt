@@ -6,26 +6,26 @@ use Rattle.ground.proofs.Writing.{Copied, copied_none, copied_more, copied-full,
 use Rattle.ground.proofs.pieces.write.Statement.{statement}
 use Rattle.ground.proofs.pieces.write.Tie as tie
 
-abbrev invariant-loop : tie.invariant-loop
-invariant-loop slice₀ at piece i₀ to₀ slice i to = Copied slice₀ slice at piece i to
+abbrev invariant-loop-i : tie.invariant-loop-i
+invariant-loop-i slice₀ at piece i₀ to₀ slice i to = Copied slice₀ slice at piece i to
 
-abbrev decreases-loop : tie.decreases-loop
-decreases-loop slice₀ at piece i₀ to₀ slice i to = length piece - i
+abbrev decreases-loop-i : tie.decreases-loop-i
+decreases-loop-i slice₀ at piece i₀ to₀ slice i to = length piece - i
 
 pub write_spec : {M : Type 1} → statement M
 write_spec =
     tie.close
     (tie.spec
-    invariant-loop
-    decreases-loop
+    invariant-loop-i
+    decreases-loop-i
     (λ c. copied_none _ _ _)
-    (λ c. c.before.before.loop.invariant.long)
-    (λ c. copied-full c.before.before.loop.invariant c.if1.true)
+    (λ c. c.before.before.loop-i.invariant.long)
+    (λ c. copied-full c.before.before.loop-i.invariant c.if-slice-to.true)
     (λ c. omega arith)
     (λ c. omega arith)
     (λ c. omega arith)
     (λ c. omega arith)
     (λ c. omega arith)
-    (λ c. copied_more c.before.before.before.loop.invariant c.before.before.loop-test.true)
-    (λ c. c.before.loop.invariant.long)
-    (λ c. copied_all c.before.loop.invariant c.loop-test.false))
+    (λ c. copied_more c.before.before.before.loop-i.invariant c.before.before.loop-i-test.true)
+    (λ c. c.before.loop-i.invariant.long)
+    (λ c. copied_all c.before.loop-i.invariant c.loop-i-test.false))

@@ -6,8 +6,8 @@ use Rattle.ground.proofs.States.{letter-fits}
 use Rattle.ground.proofs.state.bit_of.Statement.{statement}
 use Rattle.ground.proofs.state.bit_of.Tie as tie
 
-pub bit-of-spec : {M : Type 1} → statement M
-bit-of-spec =
+pub bit_of_spec : {M : Type 1} → statement M
+bit_of_spec =
     tie.close
     (tie.spec
     (λ c. search rules)

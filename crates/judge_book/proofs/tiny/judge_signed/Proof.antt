@@ -10,54 +10,54 @@ use Rattle.judge_book.proofs.tiny.judge_signed.Statement.{statement}
 use Rattle.judge_book.proofs.tiny.judge_signed.Tie as tie
 
 -- from where striking is done: where the signs are written, and the entry
-abbrev filled : tie.After-strike-signed → tie.After-fill
-filled c = c.before.before.before.before.before.before
+abbrev filled : tie.After-strike_signed-left → tie.After-fill
+filled c = c.before.before.before.before
 
-abbrev start : tie.After-strike-signed → tie.Start
-start c = (filled c).before.before.before.before.before.before.before.before.before
+abbrev start : tie.After-strike_signed-left → tie.Start
+start c = (filled c).before.before.before.before.before.before.before.before
 
 -- places by name, each from one after it
-abbrev at-strike-signed : tie.After-keep-signed-arg3 → tie.After-strike-signed
-at-strike-signed c = c.before.before.before.before.before.before
+abbrev at-strike-signed : tie.After-keep_signed-arg-2-1 → tie.After-strike_signed-left
+at-strike-signed c = c.before.before.before.before.before
 
-abbrev at-start : tie.After-fill-arg2 → tie.Start
-at-start c = c.before.before.before.before.before.before.before.before
+abbrev at-start : tie.After-fill-arg-1 → tie.Start
+at-start c = c.before.before.before.before.before.before.before
 
-abbrev at-judge-kept-signed : tie.After-slice-known16 → tie.After-judge-kept-signed
+abbrev at-judge-kept-signed : tie.After-slice_known-13-1 → tie.After-judge_kept_signed
 at-judge-kept-signed c = c.before.before.before.before.before.before.before.before
 
-abbrev at-keep-signed : tie.After-judge-kept-signed-arg5 → tie.After-keep-signed
-at-keep-signed c = c.before.before.before.before.before.before.before.before.before
+abbrev at-keep-signed : tie.After-judge_kept_signed-arg-4-1 → tie.After-keep_signed-k
+at-keep-signed c = c.before.before.before.before.before.before.before.before
 
 fill-requires : tie.Need-fill-requires
 fill-requires c κs = let pre = (at-start c).requires in (reached-lawful pre.0, pre.2)
 
-strike-signed-requires : tie.Need-strike-signed-requires
+strike-signed-requires : tie.Need-strike_signed-left-requires
 strike-signed-requires c κs =
-    let at = c.before.before.before.before.before in
+    let at = c.before.before.before in
     let pre = (at-start at.before).requires in
     (reached-strikable pre.0, at.fill.ensures.0, pre.1)
 
-judge-struck-requires : tie.Need-judge-struck-requires
+judge-struck-requires : tie.Need-judge_struck-requires
 judge-struck-requires c κs =
     let at = c.before.before.before.before.before.before in
-    reached-orderable (start at).requires.0 at.strike-signed.ensures.words_long
+    reached-orderable (start at).requires.0 at.strike_signed-left.ensures.words_long
 
-returns : tie.Need-returns
+returns : tie.Need-returns-then-left-eq0
 returns c =
-    let struck = c.before.before.before.before.before.before in
-    let test = struck.before.before.before.before in
-    let at = test.before.before.before in
+    let struck = c in
+    let test = struck in
+    let at = test.before.before.before.before.before.before.before.before.before.before.before.before.before in
     let pre = (start at).requires.0 in
-    let told = at.strike-signed.ensures in
-    cannot_judged (start at).args.run.now pre.room pre.lists told.marked test.if1.true told.words_long
-    struck.judge-struck.ensures
+    let told = at.strike_signed-left.ensures in
+    cannot_judged (start at).args.run.now pre.room pre.lists told.marked test.if-left-eq0.true told.words_long
+    struck.judge_struck.ensures
 
-keep-signed-requires : tie.Need-keep-signed-requires
+keep-signed-requires : tie.Need-keep_signed-k-requires
 keep-signed-requires c κs =
     let at = at-strike-signed c in
-    let pre = (start at).pre in
-    let told = at.strike-signed.ensures in
+    let pre = (start at).requires in
+    let told = at.strike_signed-left.ensures in
     let (signed, signs-long) = (filled at).fill.ensures in (
       reached-lawful pre.0,
       reached-keepable pre.0 told.words_long,
@@ -66,33 +66,33 @@ keep-signed-requires c κs =
       reached-front pre.0 told.marked,
     )
 
-judge-kept-signed-requires : tie.Need-judge-kept-signed-requires
+judge-kept-signed-requires : tie.Need-judge_kept_signed-requires
 judge-kept-signed-requires c κs =
     let kept = at-keep-signed c in
-    let some_left = kept.before.before.before.before in
-    let at = some_left.before.before.before in
-    let pre = (start at).pre in
-    let told = at.strike-signed.ensures in
-    let front = kept.keep-signed.ensures.0 in
-    let known = reached-kept pre.0 told.marked told.words_long some_left.if1.left front in
-    (known, kept.keep-signed.ensures.1, omega (arith, pre.1, front.few))
+    let some_left = kept in
+    let at = some_left.before.before.before.before.before.before in
+    let pre = (start at).requires in
+    let told = at.strike_signed-left.ensures in
+    let front = kept.keep_signed-k.ensures.0 in
+    let known = reached-kept pre.0 told.marked told.words_long some_left.if-left-eq0.false front in
+    (known, kept.keep_signed-k.ensures.1, omega (arith, pre.1, front.few))
 
-signs-as-long : tie.Need-same-length-9
+signs-as-long : tie.Need-shape_of-signs
 signs-as-long c =
     let judged = at-judge-kept-signed c in
     let kept = at-keep-signed judged.before in
     let at = at-strike-signed kept.before in
-    omega (arith, kept.keep-signed.ensures.2, (filled at).fill.ensures.1)
+    omega (arith, kept.keep_signed-k.ensures.2, (filled at).fill.ensures.1)
 
-returns-2 : tie.Need-returns-2
+returns-2 : tie.Need-returns
 returns-2 c =
     let judged = at-judge-kept-signed c in
     let kept = at-keep-signed judged.before in
-    let told = (at-strike-signed kept.before).strike-signed.ensures in
-    judged-alike (kept-alike told.words_long kept.keep-signed.ensures.0) judged.judge-kept-signed.ensures
+    let told = (at-strike-signed kept.before).strike_signed-left.ensures in
+    judged-alike (kept-alike told.words_long kept.keep_signed-k.ensures.0) judged.judge_kept_signed.ensures
 
-pub judge-signed-spec : {M : Type 1} → statement M
-judge-signed-spec =
+pub judge_signed_spec : {M : Type 1} → statement M
+judge_signed_spec =
     tie.close
     (tie.spec
     fill-requires

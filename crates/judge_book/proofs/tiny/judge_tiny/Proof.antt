@@ -7,13 +7,13 @@ use Rattle.rules_signs.proofs.Rowing.{lent-signs}
 use Rattle.judge_book.proofs.tiny.judge_tiny.Statement.{statement}
 use Rattle.judge_book.proofs.tiny.judge_tiny.Tie as tie
 
-judge-signed-requires : tie.Need-judge-signed-requires
+judge-signed-requires : tie.Need-judge_signed-requires
 judge-signed-requires c κs =
-    let pre = c.before.before.before.before.before.before.before.before.before.before.requires in
+    let pre = c.requires in
     (pre.0, omega (arith, pre.1), lent-signs tiny_signs (omega arith))
 
-pub judge-tiny-spec : {M : Type 1} → statement M
-judge-tiny-spec =
+pub judge_tiny_spec : {M : Type 1} → statement M
+judge_tiny_spec =
     tie.close
     (tie.spec
     (λ c. search rules)

@@ -6,20 +6,20 @@ use Rattle.judge_book.proofs.tiny.keep_signed.Statement.{statement}
 use Rattle.judge_book.proofs.tiny.keep_signed.Tie as tie
 
 -- places by name, each from one after it
-abbrev at-start : tie.After-slice-known2 → tie.Start
+abbrev at-start : tie.After-slice_known-2-1 → tie.Start
 at-start c = c.before.before.before.before
 
-returns : tie.Need-returns
-returns c = let pre = (at-start c.before).requires in (pre.4 c.if1.true, pre.2, refl)
+returns : tie.Need-returns-then-left-r
+returns c = let pre = (at-start c.before).requires in (pre.4 c.if-left-r.true, pre.2, refl)
 
 fill-requires : tie.Need-fill-requires
 fill-requires c κs =
-    let kept = c.before.before.before.before in
+    let kept = c.before.before.before in
     let pre = (at-start kept.before.before.before).requires in
-    (front-lawful pre.0 kept.keep.ensures, pre.3)
+    (front-lawful pre.0 kept.keep-k.ensures, pre.3)
 
-pub keep-signed-spec : {M : Type 1} → statement M
-keep-signed-spec =
+pub keep_signed_spec : {M : Type 1} → statement M
+keep_signed_spec =
     tie.close
     (tie.spec
     returns

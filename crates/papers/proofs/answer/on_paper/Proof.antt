@@ -4,5 +4,5 @@ use Rattle.papers.specs.Paper.{on_paper}
 use Rattle.papers.proofs.answer.on_paper.Statement.{statement}
 use Rattle.papers.proofs.answer.on_paper.Tie as tie
 
-pub on-paper-spec : {M : Type 1} → statement M
-on-paper-spec = tie.close (tie.spec (λ c. ap on_paper (sym c.if1.true)) (λ c. ap on_paper (sym c.if1.false)))
+pub on_paper_spec : {M : Type 1} → statement M
+on_paper_spec = tie.close (tie.spec (λ c. ap on_paper (sym c.if-accepted.true)) (λ c. ap on_paper (sym c.if-accepted.false)))

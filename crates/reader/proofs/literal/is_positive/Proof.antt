@@ -12,7 +12,7 @@ use Rattle.reader.proofs.literal.is_positive.Tie as tie
 
 returns : tie.Need-returns
 returns c =
-    ap (λ (n : ℕ). le_z (pos 0) (to_z w8 n)) (bits_of c.signed.ensures c.before.ranges.b) ∙ sign-is-positive c.before.args.b
+    ap (λ (n : ℕ). le_z (pos 0) (to_z w8 n)) (bits_of c.signed.ensures c.ranges.b) ∙ sign-is-positive c.args.b
 
-pub is-positive-spec : {M : Type 1} → statement M
-is-positive-spec = tie.close (tie.spec (λ c κs. search rules) returns)
+pub is_positive_spec : {M : Type 1} → statement M
+is_positive_spec = tie.close (tie.spec (λ c κs. search rules) returns)

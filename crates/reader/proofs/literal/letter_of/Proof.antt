@@ -12,23 +12,23 @@ use Rattle.reader.proofs.literal.letter_of.Tie as tie
 
 size-requires : tie.Need-size-requires
 size-requires c κs =
-    let b = bits_of c.before.signed.ensures c.before.before.ranges.b in
+    let b = bits_of c.signed-value.ensures c.ranges.b in
     subst (λ (n : ℕ). to_z w8 n ≡ negsuc 127 → ⊥) (sym b)
-    (not_least c.before.before.args.b c.before.before.ranges.b (λ e. c.if1.false (b ∙ e)))
+    (not_least c.args.b c.ranges.b (λ e. c.if-value.false (b ∙ e)))
 
-returns-2 : tie.Need-returns-2
+returns-2 : tie.Need-returns
 returns-2 c =
     let s = c.before.before.before in
     c.size.ensures
-    ∙ ap (λ (n : ℕ). nat_abs (to_z w8 n)) (bits_of c.before.before.signed.ensures s.ranges.b)
+    ∙ ap (λ (n : ℕ). nat_abs (to_z w8 n)) (bits_of c.signed-value.ensures s.ranges.b)
     ∙ size-is-letter s.args.b s.ranges.b.fits
 
-pub letter-of-spec : {M : Type 1} → statement M
+pub letter_of_spec : {M : Type 1} → statement M
 unfolding positive size
-letter-of-spec =
+letter_of_spec =
     tie.close
     (tie.spec
     (λ c κs. search rules)
-    (λ c. ap size (sym c.if1.true ∙ bits_of c.before.signed.ensures c.before.before.ranges.b))
+    (λ c. ap size (sym c.if-value.true ∙ bits_of c.signed-value.ensures c.ranges.b))
     size-requires
     returns-2)

@@ -6,14 +6,14 @@ use Rattle.reader.proofs.Literals.{difference-fits, difference-fits-8, differenc
 use Rattle.reader.proofs.literal.signed.Statement.{statement}
 use Rattle.reader.proofs.literal.signed.Tie as tie
 
-pub signed-spec : {M : Type 1} → statement M
+pub signed_spec : {M : Type 1} → statement M
 unfolding signed_of
-signed-spec =
+signed_spec =
     tie.close
     (tie.spec
     (λ c. search rules)
     (λ c. search rules)
-    (λ c. difference-fits c.before.args.b c.if1.false c.before.ranges.b.fits)
-    (λ c. difference-fits-8 c.before.args.b c.if1.false c.before.ranges.b.fits)
+    (λ c. difference-fits c.args.b c.if-b-lt128.false c.ranges.b.fits)
+    (λ c. difference-fits-8 c.args.b c.if-b-lt128.false c.ranges.b.fits)
     (λ c. refl)
-    (λ c. difference-is-signed c.before.args.b c.if1.false c.before.ranges.b.fits))
+    (λ c. difference-is-signed c.args.b c.if-b-lt128.false c.ranges.b.fits))

@@ -12,9 +12,9 @@ use Rattle.reader.proofs.literal.signed_below.Tie as tie
 returns : tie.Need-returns
 returns c =
     let s = c.before.before in
-    ap (λ (n : ℕ). lt_z (to_z w8 n) (to_z w8 (of_z w8 c.signed2.result))) (bits_of c.before.signed.ensures s.ranges.a)
-    ∙ ap (λ (n : ℕ). lt_z (to_z w8 s.args.a) (to_z w8 n)) (bits_of c.signed2.ensures s.ranges.b)
+    ap (λ (n : ℕ). lt_z (to_z w8 n) (to_z w8 (of_z w8 c.signed-2.result))) (bits_of c.signed.ensures s.ranges.a)
+    ∙ ap (λ (n : ℕ). lt_z (to_z w8 s.args.a) (to_z w8 n)) (bits_of c.signed-2.ensures s.ranges.b)
     ∙ order-is-below s.args.a s.args.b s.ranges.a.fits s.ranges.b.fits
 
-pub signed-below-spec : {M : Type 1} → statement M
-signed-below-spec = tie.close (tie.spec (λ c κs. search rules) (λ c κs. search rules) returns)
+pub signed_below_spec : {M : Type 1} → statement M
+signed_below_spec = tie.close (tie.spec (λ c κs. search rules) (λ c κs. search rules) returns)

@@ -6,22 +6,22 @@ use Rattle.reader.proofs.Literals.{read_back, negative, not_negative}
 use Rattle.reader.proofs.literal.size.Statement.{statement}
 use Rattle.reader.proofs.literal.size.Tie as tie
 
-cast-result : tie.Need-overflow-cast-result
+cast-result : tie.Need-overflow_cast-result
 cast-result c =
-    let d = negative c.before.args.x c.before.ranges.x c.before.requires c.if1.true in
+    let d = negative c.args.x c.ranges.x c.requires c.if-x-lt0.true in
     (d.upward, d.small)
 
-returns : tie.Need-returns
+returns : tie.Need-returns-then-x-lt0
 returns c =
-    (negative c.before.args.x c.before.ranges.x c.before.requires c.if1.true).same
-    ∙ ap nat_abs (read_back c.before.args.x c.before.ranges.x)
+    (negative c.args.x c.ranges.x c.requires c.if-x-lt0.true).same
+    ∙ ap nat_abs (read_back c.args.x c.ranges.x)
 
-pub size-spec : {M : Type 1} → statement M
-size-spec =
+pub size_spec : {M : Type 1} → statement M
+size_spec =
     tie.close
     (tie.spec
-    (λ c. (negative c.before.args.x c.before.ranges.x c.before.requires c.if1.true).fits)
+    (λ c. (negative c.args.x c.ranges.x c.requires c.if-x-lt0.true).fits)
     cast-result
-    (λ c. not_negative c.before.args.x c.before.ranges.x c.if1.false)
+    (λ c. not_negative c.args.x c.ranges.x c.if-x-lt0.false)
     returns
     (λ c. search rules))

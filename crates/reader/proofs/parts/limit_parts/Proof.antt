@@ -7,16 +7,16 @@ use Rattle.reader.proofs.parts.limit_parts.Statement.{statement}
 use Rattle.reader.proofs.parts.limit_parts.Tie as tie
 
 -- the start, seen from behind the last read
-abbrev start : tie.After-shared-slice-known3 → tie.Start
+abbrev start : tie.After-shared_slice_known-3-1 → tie.Start
 start c = c.before.before.before
 
-pub limit-parts-spec : {M : Type 1} → statement M
+pub limit_parts_spec : {M : Type 1} → statement M
 unfolding next_at byte
-limit-parts-spec =
+limit_parts_spec =
     tie.close
     (tie.spec
     (λ c. omega arith)
-    (λ c. omega (arith, c.shared-slice-known.given c.before.args.at))
+    (λ c. omega (arith, c.shared_slice_known-1.given c.args.at))
     (λ c. omega arith)
     (λ c. omega arith)
     (λ c. omega arith)

@@ -10,20 +10,20 @@ use Rattle.reader.proofs.parts.step_parts.Statement.{statement}
 use Rattle.reader.proofs.parts.step_parts.Tie as tie
 
 -- the start, seen from behind the last read
-abbrev start : tie.After-shared-slice-known2 → tie.Start
+abbrev start : tie.After-shared_slice_known-2-1 → tie.Start
 start c = c.before.before
 
-pub step-parts-spec : {M : Type 1} → statement M
+pub step_parts_spec : {M : Type 1} → statement M
 unfolding next_at byte
-step-parts-spec =
+step_parts_spec =
     tie.close
     (tie.spec
     (λ c. omega arith)
-    (λ c. omega (arith, c.shared-slice-known.given c.before.args.at))
+    (λ c. omega (arith, c.shared_slice_known-1.given c.args.at))
     (λ c. omega arith)
     (λ c. omega arith)
     (λ c. omega arith)
-    (λ c. omega (arith, c.shared-slice-known2.given ((start c).args.at + 1)))
+    (λ c. omega (arith, c.shared_slice_known-2-1.given ((start c).args.at + 1)))
     (λ c. let a = (start c).args in omega (arith, add-one a.at, ap (byte a.s.now) (add-one a.at)))
     (λ c. omega arith)
     (λ c. step-read (start c).args.s.now (start c).args.at (start c).requires))

@@ -3,18 +3,18 @@ use borrow.Author.Rules.{rules}
 use Rattle.reader_cases.proofs.built.first_rules.Statement.{statement}
 use Rattle.reader_cases.proofs.built.first_rules.Tie as tie
 
-abbrev invariant-loop : tie.invariant-loop
-invariant-loop sheet₀ at records k end₀ left₀ sheet end left = Unit
+abbrev invariant-loop-left : tie.invariant-loop-left
+invariant-loop-left sheet₀ at records k end₀ left₀ sheet end left = Unit
 
-abbrev decreases-loop : tie.decreases-loop
-decreases-loop sheet₀ at records k end₀ left₀ sheet end left = left
+abbrev decreases-loop-left : tie.decreases-loop-left
+decreases-loop-left sheet₀ at records k end₀ left₀ sheet end left = left
 
-pub first-rules-spec : {M : Type 1} → statement M
-first-rules-spec =
+pub first_rules_spec : {M : Type 1} → statement M
+first_rules_spec =
     tie.close
     (tie.spec
-    invariant-loop
-    decreases-loop
+    invariant-loop-left
+    decreases-loop-left
     (λ c. search rules)
     (λ c κs. search rules)
     (λ c κs. search rules)

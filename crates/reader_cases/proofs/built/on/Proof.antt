@@ -5,8 +5,8 @@ use borrow.Author.Rules.{rules}
 use Rattle.reader_cases.proofs.built.on.Statement.{statement}
 use Rattle.reader_cases.proofs.built.on.Tie as tie
 
-pub on-spec : {M : Type 1} → statement M
-on-spec =
+pub on_spec : {M : Type 1} → statement M
+on_spec =
     tie.close
     (tie.spec
     (λ c. omega (arith, ltb-true))

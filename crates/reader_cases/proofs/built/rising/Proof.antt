@@ -4,18 +4,18 @@ use borrow.Author.Rules.{rules}
 use Rattle.reader_cases.proofs.built.rising.Statement.{statement}
 use Rattle.reader_cases.proofs.built.rising.Tie as tie
 
-abbrev invariant-loop : tie.invariant-loop
-invariant-loop sheet₀ at k i₀ sheet i = i ≤ k
+abbrev invariant-loop-i : tie.invariant-loop-i
+invariant-loop-i sheet₀ at k i₀ sheet i = i ≤ k
 
-abbrev decreases-loop : tie.decreases-loop
-decreases-loop sheet₀ at k i₀ sheet i = k - i
+abbrev decreases-loop-i : tie.decreases-loop-i
+decreases-loop-i sheet₀ at k i₀ sheet i = k - i
 
-pub rising-spec : {M : Type 1} → statement M
-rising-spec =
+pub rising_spec : {M : Type 1} → statement M
+rising_spec =
     tie.close
     (tie.spec
-    invariant-loop
-    decreases-loop
+    invariant-loop-i
+    decreases-loop-i
     (λ c. search rules)
     (λ c. search rules)
     (λ c κs. search rules)

@@ -8,8 +8,8 @@ use Rattle.rules.proofs.ask.first_allows.Tie as tie
 
 returns : tie.Need-returns
 returns c =
-    let a = c.before.before.before.args in
-    c.some_at.ensures ∙ ap (λ (at : ℕ). some_at a.book.now at a.s) c.before.first-at.ensures
+    let a = c.args in
+    c.some_at.ensures ∙ ap (λ (at : ℕ). some_at a.book.now at a.s) c.first_at-at.ensures
 
-pub first-allows-spec : {M : Type 1} → statement M
-first-allows-spec = tie.close (tie.spec (λ c κs. search rules) (λ c κs. search rules) returns)
+pub first_allows_spec : {M : Type 1} → statement M
+first_allows_spec = tie.close (tie.spec (λ c κs. search rules) (λ c κs. search rules) returns)

@@ -6,13 +6,13 @@ use borrow.Author.Rules.{rules}
 use Rattle.rules.proofs.ask.first_state.Statement.{statement}
 use Rattle.rules.proofs.ask.first_state.Tie as tie
 
-returns : tie.Need-returns
+returns : tie.Need-returns-then-not-lawful
 unfolding book_first
-returns c = rw (sym c.before.lawful.ensures ∙ not-true _ c.if1.true) refl
+returns c = rw (sym c.lawful.ensures ∙ not-true _ c.if-not-lawful.true-raw) refl
 
-returns-2 : tie.Need-returns-2
+returns-2 : tie.Need-returns
 unfolding book_first
-returns-2 c = rw (sym c.before.before.lawful.ensures ∙ not-false _ c.before.if1.false) c.firsts-ok.ensures
+returns-2 c = rw (sym c.lawful.ensures ∙ not-false _ c.if-not-lawful.false-raw) c.firsts_ok.ensures
 
-pub first-state-spec : {M : Type 1} → statement M
-first-state-spec = tie.close (tie.spec (λ c κs. search rules) returns (λ c κs. search rules) returns-2)
+pub first_state_spec : {M : Type 1} → statement M
+first_state_spec = tie.close (tie.spec (λ c κs. search rules) returns (λ c κs. search rules) returns-2)

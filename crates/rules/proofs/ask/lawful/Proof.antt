@@ -6,19 +6,19 @@ use borrow.Author.Rules.{rules}
 use Rattle.rules.proofs.ask.lawful.Statement.{statement}
 use Rattle.rules.proofs.ask.lawful.Tie as tie
 
-returns : tie.Need-returns
+returns : tie.Need-returns-then-s-n-ne0
 unfolding book_lawful
 returns c =
-    let a = c.before.before.before.args in
-    not-below a.s (letters_of a.book.now) _ (limits_ok a.book.now a.s) c.before.letters.ensures c.if1.true
+    let a = c.args in
+    not-below a.s (letters_of a.book.now) _ (limits_ok a.book.now a.s) c.letters-n.ensures c.if-s-n-ne0.true
 
-returns-2 : tie.Need-returns-2
+returns-2 : tie.Need-returns
 unfolding book_lawful
 returns-2 c =
-    let a = c.before.before.before.before.args in
-    c.limits-ok.ensures
-    ∙ is_below a.s (letters_of a.book.now) _ (limits_ok a.book.now a.s) c.before.before.letters.ensures
-    c.before.if1.false
+    let a = c.args in
+    c.limits_ok.ensures
+    ∙ is_below a.s (letters_of a.book.now) _ (limits_ok a.book.now a.s) c.letters-n.ensures
+    c.if-s-n-ne0.false
 
-pub lawful-spec : {M : Type 1} → statement M
-lawful-spec = tie.close (tie.spec (λ c κs. search rules) (λ c. search rules) returns (λ c κs. search rules) returns-2)
+pub lawful_spec : {M : Type 1} → statement M
+lawful_spec = tie.close (tie.spec (λ c κs. search rules) (λ c. search rules) returns (λ c κs. search rules) returns-2)

@@ -8,8 +8,8 @@ use Rattle.rules.proofs.ask.step_allows.Tie as tie
 
 returns : tie.Need-returns
 returns c =
-    let a = c.before.before.before.args in
-    c.some_at.ensures ∙ ap (λ (at : ℕ). some_at a.book.now at a.t) c.before.right-at.ensures
+    let a = c.args in
+    c.some_at.ensures ∙ ap (λ (at : ℕ). some_at a.book.now at a.t) c.right_at-at.ensures
 
-pub step-allows-spec : {M : Type 1} → statement M
-step-allows-spec = tie.close (tie.spec (λ c κs. search rules) (λ c κs. search rules) returns)
+pub step_allows_spec : {M : Type 1} → statement M
+step_allows_spec = tie.close (tie.spec (λ c κs. search rules) (λ c κs. search rules) returns)

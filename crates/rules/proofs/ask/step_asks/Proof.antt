@@ -8,8 +8,8 @@ use Rattle.rules.proofs.ask.step_asks.Tie as tie
 
 returns : tie.Need-returns
 returns c =
-    let a = c.before.before.before.args in
-    c.all-at.ensures ∙ ap (λ (at : ℕ). all_at a.book.now at a.s) c.before.step-at.ensures
+    let a = c.args in
+    c.all_at.ensures ∙ ap (λ (at : ℕ). all_at a.book.now at a.s) c.step_at-at.ensures
 
-pub step-asks-spec : {M : Type 1} → statement M
-step-asks-spec = tie.close (tie.spec (λ c κs. search rules) (λ c κs. search rules) returns)
+pub step_asks_spec : {M : Type 1} → statement M
+step_asks_spec = tie.close (tie.spec (λ c κs. search rules) (λ c κs. search rules) returns)

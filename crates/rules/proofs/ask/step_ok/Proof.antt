@@ -6,13 +6,13 @@ use Rattle.rules.specs.Book.{step_ok}
 use Rattle.rules.proofs.ask.step_ok.Statement.{statement}
 use Rattle.rules.proofs.ask.step_ok.Tie as tie
 
-returns : tie.Need-returns
+returns : tie.Need-returns-then-not-step_asks
 unfolding step_ok
-returns c = rw (sym c.before.step-asks.ensures ∙ not-true _ c.if1.true) refl
+returns c = rw (sym c.step_asks.ensures ∙ not-true _ c.if-not-step_asks.true-raw) refl
 
-returns-2 : tie.Need-returns-2
+returns-2 : tie.Need-returns
 unfolding step_ok
-returns-2 c = rw (sym c.before.before.step-asks.ensures ∙ not-false _ c.before.if1.false) c.step-allows.ensures
+returns-2 c = rw (sym c.step_asks.ensures ∙ not-false _ c.if-not-step_asks.false-raw) c.step_allows.ensures
 
-pub step-ok-spec : {M : Type 1} → statement M
-step-ok-spec = tie.close (tie.spec (λ c κs. search rules) returns (λ c κs. search rules) returns-2)
+pub step_ok_spec : {M : Type 1} → statement M
+step_ok_spec = tie.close (tie.spec (λ c κs. search rules) returns (λ c κs. search rules) returns-2)

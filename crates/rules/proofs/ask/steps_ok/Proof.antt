@@ -6,26 +6,26 @@ use Rattle.rules.specs.Book.{step_ok, steps_ok}
 use Rattle.rules.proofs.ask.steps_ok.Statement.{statement}
 use Rattle.rules.proofs.ask.steps_ok.Tie as tie
 
-abbrev invariant-loop : tie.invariant-loop
-invariant-loop book s t count i₀ i = Tested (step_ok book s t) count i
+abbrev invariant-loop-i : tie.invariant-loop-i
+invariant-loop-i book s t count i₀ i = Tested (step_ok book s t) count i
 
-abbrev decreases-loop : tie.decreases-loop
-decreases-loop book s t count i₀ i = count - i
+abbrev decreases-loop-i : tie.decreases-loop-i
+decreases-loop-i book s t count i₀ i = count - i
 
-pub steps-ok-spec : {M : Type 1} → statement M
+pub steps_ok_spec : {M : Type 1} → statement M
 unfolding steps_ok
-steps-ok-spec =
+steps_ok_spec =
     tie.close
     (tie.spec
-    invariant-loop
-    decreases-loop
-    (λ c κs. c.before.requires)
+    invariant-loop-i
+    decreases-loop-i
+    (λ c κs. c.requires)
     (λ c. none-tested _)
-    (λ c κs. (c.before.before.before.before.requires, omega arith))
+    (λ c κs. (c.requires, omega arith))
     (λ c. let l = c.before.before in
-    one-failed _ l.before.before.steps.ensures l.loop-test.true c.before.step_ok.ensures c.if1.true)
+    one-failed _ l.steps-count.ensures l.loop-i-test.true c.step_ok.ensures c.if-not-step_ok.true-raw)
     (λ c. omega arith)
     (λ c. omega arith)
-    (λ c. let l = c.before.before in
-    one-passed _ l.before.loop.invariant l.loop-test.true c.before.step_ok.ensures c.if1.false)
-    (λ c. all-passed _ c.before.before.steps.ensures c.before.loop.invariant c.loop-test.false))
+    (λ c. let l = c in
+    one-passed _ l.loop-i.invariant l.loop-i-test.true c.step_ok.ensures c.if-not-step_ok.false-raw)
+    (λ c. all-passed _ c.steps-count.ensures c.loop-i.invariant c.loop-i-test.false))

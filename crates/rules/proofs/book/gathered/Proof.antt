@@ -8,8 +8,8 @@ use Rattle.rules.proofs.book.gathered.Tie as tie
 
 returns : tie.Need-returns
 returns c =
-    let l = c.before.before.before.args.l.now in
-    subst (λ (at : ℕ). MasksRead l at c.masks-at.result) c.before.gathered-at.ensures c.masks-at.ensures
+    let l = c.args.l.now in
+    subst (λ (at : ℕ). MasksRead l at c.masks_at.result) c.gathered_at-at.ensures c.masks_at.ensures
 
-pub gathered-spec : {M : Type 1} → statement M
-gathered-spec = tie.close (tie.spec (λ c κs. search rules) (λ c κs. search rules) returns)
+pub gathered_spec : {M : Type 1} → statement M
+gathered_spec = tie.close (tie.spec (λ c κs. search rules) (λ c κs. search rules) returns)

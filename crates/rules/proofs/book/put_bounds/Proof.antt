@@ -12,8 +12,8 @@ returns c =
     let a = c.args in
     put_two a.book.now (least_at a.row) a.least a.most (let h = c.requires in omega arith)
 
-pub put-bounds-spec : {M : Type 1} → statement M
-put-bounds-spec =
+pub put_bounds_spec : {M : Type 1} → statement M
+put_bounds_spec =
     tie.close
     (tie.spec
     (λ c. search rules)

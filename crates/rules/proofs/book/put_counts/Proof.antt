@@ -9,8 +9,8 @@ use Rattle.rules.proofs.book.put_counts.Tie as tie
 returns : tie.Need-returns
 returns c = let a = c.args in counted a.book.now a.letters a.limits a.firsts a.steps a.promises c.requires
 
-pub put-counts-spec : {M : Type 1} → statement M
-put-counts-spec =
+pub put_counts_spec : {M : Type 1} → statement M
+put_counts_spec =
     tie.close
     (tie.spec
     (λ c. search rules)

@@ -7,8 +7,8 @@ use Rattle.rules.proofs.book.put_masks.Tie as tie
 returns : tie.Need-returns
 returns c = put_two c.args.l.now c.args.at c.args.held c.args.unheld c.requires
 
-pub put-masks-spec : {M : Type 1} → statement M
-put-masks-spec =
+pub put_masks_spec : {M : Type 1} → statement M
+put_masks_spec =
     tie.close
     (tie.spec
     (λ c. search rules)

@@ -6,8 +6,8 @@ use Rattle.rules.proofs.gather.copy.Tie as tie
 
 returns : tie.Need-returns
 returns c =
-    let m = c.before.before.before.before.masks-at.ensures in
-    let p = c.before.before.put-masks.ensures in
+    let m = c.masks_at-m.ensures in
+    let p = c.put_masks.ensures in
     record { keeps = p.keeps; held = p.first ∙ m.held_is; unheld = p.second ∙ m.unheld_is }
 
 pub copy_spec : {M : Type 1} → statement M

@@ -8,37 +8,37 @@ use Rattle.rules.specs.Book.{some_at, gathered_at, clauses_ok}
 use Rattle.rules.proofs.gather.fits.Statement.{statement}
 use Rattle.rules.proofs.gather.fits.Tie as tie
 
-abbrev invariant-loop : tie.invariant-loop
-invariant-loop clauses count t i₀ i = Tested (λ i. some_at clauses (gathered_at i) t) count i
+abbrev invariant-loop-i : tie.invariant-loop-i
+invariant-loop-i clauses count t i₀ i = Tested (λ i. some_at clauses (gathered_at i) t) count i
 
-abbrev decreases-loop : tie.decreases-loop
-decreases-loop clauses count t i₀ i = count - i
+abbrev decreases-loop-i : tie.decreases-loop-i
+decreases-loop-i clauses count t i₀ i = count - i
 
 -- what the loop tests
-abbrev test : tie.Start invariant-loop decreases-loop → ℕ → Bool
+abbrev test : tie.Start invariant-loop-i decreases-loop-i → ℕ → Bool
 test start = λ i. some_at start.args.clauses.now (gathered_at i) start.args.t
 
 -- what a turn's call says of its clause
 turn-says :
-    (c : tie.After-some-at invariant-loop decreases-loop) → let head = c.before.before.before in
-    c.some_at.result ≡ test head.before.before head.loop.i
+    (c : tie.After-some_at invariant-loop-i decreases-loop-i) → let head = c.before.before.before in
+    c.some_at.result ≡ test head.before.before head.loop-i.i
 turn-says c =
-    let a = c.before.before.before.before.before.args in
-    c.some_at.ensures ∙ ap (λ (at : ℕ). some_at a.clauses.now at a.t) c.before.gathered-at.ensures
+    let a = c.args in
+    c.some_at.ensures ∙ ap (λ (at : ℕ). some_at a.clauses.now at a.t) c.gathered_at-at.ensures
 
-pub fits-spec : {M : Type 1} → statement M
+pub fits_spec : {M : Type 1} → statement M
 unfolding clauses_ok
-fits-spec =
+fits_spec =
     tie.close
     (tie.spec
-    invariant-loop
-    decreases-loop
+    invariant-loop-i
+    decreases-loop-i
     (λ c. none-tested _)
     (λ c κs. omega arith)
     (λ c κs. omega arith)
-    (λ c. one-failed _ refl c.before.before.before.loop-test.true (turn-says c.before) c.if1.true)
+    (λ c. one-failed _ refl c.loop-i-test.true (turn-says c.before) c.if-not-some_at.true-raw)
     (λ c. omega arith)
     (λ c. omega arith)
-    (λ c. let turn = c.before.before.before in
-    one-passed _ turn.before.loop.invariant turn.loop-test.true (turn-says c.before) c.if1.false)
-    (λ c. all-passed _ refl c.before.loop.invariant c.loop-test.false))
+    (λ c. let turn = c in
+    one-passed _ turn.loop-i.invariant turn.loop-i-test.true (turn-says c.before) c.if-not-some_at.false-raw)
+    (λ c. all-passed _ refl c.loop-i.invariant c.loop-i-test.false))

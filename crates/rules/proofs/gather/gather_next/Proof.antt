@@ -9,76 +9,76 @@ use Rattle.rules.proofs.Gathering.{StepSofar, none_yet, step-copied, step-free, 
 use Rattle.rules.proofs.gather.gather_next.Statement.{statement}
 use Rattle.rules.proofs.gather.gather_next.Tie as tie
 
-abbrev invariant-loop : tie.invariant-loop
-invariant-loop book s clauses₀ count i₀ n₀ clauses i n = (i ≤ count) × (length clauses ≡ gather_size) × StepSofar book s clauses n i
+abbrev invariant-loop-i : tie.invariant-loop-i
+invariant-loop-i book s clauses₀ count i₀ n₀ clauses i n = (i ≤ count) × (length clauses ≡ gather_size) × StepSofar book s clauses n i
 
-abbrev decreases-loop : tie.decreases-loop
-decreases-loop book s clauses₀ count i₀ n₀ clauses i n = count - i
+abbrev decreases-loop-i : tie.decreases-loop-i
+decreases-loop-i book s clauses₀ count i₀ n₀ clauses i n = count - i
 
 -- where the call began
-abbrev start : tie.At-loop invariant-loop decreases-loop → tie.Start invariant-loop decreases-loop
+abbrev start : tie.At-loop-i invariant-loop-i decreases-loop-i → tie.Start invariant-loop-i decreases-loop-i
 start c = c.before.before.before.before
 
 -- a turn's rule is one of the book's
-turn-rule : (c : tie.In-loop invariant-loop decreases-loop) → c.before.loop.i < steps_of (start c.before).args.book.now
-turn-rule c = omega (arith, c.loop-test.true, c.before.before.steps.ensures)
+turn-rule : (c : tie.In-loop-i invariant-loop-i decreases-loop-i) → c.loop-i.i < steps_of (start c.before).args.book.now
+turn-rule c = omega (arith, c.loop-i-test.true, c.steps-count.ensures)
 
 -- a turn whose rule asks something, seen from behind the copy's place
-abbrev asking : tie.After-right-at invariant-loop decreases-loop → tie.In-loop invariant-loop decreases-loop
+abbrev asking : tie.After-right_at-from invariant-loop-i decreases-loop-i → tie.In-loop-i invariant-loop-i decreases-loop-i
 asking c = c.before.before.before
 
-copy-requires : tie.Need-copy-requires invariant-loop decreases-loop
+copy-requires : tie.Need-copy-requires invariant-loop-i decreases-loop-i
 copy-requires c κs =
     let from = c.before.before in
     let turn = asking from in
     let h = turn-rule turn in
-    let book = (start turn.before).pre.0 in
+    let book = (start turn.before).requires.0 in
     let few = book.few_steps in
-    (omega (arith, from.right-at.ensures, book.long), omega (arith, c.before.gathered-at.ensures))
+    (omega (arith, from.right_at-from.ensures, book.long), omega (arith, c.gathered_at-to.ensures))
 
-loop-again : tie.Need-loop-preserved invariant-loop decreases-loop
+loop-again : tie.Need-loop-i-preserved-then-binds invariant-loop-i decreases-loop-i
 loop-again c =
-    let copied = c.before.before in
-    let to = copied.before.before in
+    let copied = c in
+    let to = copied.before.before.before.before in
     let from = to.before in
-    let branch = from.before in
+    let branch = from in
     let turn = asking from in
     let a = (start turn.before).args in
-    let l = turn.before.loop in
-    let w = subst₂ (λ (from to : ℕ). Copied a.book.now from l.clauses to copied.copy.new.1.1.0) from.right-at.ensures
-    to.gathered-at.ensures copied.copy.ensures in
-    let asked = branch.before.binds.ensures.asks branch.if1.true in (
+    let l = turn.loop-i in
+    let w = subst₂ (λ (from to : ℕ). Copied a.book.now from l.clauses to copied.copy.new.l) from.right_at-from.ensures
+    to.gathered_at-to.ensures copied.copy.ensures in
+    let asked = branch.binds.ensures.asks branch.if-binds.true in (
       omega arith,
-      omega (arith, w.keeps.long, l.inv.1),
-      step-copied _ (start turn.before).pre.0 a.s _ _ l.n l.i (turn-rule turn) l.inv.2 asked w,
+      omega (arith, w.keeps.long, l.invariant.1),
+      step-copied _ (start turn.before).requires.0 a.s _ _ l.n l.i (turn-rule turn) l.invariant.2 asked w,
     )
 
-loop-again-2 : tie.Need-loop-preserved-2 invariant-loop decreases-loop
+loop-again-2 : tie.Need-loop-i-preserved invariant-loop-i decreases-loop-i
 loop-again-2 c =
     let entry = start c.before.before.before in
     let a = entry.args in
-    let l = c.before.before.before.loop in
-    (omega arith, l.invariant.1, step-free _ entry.pre.0 a.s _ l.n l.i l.invariant.2 c.before.binds.ensures c.if1.false)
+    let l = c.loop-i in
+    (omega arith, l.invariant.1, step-free _ entry.requires.0 a.s _ l.n l.i l.invariant.2 c.binds.ensures c.if-binds.false)
 
-returns : tie.Need-returns invariant-loop decreases-loop
+returns : tie.Need-returns invariant-loop-i decreases-loop-i
 returns c =
-    let l = c.before.loop in
-    let e = c.before.before.steps.ensures in
+    let l = c.loop-i in
+    let e = c.steps-count.ensures in
     let within = l.invariant.0 in
-    let left = c.loop-test.false in
+    let left = c.loop-i-test.false in
     let entry = start c.before in
     let a = entry.args in
-    (steps-gathered _ entry.pre.0 a.s _ l.n l.i (omega arith) (omega arith) l.invariant.2, l.invariant.1)
+    (steps-gathered _ entry.requires.0 a.s _ l.n l.i (omega arith) (omega arith) l.invariant.2, l.invariant.1)
 
-pub gather-next-spec : {M : Type 1} → statement M
-gather-next-spec =
+pub gather_next_spec : {M : Type 1} → statement M
+gather_next_spec =
     tie.close
     (tie.spec
-    invariant-loop
-    decreases-loop
-    (λ c κs. c.before.before.requires.0)
-    (λ c. (omega arith, c.before.before.before.requires.1, none_yet _ _ _ _))
-    (λ c κs. ((start c.before).pre.0, turn-rule c))
+    invariant-loop-i
+    decreases-loop-i
+    (λ c κs. c.requires.0)
+    (λ c. (omega arith, c.requires.1, none_yet _ _ _ _))
+    (λ c κs. ((start c.before).requires.0, turn-rule c))
     (λ c κs. omega arith)
     (λ c κs. omega arith)
     copy-requires

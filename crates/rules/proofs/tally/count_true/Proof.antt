@@ -11,23 +11,23 @@ use Rattle.rules.specs.Book.{count_of}
 use Rattle.rules.proofs.tally.count_true.Statement.{statement}
 use Rattle.rules.proofs.tally.count_true.Tie as tie
 
-add-result : tie.Need-overflow-add-result
+add-result : tie.Need-overflow_add-result
 add-result c =
-    let a = c.before.before.args in
-    let f = c.before.before.ranges in
+    let a = c.args in
+    let f = c.ranges in
     let h = ones-le state_bits a.held f.held.fits in
     let u = ones-le state_bits a.unheld f.unheld.fits in
     let parted = ones-parted state_bits a.s a.unheld f.s.fits f.unheld.fits in
-    omega (arith, c.before.ones_in_lem.ensures, c.ones-in2.ensures, ones-and-le a.s a.held)
+    omega (arith, c.ones_in-holding.ensures, c.ones_in-resting.ensures, ones-and-le a.s a.held)
 
 returns : tie.Need-returns
 unfolding count_of
 returns c =
-    let a = c.before.before.args in
-    let f = c.before.before.ranges in
+    let a = c.args in
+    let f = c.ranges in
     let parted = ones-parted state_bits a.s a.unheld f.s.fits f.unheld.fits in
-    let resting : c.ones-in2.result ≡ ones a.unheld - ones (bit_and a.s a.unheld) = omega (arith, c.ones-in2.ensures, parted) in
-    ap₂ (λ (x y : ℕ). x + y) c.before.ones_in_lem.ensures resting
+    let resting : c.ones_in-resting.result ≡ ones a.unheld - ones (bit_and a.s a.unheld) = omega (arith, c.ones_in-resting.ensures, parted) in
+    ap₂ (λ (x y : ℕ). x + y) c.ones_in-holding.ensures resting
 
-pub count-true-spec : {M : Type 1} → statement M
-count-true-spec = tie.close (tie.spec (λ c κs. search rules) (λ c κs. search rules) add-result returns)
+pub count_true_spec : {M : Type 1} → statement M
+count_true_spec = tie.close (tie.spec (λ c κs. search rules) (λ c κs. search rules) add-result returns)

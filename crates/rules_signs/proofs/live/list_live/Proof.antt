@@ -8,52 +8,52 @@ use Rattle.rules_signs.proofs.Listing.{Listed, listed-none, listed_more, listed-
 use Rattle.rules_signs.proofs.live.list_live.Statement.{statement}
 use Rattle.rules_signs.proofs.live.list_live.Tie as tie
 
-abbrev invariant-loop : tie.invariant-loop
-invariant-loop book table r live₀ count n₀ i₀ live n i = Listed book table r live n i
+abbrev invariant-loop-i : tie.invariant-loop-i
+invariant-loop-i book table r live₀ count n₀ i₀ live n i = Listed book table r live n i
 
-abbrev decreases-loop : tie.decreases-loop
-decreases-loop book table r live₀ count n₀ i₀ live n i = count - i
+abbrev decreases-loop-i : tie.decreases-loop-i
+decreases-loop-i book table r live₀ count n₀ i₀ live n i = count - i
 
-abbrev start : tie.At-loop invariant-loop decreases-loop → tie.Start invariant-loop decreases-loop
+abbrev start : tie.At-loop-i invariant-loop-i decreases-loop-i → tie.Start invariant-loop-i decreases-loop-i
 start c = c.before.before.before.before.before
 
 -- within the loop: the rule is one of the book's,
-rule : (c : tie.In-loop invariant-loop decreases-loop) → c.before.loop.i < steps_of (start c.before).args.book.now
-rule c = omega (arith, c.loop-test.true, c.before.before.steps.ensures)
+rule : (c : tie.In-loop-i invariant-loop-i decreases-loop-i) → c.loop-i.i < steps_of (start c.before).args.book.now
+rule c = omega (arith, c.loop-i-test.true, c.steps-count.ensures)
 
 -- and the list has room for it
-few : (c : tie.In-loop invariant-loop decreases-loop) → c.before.loop.i < 255
-few c = omega (arith, rule c, (start c.before).pre.0.shaped.few_steps)
+few : (c : tie.In-loop-i invariant-loop-i decreases-loop-i) → c.loop-i.i < 255
+few c = omega (arith, rule c, (start c.before).requires.0.shaped.few_steps)
 
-room : (c : tie.In-loop invariant-loop decreases-loop) → c.before.loop.n < length c.before.loop.live
-room c = omega (arith, few c, c.before.loop.invariant.fewer, c.before.loop.invariant.long)
+room : (c : tie.In-loop-i invariant-loop-i decreases-loop-i) → c.loop-i.n < length c.loop-i.live
+room c = omega (arith, few c, c.loop-i.invariant.fewer, c.loop-i.invariant.long)
 
-loop-again : tie.Need-loop-preserved invariant-loop decreases-loop
-loop-again c = let turn = c.before.before in listed_more (start turn.before).pre.0.shaped turn.before.loop.invariant (rule turn)
+loop-again : tie.Need-loop-i-preserved-then-asks_somewhere invariant-loop-i decreases-loop-i
+loop-again c = let turn = c.before.before in listed_more (start turn.before).requires.0.shaped turn.loop-i.invariant (rule turn)
 
-loop-again-2 : tie.Need-loop-preserved-2 invariant-loop decreases-loop
-loop-again-2 c = let turn = c.before.before in listed-past turn.before.loop.invariant (rule turn)
-    (c.before.asks-somewhere.ensures c.if1.false)
+loop-again-2 : tie.Need-loop-i-preserved invariant-loop-i decreases-loop-i
+loop-again-2 c = let turn = c.before.before in listed-past turn.loop-i.invariant (rule turn)
+    (c.asks_somewhere.ensures c.if-asks_somewhere.false)
 
-pub list-live-spec : {M : Type 1} → statement M
-list-live-spec =
+pub list_live_spec : {M : Type 1} → statement M
+list_live_spec =
     tie.close
     (tie.spec
-    invariant-loop
-    decreases-loop
-    (λ c κs. c.before.before.before.requires.0.shaped)
-    (λ c. listed-none _ _ _ _ c.before.before.before.before.requires.1)
-    (λ c κs. ((start c.before).pre.0, rule c))
+    invariant-loop-i
+    decreases-loop-i
+    (λ c κs. c.requires.0.shaped)
+    (λ c. listed-none _ _ _ _ c.requires.1)
+    (λ c κs. ((start c.before).requires.0, rule c))
     (λ c. omega (arith, few c.before.before))
-    (λ c. let turn = c.before.before in omega (arith, few turn, turn.before.loop.invariant.fewer))
+    (λ c. let turn = c.before.before in omega (arith, few turn, turn.loop-i.invariant.fewer))
     (λ c. room c.before.before)
-    (λ c. let turn = c.before.before in omega (arith, few turn, turn.before.loop.invariant.fewer))
+    (λ c. let turn = c.before.before in omega (arith, few turn, turn.loop-i.invariant.fewer))
     (λ c. omega (arith, few c.before.before))
-    (λ c. omega (arith, c.before.before.loop-test.true))
+    (λ c. omega (arith, c.loop-i-test.true))
     loop-again
     (λ c. omega (arith, few c.before.before))
-    (λ c. omega (arith, c.before.before.loop-test.true))
+    (λ c. omega (arith, c.loop-i-test.true))
     loop-again-2
-    (λ c. c.before.loop.invariant.long ∙ sym (start c.before).pre.1)
-    (λ c. listed-all (start c.before).pre.0.shaped c.before.loop.invariant
-    (omega (arith, c.loop-test.false, c.before.before.steps.ensures))))
+    (λ c. c.loop-i.invariant.long ∙ sym (start c.before).requires.1)
+    (λ c. listed-all (start c.before).requires.0.shaped c.loop-i.invariant
+    (omega (arith, c.loop-i-test.false, c.steps-count.ensures))))

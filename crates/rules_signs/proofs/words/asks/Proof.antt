@@ -6,15 +6,15 @@ use Rattle.rules.specs.Book.{asks_toward}
 use Rattle.rules_signs.proofs.words.asks.Statement.{statement}
 use Rattle.rules_signs.proofs.words.asks.Tie as tie
 
-returns : tie.Need-returns
+returns : tie.Need-returns-then-ahead
 returns c =
-    let a = c.before.before.before.args in
-    c.step-asks.ensures ∙ ap (λ (b : Bool). asks_toward b a.book.now a.s a.i) (sym c.before.if1.true)
+    let a = c.args in
+    c.step_asks.ensures ∙ ap (λ (b : Bool). asks_toward b a.book.now a.s a.i) (sym c.if-ahead.true)
 
-returns-2 : tie.Need-returns-2
+returns-2 : tie.Need-returns-else-ahead
 returns-2 c =
-    let a = c.before.before.before.args in
-    ap not c.step-allows.ensures ∙ ap (λ (b : Bool). asks_toward b a.book.now a.s a.i) (sym c.before.if1.false)
+    let a = c.args in
+    ap not c.step_allows.ensures ∙ ap (λ (b : Bool). asks_toward b a.book.now a.s a.i) (sym c.if-ahead.false)
 
-pub asks-spec : {M : Type 1} → statement M
-asks-spec = tie.close (tie.spec (λ c κs. search rules) (λ c κs. search rules) returns returns-2)
+pub asks_spec : {M : Type 1} → statement M
+asks_spec = tie.close (tie.spec (λ c κs. search rules) (λ c κs. search rules) returns returns-2)

@@ -9,29 +9,29 @@ use Rattle.rules_signs.proofs.Comparing.{word-inside, paired_none, paired-more, 
 use Rattle.rules_signs.proofs.words.within.Statement.{statement}
 use Rattle.rules_signs.proofs.words.within.Tie as tie
 
-abbrev invariant-loop : tie.invariant-loop
-invariant-loop signs a u w k₀ k = Within signs a u k
+abbrev invariant-loop-k : tie.invariant-loop-k
+invariant-loop-k signs a u w k₀ k = Within signs a u k
 
-abbrev decreases-loop : tie.decreases-loop
-decreases-loop signs a u w k₀ k = w - k
+abbrev decreases-loop-k : tie.decreases-loop-k
+decreases-loop-k signs a u w k₀ k = w - k
 
 -- within the loop: both words stand in the list
-one : (c : tie.In-loop invariant-loop decreases-loop)
-    → (c.before.before.args.a + c.before.loop.k < length c.before.before.args.signs.now)
-    × (c.before.before.args.a + c.before.loop.k < farthest + most_words)
-one c = word-inside c.before.before.requires.0 c.loop-test.true
+one : (c : tie.In-loop-k invariant-loop-k decreases-loop-k)
+    → (c.args.a + c.loop-k.k < length c.args.signs.now)
+    × (c.args.a + c.loop-k.k < farthest + most_words)
+one c = word-inside c.requires.0 c.loop-k-test.true
 
-other : (c : tie.In-loop invariant-loop decreases-loop)
-    → (c.before.before.args.u + c.before.loop.k < length c.before.before.args.signs.now)
-    × (c.before.before.args.u + c.before.loop.k < farthest + most_words)
-other c = word-inside c.before.before.requires.1 c.loop-test.true
+other : (c : tie.In-loop-k invariant-loop-k decreases-loop-k)
+    → (c.args.u + c.loop-k.k < length c.args.signs.now)
+    × (c.args.u + c.loop-k.k < farthest + most_words)
+other c = word-inside c.requires.1 c.loop-k-test.true
 
-pub within-spec : {M : Type 1} → statement M
-within-spec =
+pub within_spec : {M : Type 1} → statement M
+within_spec =
     tie.close
     (tie.spec
-    invariant-loop
-    decreases-loop
+    invariant-loop-k
+    decreases-loop-k
     (λ c. paired_none _ _ _)
     (λ c. omega (arith, (one c).1))
     (λ c. omega (arith, (other c).1))
@@ -41,6 +41,6 @@ within-spec =
     (λ c. (other c.before.before).0)
     (λ c. λ e. absurd (no_both e refl))
     (λ c. omega (arith, (one c.before.before.before).1))
-    (λ c. omega (arith, c.before.before.before.loop-test.true))
-    (λ c. paired-more c.before.before.before.before.loop.invariant c.if1.false)
-    (λ c. λ e. paired-done c.before.loop.invariant (omega (arith, c.loop-test.false))))
+    (λ c. omega (arith, c.loop-k-test.true))
+    (λ c. paired-more c.loop-k.invariant c.if-x-signs.false)
+    (λ c. λ e. paired-done c.loop-k.invariant (omega (arith, c.loop-k-test.false))))

@@ -9,26 +9,26 @@ use Rattle.watch_along.proofs.Ending.{blank-more}
 use Rattle.watch_along.proofs.ends.blank.Statement.{statement}
 use Rattle.watch_along.proofs.ends.blank.Tie as tie
 
-abbrev invariant-loop : tie.invariant-loop
-invariant-loop row₀ i₀ row i = (length row ≡ length row₀) × ((j : ℕ) → j < i → get_or row j 0 ≡ nobody)
+abbrev invariant-loop-i : tie.invariant-loop-i
+invariant-loop-i row₀ i₀ row i = (length row ≡ length row₀) × ((j : ℕ) → j < i → get_or row j 0 ≡ nobody)
 
-abbrev decreases-loop : tie.decreases-loop
-decreases-loop row₀ i₀ row i = length row - i
+abbrev decreases-loop-i : tie.decreases-loop-i
+decreases-loop-i row₀ i₀ row i = length row - i
 
-pub blank-spec : {M : Type 1} → statement M
-blank-spec =
+pub blank_spec : {M : Type 1} → statement M
+blank_spec =
     tie.close
     (tie.spec
-    invariant-loop
-    decreases-loop
+    invariant-loop-i
+    decreases-loop-i
     (λ c. (refl, λ j h. absurd (omega arith)))
     (λ c. search rules)
-    (λ c. c.loop-test.true)
+    (λ c. c.loop-i-test.true)
     (λ c. search rules)
-    (λ c. simp length-set (omega (arith, c.loop-test.true)))
+    (λ c. simp length-set (omega (arith, c.loop-i-test.true)))
     (λ c. (
-      length-set c.before.loop.row c.before.loop.i nobody ∙ c.before.loop.invariant.0,
-      blank-more c.before.loop.row c.before.loop.i c.loop-test.true c.before.loop.invariant.1,
+      length-set c.loop-i.row c.loop-i.i nobody ∙ c.loop-i.invariant.0,
+      blank-more c.loop-i.row c.loop-i.i c.loop-i-test.true c.loop-i.invariant.1,
     ))
-    (λ c. c.before.loop.invariant.0)
-    (λ c. (λ i h. c.before.loop.invariant.1 i (omega (arith, h, c.loop-test.false)), c.before.loop.invariant.0)))
+    (λ c. c.loop-i.invariant.0)
+    (λ c. (λ i h. c.loop-i.invariant.1 i (omega (arith, h, c.loop-i-test.false)), c.loop-i.invariant.0)))

@@ -6,78 +6,78 @@ use Rattle.watch_along.proofs.Ending.{Cutting, cutting-none, cutting-within, cut
 use Rattle.watch_along.proofs.ends.cut.Statement.{statement}
 use Rattle.watch_along.proofs.ends.cut.Tie as tie
 
-abbrev invariant-loop : tie.invariant-loop
-invariant-loop words row₀ back log₀ from m tail₀ h₀ row log tail h = (from ≤ h) × Cutting words row₀ row log₀ log m tail h
+abbrev invariant-loop-h : tie.invariant-loop-h
+invariant-loop-h words row₀ back log₀ from m tail₀ h₀ row log tail h = (from ≤ h) × Cutting words row₀ row log₀ log m tail h
 
-abbrev decreases-loop : tie.decreases-loop
-decreases-loop words row₀ back log₀ from m tail₀ h₀ row log tail h = m - h
+abbrev decreases-loop-h : tie.decreases-loop-h
+decreases-loop-h words row₀ back log₀ from m tail₀ h₀ row log tail h = m - h
 
 -- where the function began, seen from the loop; and the loop's turn, seen from its end
-abbrev start : tie.At-loop invariant-loop decreases-loop → tie.Start invariant-loop decreases-loop
+abbrev start : tie.At-loop-h invariant-loop-h decreases-loop-h → tie.Start invariant-loop-h decreases-loop-h
 start c = c.before.before.before.before.before
 
-abbrev turn : tie.After-slice-known5 invariant-loop decreases-loop → tie.In-loop invariant-loop decreases-loop
+abbrev turn : tie.After-slice_known-in-loop-h-3-1 invariant-loop-h decreases-loop-h → tie.In-loop-h invariant-loop-h decreases-loop-h
 turn c = c.before.before.before.before.before.before.before.before
 
 -- within the loop: the log is no longer than there are places
-within : (c : tie.In-loop invariant-loop decreases-loop) → c.before.loop.tail ≤ length (start c.before).args.row.now
-within c = cutting-within (start c.before).pre.0 c.before.loop.invariant.1
+within : (c : tie.In-loop-h invariant-loop-h decreases-loop-h) → c.loop-h.tail ≤ length (start c.before).args.row.now
+within c = cutting-within (start c.before).requires.0 c.loop-h.invariant.1
 
-loop-holds : tie.Need-loop-init invariant-loop decreases-loop
-loop-holds c = let entry = c.before.before.before.before in (omega arith, cutting-none entry.requires.0)
+loop-holds : tie.Need-loop-h-init invariant-loop-h decreases-loop-h
+loop-holds c = let entry = c in (omega arith, cutting-none entry.requires.0)
 
-mul-t : tie.Need-overflow-mul-t invariant-loop decreases-loop
-mul-t c = omega (arith, within c, c.before.loop.invariant.1.cut.grows, c.loop-test.true, (start c.before).pre.0.few)
+mul-t : tie.Need-offset_bounds-log-h invariant-loop-h decreases-loop-h
+mul-t c = omega (arith, within c, c.loop-h.invariant.1.cut.grows, c.loop-h-test.true, (start c.before).requires.0.few)
 
-slice-read-t : tie.Need-slice-read-t invariant-loop decreases-loop
-slice-read-t c = let l = c.before in let R = (start l.before).pre.0 in
+slice-read-t : tie.Need-bounds-log-h invariant-loop-h decreases-loop-h
+slice-read-t c = let l = c.before in let R = (start l.before).requires.0 in
     omega (
       arith,
       within l,
-      l.before.loop.invariant.1.cut.grows,
-      l.loop-test.true,
+      l.loop-h.invariant.1.cut.grows,
+      l.loop-h-test.true,
       R.log_is.in-log,
-      l.before.loop.invariant.1.cut.log_long,
+      l.loop-h.invariant.1.cut.log_long,
     )
 
-cast-place : tie.Need-overflow-cast-place invariant-loop decreases-loop
+cast-place : tie.Need-overflow_cast-place invariant-loop-h decreases-loop-h
 cast-place c = let l = c.before in
     omega (
       arith,
-      cutting-place (start l.before).pre.0 l.before.loop.invariant.1 l.loop-test.true,
-      (start l.before).pre.0.few,
+      cutting-place (start l.before).requires.0 l.loop-h.invariant.1 l.loop-h-test.true,
+      (start l.before).requires.0.few,
     )
 
-redirect-requires : tie.Need-redirect-requires invariant-loop decreases-loop
+redirect-requires : tie.Need-redirect-tail-requires invariant-loop-h decreases-loop-h
 redirect-requires c κs = let l = c.before.before.before in
-    cutting-ask (start l.before).pre.0 l.before.loop.invariant.1 l.loop-test.true
-    (start l.before).pre.1
+    cutting-ask (start l.before).requires.0 l.loop-h.invariant.1 l.loop-h-test.true
+    (start l.before).requires.1
 
-add-h : tie.Need-overflow-add-h invariant-loop decreases-loop
+add-h : tie.Need-overflow_add-h invariant-loop-h decreases-loop-h
 add-h c = let l = turn c in
-    omega (arith, within l, l.before.loop.inv.1.cut.grows, l.loop-test.taken, (start l.before).pre.0.few)
+    omega (arith, within l, l.loop-h.invariant.1.cut.grows, l.loop-h-test.true, (start l.before).requires.0.few)
 
-loop-less : tie.Need-loop-smaller invariant-loop decreases-loop
+loop-less : tie.Need-loop-h-smaller invariant-loop-h decreases-loop-h
 loop-less c = let l = turn c in
-    omega (arith, l.loop-test.taken)
+    omega (arith, l.loop-h-test.true)
 
-loop-again : tie.Need-loop-preserved invariant-loop decreases-loop
+loop-again : tie.Need-loop-h-preserved invariant-loop-h decreases-loop-h
 loop-again c =
     let l = turn c in
-    let T = c.before.before.before.before.redirect.ensures in (
-      omega (arith, l.before.loop.inv.0),
-      cutting-more (start l.before).pre.0 l.before.loop.inv.1 l.loop-test.taken T,
+    let T = c.redirect-tail.ensures in (
+      omega (arith, l.loop-h.invariant.0),
+      cutting-more (start l.before).requires.0 l.loop-h.invariant.1 l.loop-h-test.true T,
     )
 
-returns : tie.Need-returns invariant-loop decreases-loop
-returns c = cutting-done (start c.before).pre.0 c.before.loop.invariant.1 (omega (arith, c.loop-test.false))
+returns : tie.Need-returns invariant-loop-h decreases-loop-h
+returns c = cutting-done (start c.before).requires.0 c.loop-h.invariant.1 (omega (arith, c.loop-h-test.false))
 
 pub cut_spec : {M : Type 1} → statement M
 cut_spec =
     tie.close
     (tie.spec
-    invariant-loop
-    decreases-loop
+    invariant-loop-h
+    decreases-loop-h
     loop-holds
     mul-t
     slice-read-t
@@ -86,6 +86,6 @@ cut_spec =
     add-h
     loop-less
     loop-again
-    (λ c. c.before.loop.invariant.1.cut.long)
-    (λ c. c.before.loop.invariant.1.cut.log_long)
+    (λ c. c.loop-h.invariant.1.cut.long)
+    (λ c. c.loop-h.invariant.1.cut.log_long)
     returns)

@@ -11,18 +11,18 @@ use Rattle.reader.proofs.cursor.Cursor.first_rule.Tie as tie
 returns : tie.Need-returns
 unfolding next_at byte
 returns c =
-    let a = c.before.before.before.args in
+    let a = c.args in
     let next : a.self.at + 1 + get_or a.s.now a.self.at 0 ≡ next_at a.s.now a.self.at = omega arith in
-    c.list.ensures ∙ first-shaped a.s.now a.n a.self.at c.before.before.before.requires.fits _ _ refl next
+    c.list.ensures ∙ first-shaped a.s.now a.n a.self.at c.requires.fits _ _ refl next
 
-pub first-rule-spec : {M : Type 1} → statement M
+pub first_rule_spec : {M : Type 1} → statement M
 unfolding byte next_at
-first-rule-spec =
+first_rule_spec =
     tie.close
     (tie.spec
     (λ c. omega arith)
     (λ c. omega arith)
-    (λ c. omega (arith, c.shared-slice-known2.given c.before.before.args.self.at))
+    (λ c. omega (arith, c.shared_slice_known-2-1.given c.args.self.at))
     (λ c. omega arith)
-    (λ c κs. record { letters = c.before.before.requires.letters; order = omega arith; within = omega arith })
+    (λ c κs. record { letters = c.requires.letters; order = omega arith; within = omega arith })
     returns)

@@ -8,23 +8,23 @@ use Rattle.reader.proofs.Reading.{limit-short, limit-kind, limit-shaped}
 use Rattle.reader.proofs.cursor.Cursor.limit.Statement.{statement}
 use Rattle.reader.proofs.cursor.Cursor.limit.Tie as tie
 
-returns : tie.Need-returns
+returns : tie.Need-returns-then-s-at-lt2
 unfolding byte
 returns c =
     let c3 = c.before.before.before in
-    limit-short c3.args.s.now c3.args.n c3.args.self.at c3.requires.fits c.if1.true
+    limit-short c3.args.s.now c3.args.n c3.args.self.at c3.requires.fits c.if-s-at-lt2.true
 
-returns-2 : tie.Need-returns-2
+returns-2 : tie.Need-returns-then-s-kind-gt1
 unfolding byte
 returns-2 c =
     let c2 = c.before.before in
     let c5 = c2.before.before.before in
-    limit-kind c5.args.s.now c5.args.n c5.args.self.at c5.requires.fits c2.if1.false c.if2.true
+    limit-kind c5.args.s.now c5.args.n c5.args.self.at c5.requires.fits c2.if-s-at-lt2.false c.if-s-kind-gt1.true
 
 list-requires : tie.Need-list-requires
 list-requires c κs =
     let c6 = c.before.before.before.before.before.before in
-    let p = c.limit-parts.ensures in
+    let p = c.limit_parts-p.ensures in
     record {
       letters = c6.requires.letters;
       order = p.order;
@@ -32,7 +32,7 @@ list-requires c κs =
           c6.requires.fits;
     }
 
-returns-3 : tie.Need-returns-3
+returns-3 : tie.Need-returns
 unfolding byte
 returns-3 c =
     let c2 = c.before.before in
@@ -40,11 +40,11 @@ returns-3 c =
     let c7 = c4.before.before.before in
     c.list.ensures
     ∙ limit-shaped c7.args.s.now c7.args.n c7.args.self.at c7.requires.fits
-    c.before.limit-parts.result c.before.limit-parts.ensures c4.if1.false c2.if2.false
+    c.limit_parts-p.result c.limit_parts-p.ensures c4.if-s-at-lt2.false c2.if-s-kind-gt1.false
 
-pub limit-spec : {M : Type 1} → statement M
+pub limit_spec : {M : Type 1} → statement M
 unfolding byte next_at
-limit-spec =
+limit_spec =
     tie.close
     (tie.spec
     (λ c. omega arith)
@@ -52,6 +52,6 @@ limit-spec =
     (λ c. omega arith)
     (λ c. omega arith)
     returns-2
-    (λ c κs. record { fits = c.before.before.before.before.before.requires.fits; long = c.before.before.if1.false })
+    (λ c κs. record { fits = c.requires.fits; long = c.if-s-at-lt2.false })
     list-requires
     returns-3)

@@ -7,28 +7,28 @@ use Rattle.reader.proofs.Reading.{promise-long, promise-shaped}
 use Rattle.reader.proofs.cursor.Cursor.promise.Statement.{statement}
 use Rattle.reader.proofs.cursor.Cursor.promise.Tie as tie
 
-returns : tie.Need-returns
+returns : tie.Need-returns-then-s-at-ne1
 unfolding byte
 returns c =
     let c3 = c.before.before.before in
-    promise-long c3.args.s.now c3.args.n c3.args.self.at c3.requires.fits c.if1.true
+    promise-long c3.args.s.now c3.args.n c3.args.self.at c3.requires.fits c.if-s-at-ne1.true
 
-returns-2 : tie.Need-returns-2
+returns-2 : tie.Need-returns
 unfolding next_at byte
 returns-2 c =
-    let a = c.before.before.before.before.args in
+    let a = c.args in
     let next : a.self.at + 2 ≡ next_at a.s.now a.self.at = omega arith in
-    c.list.ensures ∙ promise-shaped a.s.now a.n a.self.at c.before.before.before.before.requires.fits _ _ refl next
-    c.before.if1.false
+    c.list.ensures ∙ promise-shaped a.s.now a.n a.self.at c.requires.fits _ _ refl next
+    c.if-s-at-ne1.false
 
-pub promise-spec : {M : Type 1} → statement M
+pub promise_spec : {M : Type 1} → statement M
 unfolding byte next_at
-promise-spec =
+promise_spec =
     tie.close
     (tie.spec
     (λ c. omega arith)
     returns
     (λ c. omega arith)
     (λ c. omega arith)
-    (λ c κs. record { letters = c.before.before.before.requires.letters; order = omega arith; within = omega arith })
+    (λ c κs. record { letters = c.requires.letters; order = omega arith; within = omega arith })
     returns-2)

@@ -14,21 +14,21 @@ use Rattle.reader.proofs.cursor.Cursor.record.Statement.{statement}
 use Rattle.reader.proofs.cursor.Cursor.record.Tie as tie
 
 -- the start, seen from behind both tests
-abbrev start : tie.Else2 → tie.Start
+abbrev start : tie.Else-len-s → tie.Start
 start c = c.before.before.before.before
 
 -- the record lies within the sheet
-fits : (c : tie.Else2) → next_at (start c).args.s.now (start c).args.self.at ≤ length (start c).args.s.now
+fits : (c : tie.Else-len-s) → next_at (start c).args.s.now (start c).args.self.at ≤ length (start c).args.s.now
 unfolding next_at byte
 fits c = omega arith
 
 -- what a record's own method asks
-asks : (c : tie.Else2) → RecordAsks (start c).args.s.now (start c).args.n (start c).args.self.at
+asks : (c : tie.Else-len-s) → RecordAsks (start c).args.s.now (start c).args.n (start c).args.self.at
 asks c = record { letters = (start c).requires.letters; fits = fits c }
 
 -- what it answers, k being the kind
 answers :
-    (c : tie.Else2) (k : Kind) → (start c).args.kind ≡ k → {r : Step}
+    (c : tie.Else-len-s) (k : Kind) → (start c).args.kind ≡ k → {r : Step}
     → r ≡ record_step (kind_of k) (start c).args.n (start c).args.s.now (start c).args.self.at
     → r ≡ next_step (kind_of (start c).args.kind) (start c).args.n (start c).args.s.now (start c).args.self.at
 answers c k e r =
@@ -36,26 +36,26 @@ answers c k e r =
     r ∙ record-there (kind_of k) a.n a.s.now a.self.at (fits c)
     ∙ ap (λ (k : Kind). next_step (kind_of k) a.n a.s.now a.self.at) (sym e)
 
-pub record-spec : {M : Type 1} → statement M
+pub record_spec : {M : Type 1} → statement M
 unfolding next_at byte
-record-spec =
+record_spec =
     tie.close
     (tie.spec
     (λ c. record-missing _ _ _ _ (omega arith))
     (λ c. search rules)
-    (λ c. omega (arith, c.shared-slice-known2.given c.before.before.before.args.self.at))
+    (λ c. omega (arith, c.shared_slice_known-2-1.given c.args.self.at))
     (λ c. search rules)
     (λ c. search rules)
     (λ c. record-missing _ _ _ _ (omega arith))
     (λ c. search rules)
-    (λ c κs. asks c.before.before)
+    (λ c κs. asks c.before)
     (λ c. search rules)
-    (λ c κs. asks c.before.before)
+    (λ c κs. asks c.before)
     (λ c. search rules)
-    (λ c κs. asks c.before.before)
+    (λ c κs. asks c.before)
     (λ c. search rules)
-    (λ c κs. asks c.before.before)
-    (λ c. answers c.before.before.before _ c.before.enum_told.given.1 c.limit.ensures)
-    (λ c. answers c.before.before.before _ c.before.enum-told2.given.1 c.first-rule.ensures)
-    (λ c. answers c.before.before.before _ c.before.enum-told3.given.1 c.step-rule.ensures)
-    (λ c. answers c.before.before.before _ c.before.enum-told4.given.1 c.promise.ensures))
+    (λ c κs. asks c.before)
+    (λ c. answers c.before.before _ c.in-Limit.is c.limit.ensures)
+    (λ c. answers c.before.before _ c.in-FirstRule.is c.first_rule.ensures)
+    (λ c. answers c.before.before _ c.in-StepRule.is c.step_rule.ensures)
+    (λ c. answers c.before.before _ c.in-Promise.is c.promise.ensures))

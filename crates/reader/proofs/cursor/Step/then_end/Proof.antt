@@ -7,18 +7,18 @@ use Rattle.reader.proofs.Sections.{at-end, not-at-end}
 use Rattle.reader.proofs.cursor.Step.then_end.Statement.{statement}
 use Rattle.reader.proofs.cursor.Step.then_end.Tie as tie
 
-returns : tie.Need-returns
+returns : tie.Need-returns-then-at-s
 returns c =
-    at-end c.before.before.before.before.args.s.now c.before.before.self.given.0.0.at c.if1.true
-    ∙ ap (λ (t : Step). onwards t (end_step c.before.before.before.before.args.s.now)) (sym c.before.before.self.given.1)
+    at-end c.args.s.now c.in-Moved.c.at c.if-at-s.true
+    ∙ ap (λ (t : Step). onwards t (end_step c.args.s.now)) (sym c.in-Moved.is)
 
-returns-2 : tie.Need-returns-2
+returns-2 : tie.Need-returns-else-at-s
 returns-2 c =
-    not-at-end c.before.before.before.before.args.s.now c.before.before.self.given.0.0.at c.if1.false
-    ∙ ap (λ (t : Step). onwards t (end_step c.before.before.before.before.args.s.now)) (sym c.before.before.self.given.1)
+    not-at-end c.args.s.now c.in-Moved.c.at c.if-at-s.false
+    ∙ ap (λ (t : Step). onwards t (end_step c.args.s.now)) (sym c.in-Moved.is)
 
-returns-3 : tie.Need-returns-3
-returns-3 c = ap (λ (t : Step). onwards t (end_step c.before.before.before.args.s.now)) (sym c.before.self2.given.1)
+returns-3 : tie.Need-returns-in-Refused
+returns-3 c = ap (λ (t : Step). onwards t (end_step c.args.s.now)) (sym c.in-Refused.is)
 
-pub then-end-spec : {M : Type 1} → statement M
-then-end-spec = tie.close (tie.spec (λ c. search rules) (λ c. search rules) returns returns-2 returns-3)
+pub then_end_spec : {M : Type 1} → statement M
+then_end_spec = tie.close (tie.spec (λ c. search rules) (λ c. search rules) returns returns-2 returns-3)
