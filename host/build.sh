@@ -2,7 +2,8 @@
 # Sourced by bash.
 #
 # What is built is kept as target/launch/NAME-SUM-KIT: SUM is a sum over the sources' contents, KIT one over `rt version`. If the sources
-# differ from what was built, there is no such file, and it is built anew. Nothing is written outside the repository.
+# differ from what was built, there is no such file, and it is built anew. Nothing is written outside the repository, and nothing under
+# crates/ but each crate's out/, where rt keeps its work.
 
 # Whether standard input is closed, and standard output; asked first, since any file opened later could take its place.
 if { : 3<&0; } 2>/dev/null; then closed=; else closed=yes; fi
@@ -31,6 +32,7 @@ need() {
 
 need_rt() {
   need rt "it is the Rattle toolchain, which proves and compiles the crates. Put its bin folder on PATH."
+  [ "$HOSTTYPE" = x86_64 ] || fail "this machine's processor is $HOSTTYPE; the Rattle toolchain, and what it compiles, is for x86-64 alone."
 }
 
 need_cargo() {
@@ -64,92 +66,6 @@ kit() {
 proof_sources() {
   echo crates.txt
   (cd "$top" && find crates -mindepth 2 -maxdepth 2 \( -name src -o -name specs -o -name proofs -o -name stdin -o -name stdout \))
-}
-
-# ---- another processor
-# What `rt` compiles is code for x86-64. Where the machine has another processor the toolchain brings an emulator, with which a program runs
-# (`run`); an archive can be linked by nobody there. So there the very module that the toolchain compiled into the archive is compiled once
-# more by the same compiler, for this processor, and takes the archive's place (`archive`).
-
-kit_home=${RATTLE_HOME:-$(dirname "$(dirname "$(readlink -f "$(command -v rt 2>/dev/null)" 2>/dev/null)")")}
-tools=$kit_home/on/$HOSTTYPE/toolchain
-emulator=
-[ "$HOSTTYPE" = x86_64 ] || [ ! -x "$tools/bin/qemu-x86_64" ] || emulator=$tools/bin/qemu-x86_64
-
-# run PROGRAM WORDS..: becomes the program, under the emulator where it is for x86-64 and the machine is not
-run() {
-  local front=
-  [ -z "$emulator" ] || IFS= read -r -n 4 front <"$1"
-  case $front in
-  ?ELF) exec "$emulator" "$tools/lib/ld-linux-x86-64.so.2" --library-path "$tools/lib" "$@" ;;
-  *) exec "$@" ;;
-  esac
-}
-
-# own_kit NAME: a folder like the toolchain's, in which the compiler also keeps the module that it is handed, as $kept/module-NAME.bc
-own_kit() {
-  local from to=$kept/kit-$1 entry
-  rm -rf "$to"
-  mkdir -p "$to/on/$HOSTTYPE/toolchain/bin"
-  for from in "" "on/$HOSTTYPE/" "on/$HOSTTYPE/toolchain/" "on/$HOSTTYPE/toolchain/bin/"; do
-    for entry in "$kit_home/$from"*; do
-      [ -e "$to/$from${entry##*/}" ] || ln -s "$entry" "$to/$from${entry##*/}"
-    done
-  done
-  rm "$to/on/$HOSTTYPE/toolchain/bin/clang"
-  cat >"$to/on/$HOSTTYPE/toolchain/bin/clang" <<END
-#!/bin/sh
-for word in "\$@"; do
-  case \$word in *.bc) cp "\$word" "$kept/module-$1.bc" ;; esac
-done
-exec "$tools/bin/clang" "\$@"
-END
-  chmod +x "$to/on/$HOSTTYPE/toolchain/bin/clang"
-}
-
-# compiled_here NAME: the archive of the module kept for it, as code for this processor
-compiled_here() {
-  local module=$kept/module-$1 clang=$tools/bin/clang to=$top/target/staticlib/lib$1.a
-  "$clang" --target=x86_64-unknown-linux-gnu -S -emit-llvm -O3 -Xclang -disable-llvm-passes -x ir "$module.bc" -o "$module.ll" &&
-    sed -i 's/"target-cpu"="x86-64"//' "$module.ll" &&
-    "$clang" "--target=$HOSTTYPE-unknown-linux-gnu" -Wno-override-module -ffunction-sections -fdata-sections -O3 -fPIC -c -x ir "$module.ll" \
-      -o "$module.o" && rm -f "$to" && "$tools/bin/llvm-ar" rc "$to" "$module.o" && rm "$module".*
-}
-
-# archive NAME: writes the archive of a crate, as code that can be linked here. It runs in a folder of its own, beside the same sources and
-# proofs: `rt` writes logs, and two at a time would write over each other's.
-archive() {
-  local room=$kept/archive-$1 kit=
-  rm -rf "$room"
-  mkdir -p "$room/target" "$top/target/staticlib" || return
-  ln -s "$top/crates" "$top/crates.txt" "$room" && ln -s "$top/target/rlib" "$top/target/stamp" "$room/target" || return
-  if [ -n "$emulator" ]; then
-    own_kit "$1"
-    kit=$kept/kit-$1
-  fi
-  (cd "$room" && ${kit:+env RATTLE_HOME="$kit"} rt staticlib "$1") && mv -f "$room/target/staticlib/lib$1.a" "$top/target/staticlib" || return
-  [ -z "$kit" ] || compiled_here "$1" || return
-  rm -rf "$room" ${kit:+"$kit"}
-}
-
-# side_by_side NAMES..: their archives, as many at a time as there are processors (at most 4, as rt does)
-side_by_side() {
-  local name running=0 status=0 most
-  most=${RT_JOBS:-$(nproc 2>/dev/null || echo 1)}
-  [ "$most" -le 4 ] || most=4
-  for name in "$@"; do
-    if [ "$running" -ge "$most" ]; then
-      wait -n || status=1
-      running=$((running - 1))
-    fi
-    archive "$name" &
-    running=$((running + 1))
-  done
-  while [ "$running" -gt 0 ]; do
-    wait -n || status=1
-    running=$((running - 1))
-  done
-  return "$status"
 }
 
 # hold: waits until no other command builds here, keeps others waiting until `release` or the end, and begins the log anew
@@ -192,30 +108,19 @@ release() {
   fi
 }
 
-# crates_below NAMES..: the crates that rt proves for these, in the order in which it does
+# crates_below NAMES..: these crates and all that they stand on, in the order in which rt proves them; the static libraries are left out
 crates_below() {
   WANTED="$*" awk '
-    function visit(n,    a, k, m, l) {
-      if (n in level) return
+    function visit(n,    a, k, m) {
+      if (n in seen) return
+      seen[n]
       m = split(deps[n], a, " ")
-      for (k = 1; k <= m; k++) if (a[k] in deps) { visit(a[k]); if (level[a[k]] + 1 > l) l = level[a[k]] + 1 }
-      level[n] = l + 0
-      print level[n], n
+      for (k = 1; k <= m; k++) if (a[k] in deps) visit(a[k])
+      if (!(n in static)) print n
     }
     { sub(/#.*/, "") }
-    /:/ { split($0, part, ":"); gsub(/[ \t]/, "", part[1]); deps[part[1]] = part[2] }
-    END { w = split(ENVIRON["WANTED"], want, " "); for (k = 1; k <= w; k++) visit(want[k]) }' "$top/crates.txt" |
-    sort -s -n -k1,1 | cut -d' ' -f2
-}
-
-# direct NAMES..: the crates of this repository that these stand on directly, each once
-direct() {
-  local name
-  for name in "$@"; do
-    sed -n "s/^$name: *//p" "$top/crates.txt" | tr ' ' '\n'
-  done | sort -u | while read -r name; do
-    [ ! -d "$top/crates/$name" ] || echo "$name"
-  done
+    /:/ { split($0, part, ":"); split(part[1], head, " "); deps[head[1]] = part[2]; if (head[2] == "staticlib") static[head[1]] }
+    END { w = split(ENVIRON["WANTED"], want, " "); for (k = 1; k <= w; k++) visit(want[k]) }' "$top/crates.txt"
 }
 
 # told COMMAND..: runs it in the top folder with what it prints in the log, and calls `heard LINE` for each line and `waiting` for each
@@ -253,23 +158,28 @@ doing() {
   fi
 }
 
-# prove NAMES..: `rt check`, which proves these crates and all they stand on, telling which crate is being proved and how many there are
+# prove NAME WORDS WORD..: `rt WORD..` in the folder of the crate NAME, which proves the crate and all that it stands on, as far as they are
+# not proved. Tells which crate of `crates` is being proved and how many there are, and WORDS where it is none of them.
 prove() {
-  local crates ended=0
-  mapfile -t crates < <(crates_below "$@")
+  local name=$1 words=$2 now=
+  shift 2
   heard() {
     case $1 in
-    "rt: "*" proved ("* | "rt: "*" NOT PROVED"*) ended=$((ended + 1)) ;;
+    "rt: chose --jobs "*" for "*) now=${1##* } ;;
+    "rt: running "*) now= ;;
     esac
   }
   waiting() {
-    if [ "$ended" -lt "${#crates[@]}" ]; then
-      doing "proving crate $((ended + 1)) of ${#crates[@]}: ${crates[ended]}"
-    else
-      doing "running what was proved"
-    fi
+    local i
+    for i in "${!crates[@]}"; do
+      if [ "${crates[i]}" = "$now" ]; then
+        doing "proving crate $((i + 1)) of ${#crates[@]}: $now"
+        return
+      fi
+    done
+    doing "$words"
   }
-  told rt check "$@"
+  told env -C "$top/crates/$name" rt "$@"
 }
 
 # step WORDS COMMAND..: a command of the build, told in these words
@@ -281,9 +191,9 @@ step() {
   told "$@"
 }
 
-# not_built WORDS: ends with the log's last lines
+# not_built WORDS: ends with the log's last lines that tell what failed: those on what is proved, and the counts behind each crate, are left out
 not_built() {
-  tail -n 20 "$log" >&2
+  sed -E '/^(statements|library|crate|logic|axioms|checked|only=|rt: chose)|: proved$/d' "$log" | tail -n 20 >&2
   fail "$1 (all that was said is in $log)"
 }
 
@@ -294,21 +204,29 @@ archives_sum() {
   sed 's,.*,target/staticlib/lib&.a,' "$top/host/archives.txt" | (cd "$top" && xargs sha256sum 2>/dev/null)
 }
 
-# archives: brings target/staticlib up to date, one archive for each crate that host/archives.txt names. To be called while holding.
-# `rt staticlib` proves its crate anew each time, so it is left out where the sources and the archives are those of the last time.
+# archives: brings target/staticlib up to date, one archive for each line of host/archives.txt: that of NAME is of the static library NAME_c.
+# To be called while holding. `rt lib` checks its crate anew each time, so it is left out where the sources and the archives are those of the
+# last time. One archive after the other: two runs of rt in one checkout would wait for one another.
 archives() {
-  local names before
+  local names crates before i
   mapfile -t names <"$top/host/archives.txt"
   [ "$(cat "$kept/archives" 2>/dev/null)" != "$(archives_sum)" ] || return 0
   need_rt
   rm -f "$kept/archives"
+  mkdir -p "$top/target/staticlib" || fail "cannot write to $top/target/staticlib, where the archives are kept"
   before=$(sum_of $(proof_sources))
-  prove $(direct "${names[@]}") || not_built "a crate was not proved"
-  # the last of the list take the longest: they go first, so that all end together
-  step "proving and compiling ${#names[@]} archives: ${names[*]}" side_by_side $(sed '1!G;h;$!d' "$top/host/archives.txt") ||
-    not_built "an archive was not built"
+  mapfile -t crates < <(crates_below "${names[@]/%/_c}")
+  for i in "${!names[@]}"; do
+    archive "${names[i]}" "proving and compiling archive $((i + 1)) of ${#names[@]}: ${names[i]}" ||
+      not_built "the archive of ${names[i]} was not built"
+  done
   [ "$before" = "$(sum_of $(proof_sources))" ] || fail "the sources changed while they were proved; run this again"
   archives_sum >"$kept/archives"
+}
+
+# archive NAME WORDS: writes the archive NAME, told in these words
+archive() {
+  prove "$1_c" "$2" lib && cp "$top/crates/$1_c/out/lib$1_c.a" "$top/target/staticlib/lib$1.a"
 }
 
 # put FILE PLACE: copies what was built to its place in one move, and takes away those of earlier sources

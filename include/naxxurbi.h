@@ -40,7 +40,7 @@
  *
  * Nothing is kept between calls, and no memory is allocated. What the calls take for granted, and cannot check:
  *
- *    - the machine is the one that the archive was compiled for: x86-64, or 64-bit ARM where it was built there, under Linux;
+ *    - the machine is the one that the archive was compiled for: x86-64 under Linux;
  *    - a pointer is valid for its length: so many bytes, or numbers of four bytes, can be read there, and in the judge's slices, in
  *      `out`, in `numbers`, in `account` and in `marks` also written. A pointer may be null where its length is 0; `out` has room for its
  *      numbers, five for the judge and two for naxxurbi_read_place, `account` for 515, `marks` for 255 bytes; a serial lead's `lead` has
@@ -53,30 +53,30 @@
  *    - while a call runs, nobody else writes what it was given, nor reads what it may write;
  *    - the stack has room, as follows.
  *
- * Stack, on either processor, in pages of 4,096 bytes: 256 for the judge, for a class and for the two calls about rules that fight, 4 for
- * the strike checker, 4 for the audit, 2 for the run checker, 1 for the reader and for either call of the serial lead; what the caller and
- * signal handlers take comes on top.
+ * Stack, in pages of 4,096 bytes: 256 for the judge, for a class and for the two calls about rules that fight, 4 for the strike checker, 4
+ * for the audit, 2 for the run checker, 1 for the reader and for either call of the serial lead; what the caller and signal handlers take
+ * comes on top.
  * host/c/stack.c runs each call on a fenced stack of just this size, on sheets of 24 letters that are judged to the end and on a bad one,
- * and prints what they take. On x86-64 (on 64-bit ARM it is a little less) the judge, a class, the strike checker, the audit, the run
- * checker and the reader take at most 1,033,784, 1,033,928, 16,244, 12,200, 7,192 and 280 bytes, naxxurbi_clash and naxxurbi_check_clash
- * 1,038,568 and 1,038,296. Of the audit's, 3,056 are the loader's, the first time that memcpy is called. The judge takes nearly as much
- * for a bad sheet (1,022,952 bytes), since its rooms have a fixed size.
+ * and prints what they take. As rattle-kit-5b, the kit before this one, compiled them, the judge, a class, the strike checker, the audit,
+ * the run checker and the reader took at most 1,033,784, 1,033,928, 16,244, 12,200, 7,192 and 280 bytes, naxxurbi_clash and
+ * naxxurbi_check_clash 1,038,568 and 1,038,296. Of the audit's, 3,056 are the loader's, the first time that memcpy is called. The judge
+ * takes nearly as much for a bad sheet (1,022,952 bytes then), since its rooms have a fixed size.
  *
  * Link libnaxxurbi.a, which bin/install-naxxurbi makes and which has every call; a program takes in only the objects that it calls. Or
  * link the archives it is made of: libfirmware.a (both checkers), libjudge.a (naxxurbi_judge), libreader.a (naxxurbi_read,
  * naxxurbi_read_place), libaudit.a (naxxurbi_audit), libserial.a (the serial lead), libclass.a (naxxurbi_judge_class), libclash.a
  * (naxxurbi_check_clash, naxxurbi_clash); each stands alone.
- * On either processor their code takes at most 15 KB, 30 KB, 2 KB, 8 KB, 3 KB, 30 KB and 34 KB (of 1,024 bytes); they have no data of
+ * Their code takes at most 15 KB, 30 KB, 2 KB, 8 KB, 3 KB, 30 KB and 34 KB (of 1,024 bytes); they have no data of
  * their own. The only outside functions that they call are memset and memcpy.
  *
  * Time. The run checker looks at each state once for each rule and promise. The strike checker counts, for the first states and for each
  * entry that asks for something new, the states that may come next, and stops once there are more than the list could hold. It settles
  * the letters one at a time, takes what a limit or a rule forces as settled, and drops what they rule out; a clash that shows only at the
  * last letters costs microseconds. What no look at single rules sees still costs a walk of 2 to the power n steps for each such entry.
- * Measured (docs/BENCHMARK.md, "odd clash", which names the processor), for one such walk of 24 letters: 0.1 s with 2 limits, 1.9 s with
- * 32 limits and 255 rules; each letter less halves it. Firmware that takes papers from strangers should bound the letters or the entries
- * that it accepts. Repeated states are judged exactly; where many of them are next states they are counted by marks, and else compared
- * with the entries before.
+ * Measured with that kit (docs/BENCHMARK.md, "odd clash", which names the processor), for one such walk of 24 letters: 0.1 s with 2
+ * limits, 1.9 s with 32 limits and 255 rules; each letter less halves it. Firmware that takes papers from strangers should bound the
+ * letters or the entries that it accepts. Repeated states are judged exactly; where many of them are next states they are counted by
+ * marks, and else compared with the entries before.
  */
 #ifndef NAXXURBI_H
 #define NAXXURBI_H
@@ -280,7 +280,7 @@ uint32_t naxxurbi_audit(const uint8_t *sheet, size_t sheet_len, uint32_t account
  * Otherwise 0. numbers[4 * i] to numbers[4 * i + 3] are answer, count, a and b of sheet i; the places after the last sheet's are unchanged.
  * These and the four slices are as if naxxurbi_judge had been called for each sheet in turn with the same slices: what a sheet gets does not
  * depend on its neighbours, and the slices hold what the last good sheet left. No ends and no input: 0, and nothing is changed. It takes
- * the judge's stack and some 150 bytes more.
+ * the judge's stack and 160 bytes more.
  */
 uint32_t naxxurbi_judge_class(const uint8_t *sheets, size_t sheets_len, const uint32_t *ends, size_t ends_len, naxxurbi_state *table,
                               size_t table_len, uint32_t *words, size_t words_len, naxxurbi_state *scratch, size_t scratch_len,

@@ -1,4 +1,4 @@
-//! Links the archives that `rt staticlib` wrote: those that `host/archives.txt` names. Whoever depends on this crate links them with it.
+//! Links the archives that `host/archives` wrote: those that `host/archives.txt` names. Whoever depends on this crate links them with it.
 
 fn main() {
     let manifest = std::env::var("CARGO_MANIFEST_DIR").expect("cargo names the package's folder");

@@ -36,7 +36,7 @@ impl House {
                 if folder == "crates" {
                     self.crates.push(name.clone());
                 }
-                if name != "target" {
+                if name != "target" && name != "out" {
                     self.walk(&path);
                 }
             } else if let Some(edit) = name.strip_suffix(".edit") {
@@ -108,6 +108,6 @@ impl House {
 
 /// Whether a word stands in a text, with no letter of a name before or behind it.
 fn has_word(text: &str, word: &str) -> bool {
-    let part = |letter: Option<char>| letter.is_some_and(|letter| letter.is_alphanumeric() || "_-′".contains(letter));
+    let part = |letter: Option<char>| letter.is_some_and(|letter| letter.is_alphanumeric() || "_-'′◌".contains(letter));
     text.match_indices(word).any(|(at, _)| !part(text[..at].chars().next_back()) && !part(text[at + word.len()..].chars().next()))
 }

@@ -79,7 +79,7 @@ fn kind(text: &str, edits: &Option<Vec<String>>, rooms: &[String], house: &House
     if tops.iter().any(|top| text.starts_with(top)) && !text.contains(' ') {
         return Some(Kind::Path);
     }
-    let plain = text.chars().all(|letter| letter.is_alphanumeric() || "_-:?′".contains(letter));
+    let plain = text.chars().all(|letter| letter.is_alphanumeric() || "_-:?'′◌".contains(letter));
     if !plain || text.starts_with('-') || text.chars().all(|letter| letter.is_ascii_digit()) {
         return None;
     }
