@@ -1,5 +1,5 @@
-// The two calls for a monitor's firmware: a proposed run and a proposed strike list, as bytes; each state or word is four bytes, big-endian.
-// Crate firmware_c hands them to callers in C. Nothing lent is changed.
+// The two calls for a monitor's firmware: a proposed run and a proposed strike list, as bytes; each state or word is four bytes,
+// big-endian. Crate firmware_c hands them to callers in C. Nothing lent is changed.
 //
 // They return 0 (accepted), 1 to 10 (the sheet's first fault) or 14 (not accepted, or a length that is no multiple of four).
 #![tactic(auto)]

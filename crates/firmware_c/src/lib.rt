@@ -1,5 +1,5 @@
-// The two checkers' calls for C, as a static library for a monitor's firmware: one export for each function of crate firmware, with the same
-// promise. A `&[u8]` passes as a pointer and a length; each state or word is four bytes, big-endian. Nothing lent is changed.
+// The two checkers' calls for C, as a static library for a monitor's firmware: one export for each function of crate firmware, with the
+// same promise. A `&[u8]` passes as a pointer and a length; each state or word is four bytes, big-endian. Nothing lent is changed.
 //
 // They return 0 (accepted), 1 to 10 (the sheet's first fault) or 14 (not accepted, or a length that is no multiple of four):
 //   uint32_t naxxurbi_check_run(const uint8_t *sheet, size_t sheet_len, const uint8_t *states, size_t states_len, uint32_t a);

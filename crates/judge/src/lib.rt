@@ -54,7 +54,8 @@ pub fn judge(
     }
 }
 
-// The same for callers in C, to whom crate judge_c hands it: answer, count, a, b and place go into `out`, in this order, whatever the answer.
+// The same for callers in C, to whom crate judge_c hands it: answer, count, a, b and place go into `out`, in this order, whatever the
+// answer.
 pub fn naxxurbi_judge(
     sheet: &[u8],
     table: &mut [State],

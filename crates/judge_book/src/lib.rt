@@ -1,5 +1,6 @@
 // The judge over a sheet's book: lists the reachable states (answer 11 where there is no room for them), strikes those that nobody could
-// keep, and hands over the strike list (answer 13, `judge_struck`) or what `judge_kept` finds. Where very few states can be reached `tiny` does it.
+// keep, and hands over the strike list (answer 13, `judge_struck`) or what `judge_kept` finds. Where very few states can be reached `tiny`
+// does it.
 #![tactic(auto)]
 
 ghost use Rattle.rules.specs.Book.{Shaped, book_system};

@@ -1,5 +1,5 @@
-// The judge's call for C, as a static library: it exports the function of crate judge that C calls, with the same promise. A slice passes as
-// a pointer and a length. include/naxxurbi.h declares it.
+// The judge's call for C, as a static library: it exports the function of crate judge that C calls, with the same promise. A slice passes
+// as a pointer and a length. include/naxxurbi.h declares it.
 #![tactic(auto)]
 
 ghost use Rattle.meaning.specs.Promises.{JudgedOut};
