@@ -1,4 +1,4 @@
-// The numbers that the public calls answer, by name. The ten faults of a sheet, 1 to 10, are the reader's (`reader::number`). What a call
+// The numbers that the public calls answer, by name. The ten faults of a sheet, 1 to 10, are the reader's (`reader::Why`). What a call
 // leaves with each number is its promise; these are only the numbers, and specs/Answers.antt has the same for the promises.
 #![tactic(auto)]
 

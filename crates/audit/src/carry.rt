@@ -1,6 +1,5 @@
 // An account carried on by a piece of a log: its five numbers and its tallies apart, and joined again.
 ghost use Rattle.std.specs.Prelude.{◌≡◌, length};
-ghost use Rattle.rules.specs.Book.{Shaped};
 ghost use Rattle.audit_account.specs.Book.{book_carried, Carriable};
 ghost use Rattle.audit_follow.specs.Heads.{with_tallies};
 ghost use Rattle.audit.specs.Given.{account_of};
@@ -8,17 +7,20 @@ ghost use Rattle.audit.specs.Given.{account_of};
 use super::Account;
 use audit_follow::{Head, TALLIES};
 use ground::State;
+use rules::Book;
 
 // An account's five numbers.
-fn head_of(account: Account) -> Head
-    ensures { with_tallies result account.kept account.broken ≡ account_of account }
-{
-    Head {
-        count: account.count,
-        last: account.last,
-        what: account.what,
-        moment: account.moment,
-        rule: account.rule,
+impl From<&Account> for Head {
+    ghost from_gives = { λ account r. with_tallies r account.now.kept account.now.broken ≡ account_of account.now };
+
+    fn from(account: &Account) -> Head {
+        Head {
+            count: account.count,
+            last: account.last,
+            what: account.what,
+            moment: account.moment,
+            rule: account.rule,
+        }
     }
 }
 
@@ -38,13 +40,13 @@ fn joined(head: Head, kept: [u32; TALLIES], broken: [u32; TALLIES]) -> Account
 }
 
 // The account carried on by these states.
-pub fn carry(book: &[State], account: Account, states: &[State]) -> Account
-    requires { Shaped book.now × Carriable (account_of account) (length states.now) }
+pub fn carry(book: &Book, account: Account, states: &[State]) -> Account
+    requires { Carriable (account_of account) (length states.now) }
     ensures { account_of result ≡ book_carried book.now (account_of account) states.now }
 {
     let mut kept = account.kept;
     let mut broken = account.broken;
-    let head = head_of(account);
+    let head = Head::from(&account);
     let last = audit_follow::follow(book, states, head, &mut kept, &mut broken);
     joined(last, kept, broken)
 }

@@ -12,7 +12,7 @@ ghost use Rattle.audit.specs.Given.{account_of};
 
 use answers::{DONE, PAST_THE_MOST_MOMENTS};
 use ground::State;
-use reader::InNumbers;
+use rules::Book;
 
 mod carry;
 mod numbers;
@@ -25,7 +25,8 @@ pub use numbers::NUMBERS;
 pub const MOMENTS: u32 = 1000000;
 
 // The account of a log so far: how many moments; the last state; what the first breach was (0 none, 1 unlawful, 2 first rule, 3 step rule),
-// its moment and its step rule; and for each step rule how often its left side led to a kept move and how often to a broken one.
+// its moment and its step rule; and for each step rule how often its left side led to a kept move and how often to a broken one. The fields
+// stand side by side, with no `Head` in them, as callers write and read them: the public layout.
 #[derive(Clone, Copy)]
 pub struct Account {
     pub count: u32,
@@ -64,14 +65,7 @@ pub fn fresh() -> Account
 fn some_past(tallies: &[u32; TALLIES]) -> bool
     ensures { Says (SomePast tallies.now) result }
 {
-    let mut i: usize = 0;
-    while i < TALLIES {
-        if tallies[i] > MOMENTS {
-            return true;
-        }
-        i += 1;
-    }
-    false
+    tallies.iter().any(|tally| *tally > MOMENTS)
 }
 
 // Whether a count and a piece of `more` states are past the most moments.
@@ -89,15 +83,7 @@ fn count_past(count: u32, more: usize) -> bool
 fn past(account: Account, more: usize) -> bool
     ensures { Says (PastBy (account_of account) more) result }
 {
-    if count_past(account.count, more) {
-        return true;
-    }
-    let kept = account.kept;
-    if some_past(&kept) {
-        return true;
-    }
-    let broken = account.broken;
-    some_past(&broken)
+    count_past(account.count, more) || some_past(&account.kept) || some_past(&account.broken)
 }
 
 // Carries the account on under a good sheet.
@@ -113,8 +99,9 @@ fn audit_good(sheet: &[u8], account: Account, states: &[State]) -> Report
             account,
         };
     }
-    let mut book = [0 as State; rules::BOOK_SIZE];
-    compile::compile(sheet, &mut book);
+    let mut numbers = [0 as State; rules::BOOK_SIZE];
+    compile::compile(sheet, &mut numbers);
+    let book = Book { numbers: &numbers };
     let back = carry::carry(&book, account, states);
     Report {
         answer: DONE,
@@ -131,8 +118,8 @@ pub fn audit(sheet: &[u8], account: Account, states: &[State]) -> Report
         (account_of result.account) }
 {
     match reader::read_in_numbers(sheet) {
-        InNumbers::Good => audit_good(sheet, account, states),
-        InNumbers::Refused(v) => Report {
+        Ok(()) => audit_good(sheet, account, states),
+        Err(v) => Report {
             answer: v.answer,
             place: v.place,
             account,
@@ -141,12 +128,12 @@ pub fn audit(sheet: &[u8], account: Account, states: &[State]) -> Report
 }
 
 // The same for callers in C, to whom crate audit_c hands it, without the place: the account's 515 numbers are carried on where they stand.
+// It is the C interface, so it stands beside `audit`.
 pub fn naxxurbi_audit(sheet: &[u8], account: &mut [u32; numbers::NUMBERS], states: &[State]) -> u32
     ensures { AuditedOut sheet.now account.old states.now result account.new }
 {
-    let before = numbers::account_of(account);
-    let report = audit(sheet, before, states);
-    let back = report.account;
-    *account = numbers::numbers_of(back);
+    let report = audit(sheet, Account::from(&*account), states);
+    let back = <[u32; NUMBERS]>::from(&report.account);
+    *account = back;
     report.answer
 }

@@ -21,12 +21,7 @@ fn tallies_at(numbers: &[u32; NUMBERS], from: usize) -> [u32; TALLIES]
     ensures { result ≡ numbers_at 255 numbers.now from }
 {
     let mut tallies = [0u32; TALLIES];
-    let mut i: usize = 0;
-    while i < TALLIES {
-        let at = from + i;
-        tallies[i] = numbers[at];
-        i += 1;
-    }
+    tallies.copy_from_slice(&numbers[from..from + TALLIES]);
     tallies
 }
 
@@ -35,44 +30,41 @@ fn put_tallies(numbers: &mut [u32; NUMBERS], from: usize, tallies: &[u32; TALLIE
     requires { (from + 255 ≤ 515) × (length numbers.old ≡ 515) }
     ensures { Copied 255 tallies.now 0 numbers.old from numbers.new }
 {
-    let mut i: usize = 0;
-    while i < TALLIES {
-        let at = from + i;
-        numbers[at] = tallies[i];
-        i += 1;
-    }
+    numbers[from..from + TALLIES].copy_from_slice(tallies);
 }
 
 // The account that 515 numbers stand for.
-pub fn account_of(numbers: &[u32; NUMBERS]) -> Account
-    ensures { account_of result ≡ read_account numbers.now }
-{
-    let kept = tallies_at(numbers, KEPT);
-    let broken = tallies_at(numbers, BROKEN);
-    Account {
-        count: numbers[0],
-        last: numbers[1] as State,
-        what: numbers[2],
-        moment: numbers[3],
-        rule: numbers[4],
-        kept,
-        broken,
+impl From<&[u32; NUMBERS]> for Account {
+    ghost from_gives = { λ numbers r. account_of r ≡ read_account numbers.now };
+
+    fn from(numbers: &[u32; NUMBERS]) -> Account {
+        let kept = tallies_at(numbers, KEPT);
+        let broken = tallies_at(numbers, BROKEN);
+        Account {
+            count: numbers[0],
+            last: numbers[1] as State,
+            what: numbers[2],
+            moment: numbers[3],
+            rule: numbers[4],
+            kept,
+            broken,
+        }
     }
 }
 
 // The 515 numbers of an account.
-pub fn numbers_of(account: Account) -> [u32; NUMBERS]
-    ensures { result ≡ write_account (account_of account) }
-{
-    let kept = account.kept;
-    let broken = account.broken;
-    let mut numbers = [0u32; NUMBERS];
-    numbers[0] = account.count;
-    numbers[1] = account.last as u32;
-    numbers[2] = account.what;
-    numbers[3] = account.moment;
-    numbers[4] = account.rule;
-    put_tallies(&mut numbers, KEPT, &kept);
-    put_tallies(&mut numbers, BROKEN, &broken);
-    numbers
+impl From<&Account> for [u32; NUMBERS] {
+    ghost from_gives = { λ account r. r ≡ write_account (account_of account.now) };
+
+    fn from(account: &Account) -> [u32; NUMBERS] {
+        let mut numbers = [0u32; NUMBERS];
+        numbers[0] = account.count;
+        numbers[1] = account.last as u32;
+        numbers[2] = account.what;
+        numbers[3] = account.moment;
+        numbers[4] = account.rule;
+        put_tallies(&mut numbers, KEPT, &account.kept);
+        put_tallies(&mut numbers, BROKEN, &account.broken);
+        numbers
+    }
 }

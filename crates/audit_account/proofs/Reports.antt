@@ -21,14 +21,14 @@ use Rattle.meaning.specs.Sheet.{Sheet, StepRule, positive, size, names, first_fa
 use Rattle.meaning.specs.Rules.{holds, true_in, some_literal_true, all_literals_true, step_holds}
 use Rattle.meaning.specs.Papers.{place}
 use Rattle.meaning.specs.Promises.{system_in, Lent, Outcome, Judged}
-use Rattle.meaning.proofs.Demands.{kept-hands-over, kept-run-accepted, fault-number}
+use Rattle.meaning.proofs.Demands.{kept-hands-over, kept-run-accepted}
 use Rattle.reader.specs.Header.{steps_in}
 use Rattle.reader.proofs.Good.{names-letter, good-header, step-good, step-record, step-at, steps-count}
 use Rattle.rules.specs.Book.{how_many}
 use Rattle.rules.proofs.Counting.{same_count}
 use Rattle.audit_account.specs.Account.{Account, AccountOf, most_tallies, nothing, first_broken, state_at, asks, keeps, breaks, moves_of}
 use Rattle.audit_account.specs.Account.{tally_of, tallies_of, Breach, NoBreach, broke_step, next_is, rule_is, what_at, rule_at}
-use Rattle.audit_account.specs.Carry.{carried, empty, most_moments, Past, Audited, faulty, past, done}
+use Rattle.audit_account.specs.Carry.{carried, empty, most_moments, Past, done}
 use Rattle.audit_account.proofs.Carrying.{carried-account, empty-account}
 use Rattle.audit_account.proofs.Accounts.{zeros-at, kept-and-broken, clean-exactly, accepted-clean}
 use Rattle.audit_account.proofs.Audits.{Calls, joined, zero-call, refused-by-length-only}

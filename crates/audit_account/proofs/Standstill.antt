@@ -4,8 +4,7 @@ use mathlib.Core.Path.{◌≡◌, refl, sym, ◌∙◌, ap, ap₂, subst}
 use mathlib.Core.Logic.{◌⊎◌, inl, inr}
 use mathlib.Core.Bool.{Bool, true, false, cond, not, ◌&&◌}
 use mathlib.Core.List.{List}
-use Prim.Native.Nat.{ℕ, zero, suc, ◌+◌, ◌-◌, ◌≤◌, ◌<◌}
-use native.Mathlib.Decide.{dec_lt}
+use Prim.Native.Nat.{ℕ, zero, suc, ◌+◌, ◌≤◌, ◌<◌}
 use native.Mathlib.Omega.{arith}
 use borrow.Author.Tests.{ne_eqb}
 use lib.Dec.{eqb}
@@ -143,25 +142,3 @@ carried_same book states account i times same = by same.alike
             let here : get_or states i 0 ≡ account.last = ap (λ (k : ℕ). get_or states k 0) (sym at) ∙ stands.same 0 (omega arith) in
             ap₂ (λ (t n : ℕ). book_carried book (book_noted book account t n) (drop (i + n) states)) here one
             ∙ carried-still book states account i more some (subst (Standing states i account.last) one stands)
-
--- ---- how long the log stands still
-
-pub standing-none : (states : List ℕ) (from s i : ℕ) → from ≤ length states → i ≡ from → Standing states from s (i - from)
-standing-none states from s i few e = record { within = omega arith; same = λ j h. absurd (omega arith) }
-
-pub standing-next : {states : List ℕ} {from s i : ℕ} → from ≤ i → i < length states → Standing states from s (i - from)
-    → get_or states i 0 ≡ s
-    → Standing states from s (i + 1 - from)
-standing-next {states} {from} {s} {i} up h before here = record { within = omega arith; same = λ j k. by j (dec_lt j (i - from)) k }
-  where
-    by : (j : ℕ) → Dec (j < i - from) → j < i + 1 - from → get_or states (from + j) 0 ≡ s
-    by j (yes q) k = before.same j q
-    by j (no q) k = let at : from + j ≡ i = omega arith in ap (λ (n : ℕ). get_or states n 0) at ∙ here
-
--- One state is one move, whatever it is.
-pub one-move : (states : List ℕ) (i count last : ℕ) → i < length states → SameMoves states i count last 1
-one-move states i count last h = record { some = omega arith; within = omega arith; alike = inl refl }
-
-pub still-moves : {states : List ℕ} {i count last n : ℕ} → (count ≡ 0 → ⊥) → (n ≡ 0 → ⊥) → Standing states i last n
-    → SameMoves states i count last n
-still-moves {n = n} some there stands = record { some = omega arith; within = stands.within; alike = inr (some, stands) }

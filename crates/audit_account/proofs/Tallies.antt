@@ -48,10 +48,6 @@ counted-within : (b : Bool) (times : ℕ) → cond b times 0 ≤ times
 counted-within true times = omega arith
 counted-within false times = omega arith
 
--- Where `times` more fit, so do those counted.
-pub counted-fits : (b : Bool) (times more n most : ℕ) → more ≡ cond b times 0 → n + times ≤ most → n + more ≤ most
-counted-fits b times more n most e h = omega (arith, e, h, counted-within b times)
-
 -- No tally grows by more than `times`.
 pub bumped-within : (times : ℕ) (test : ℕ → Bool) (n : ℕ) (l : List ℕ) (i : ℕ) → get_or (bumped times test n l) i 0 ≤ get_or l i 0 + times
 unfolding bumped bump

@@ -1,24 +1,18 @@
--- What one state is and what is told of it: the ladders of tests (tests), what a state is (is-by), the rule told (told-step, told-other).
--- Assumes nothing.
+-- What one state is (is-by), the rule that a breach is told with (told-step, told-other), and that an account within the bound may be
+-- carried on (carriable). Assumes nothing.
 use mathlib.Core.Path.{◌≡◌, sym, ◌∙◌, ap}
-use mathlib.Core.Logic.{inl, inr, ◌↔◌}
+use mathlib.Core.Logic.{inl, inr}
 use mathlib.Core.Bool.{Bool, cond}
 use mathlib.Core.List.{List}
-use Prim.Native.Nat.{ℕ, ◌+◌, ◌-◌, ◌≤◌, ◌<◌}
-use native.Mathlib.Decide.{dec_lt}
+use Prim.Native.Nat.{ℕ, ◌+◌, ◌≤◌, ◌<◌}
 use native.Mathlib.Omega.{arith}
-use borrow.Author.Tests.{eq-eqb, ne_eqb, lt-ltb, le-ltb, le-leb, lt-leb}
+use borrow.Author.Tests.{eq-eqb, ne_eqb}
 use lib.Dec.{eqb}
 use lib.ListN.{get_or}
-use Rattle.meaning.proofs.Tests.{below_next}
-use Rattle.ground.specs.Says.{Says}
-use Rattle.ground.proofs.Saying.{says-as}
 use Rattle.rules.specs.Book.{book_lawful, book_first}
 use Rattle.audit_account.specs.Account.{Account, most_tallies, nothing, unlawful, broke_first, broke_step}
-use Rattle.audit_account.specs.Carry.{most_moments, PastCount, PastBy, SomePast}
+use Rattle.audit_account.specs.Carry.{most_moments, PastBy, SomePast}
 use Rattle.audit_account.specs.Book.{book_is, rule_told, Within, Carriable}
-
-pub ruleset tests = (lt-ltb, le-ltb, le-leb, lt-leb, eq-eqb, ne_eqb)
 
 -- ---- what a state is
 
@@ -42,34 +36,6 @@ unfolding rule_told
 told-other is broke e = sym (ap (λ (b : Bool). cond b broke 0) (ne_eqb is broke_step e))
 
 -- ---- what is past the bound
-
--- With the count within the bound, a piece passes it exactly if it is longer than the room left.
-pub past-with : (count more room : ℕ) → count ≤ most_moments → room ≡ most_moments - count → (room < more) ↔ PastCount count more
-past-with count more room few is = (λ h. inr (omega arith), from)
-  where
-    from : PastCount count more → room < more
-    from (inl h) = absurd (omega arith)
-    from (inr h) = omega arith
-
--- no tally before place i is past the bound
-abbrev pub NonePast : List ℕ → ℕ → Type 0
-NonePast tallies i = (j : ℕ) → j < i → get_or tallies j 0 ≤ most_moments
-
-pub none-past-next : (tallies : List ℕ) (i : ℕ) → NonePast tallies i → get_or tallies i 0 ≤ most_moments → NonePast tallies (i + 1)
-none-past-next tallies i before here j h = below_next (λ (k : ℕ). get_or tallies k 0 ≤ most_moments) i here before j (omega (arith, h))
-
-pub none-past-all : (tallies : List ℕ) (i : ℕ) → NonePast tallies i → most_tallies ≤ i → SomePast tallies → ⊥
-none-past-all tallies i before all p = omega (arith, before p.at (omega (arith, p.within)), p.past)
-
--- The broken tallies decide where the count and the kept ones are within the bound.
-pub past-by-broken : (account : Account) (more : ℕ) {r : Bool} → (PastCount account.count more → ⊥) → (SomePast account.kept → ⊥)
-    → Says (SomePast account.broken) r → Says (PastBy account more) r
-past-by-broken account more count kept says = says-as (λ p. inr (inr p)) back says
-  where
-    back : PastBy account more → SomePast account.broken
-    back (inl p) = absurd (count p)
-    back (inr (inl p)) = absurd (kept p)
-    back (inr (inr p)) = p
 
 -- An account that is not past the bound may be carried on.
 pub carriable : (account : Account) (more : ℕ) → (PastBy account more → ⊥) → Carriable account more

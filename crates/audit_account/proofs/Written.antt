@@ -1,39 +1,47 @@
--- An account as 515 numbers: copying numbers place by place (copied_none, copied_next), what the code reads and writes so (numbers-read,
--- numbers-written), and that 515 numbers read and written again are the same (write_read), so that a refusal leaves them unchanged
--- (refused-unchanged). Assumes nothing.
+-- An account as 515 numbers: what copying a part reads (part-read) and writes (copied-put), the account written so (numbers-written), and
+-- that 515 numbers read and written again are the same (write_read), so that a refusal leaves them unchanged (refused-unchanged). Assumes
+-- nothing.
 use mathlib.Core.Path.{◌≡◌, refl, sym, ◌∙◌, ap, ap₂, subst}
 use mathlib.Core.List.{List, ◌++◌}
-use Prim.Native.Nat.{ℕ, zero, suc, ◌+◌, ◌-◌, ◌<◌}
-use native.Mathlib.Decide.{ℕ_discrete, dec_lt}
+use Prim.Native.Nat.{ℕ, zero, suc, ◌+◌, ◌-◌, ◌≤◌, ◌<◌}
+use native.Mathlib.Decide.{dec_lt}
 use native.Mathlib.Omega.{arith}
-use lib.ListN.{length, get_or, set, length-set, length-append, get_or-append}
-use lib.Seq.{ext_get_or, get_or-set_same, get_or-set_other, get_or-append-add}
+use borrow.Rule.Slice.PartMut.{mid_of, post_of, put_mid, same_len_mid, mid_len}
+use lib.ListN.{length, get_or, take, drop, length-drop, length-append, get_or-append}
+use lib.Seq.{ext_get_or, length-take-le, get_or-append-add}
+use Rattle.std.proofs.lemmas.List.{get_or-take, get_or-drop, get_or-append_right}
 use Rattle.audit_account.specs.Account.{Account, most_tallies}
 use Rattle.audit_account.specs.Carry.{numbers_at, read_account, write_account, AuditedOut, Audited, faulty, past, done}
 use Rattle.audit_account.specs.Book.{Copied}
 
 -- ---- copying
 
-pub copied_none : (from : List ℕ) (at : ℕ) (into : List ℕ) (to : ℕ) → Copied 0 from at into to into
-copied_none from at into to = record { long = refl; below = λ j h. refl; here = λ j h. absurd (omega arith) }
-
--- One number more.
-pub copied_next : (n : ℕ) (from : List ℕ) (at : ℕ) (into : List ℕ) (to : ℕ) (after : List ℕ) (p q : ℕ) → Copied n from at into to after
-    → p ≡ to + n → q ≡ at + n → p < length into → Copied (n + 1) from at into to (set after p (get_or from q 0))
-copied_next n from at into to after p q c ep eq h = record {
-  long = length-set after p _ ∙ c.long;
-  below = λ j b. get_or-set_other after p j _ 0 (λ e. omega arith) ∙ c.below j b;
-  here = λ j b. by j b (ℕ_discrete j n);
+-- A list that is put in the place of a part as long as it stands there.
+pub copied-put : (n : ℕ) (from into : List ℕ) (to : ℕ) → length from ≡ n → to + n ≤ length into
+    → Copied n from 0 into to (put_mid to (to + n - to) into from)
+copied-put n from into to many fits = record {
+  long = same_len_mid to (to + n - to) into from long;
+  below = λ j h. get_or-append (take to into) rest 0 j (omega (arith, front, h)) ∙ get_or-take to into j 0 h;
+  here = here;
 }
   where
-    by : (j : ℕ) → j < n + 1 → Dec (j ≡ n) → get_or (set after p (get_or from q 0)) (to + j) 0 ≡ get_or from (at + j) 0
-    by j b (yes e) =
-        let place : to + j ≡ p = omega arith in
-        let source : q ≡ at + j = omega arith in
-        ap (λ (k : ℕ). get_or (set after p (get_or from q 0)) k 0) place
-        ∙ get_or-set_same after p (get_or from q 0) 0 (subst (λ (m : ℕ). p < m) (sym c.long) h)
-        ∙ ap (λ (k : ℕ). get_or from k 0) source
-    by j b (no e) = get_or-set_other after p (to + j) _ 0 (λ x. e (omega arith)) ∙ c.here j (omega arith)
+    rest : List ℕ
+    rest = from ++ post_of to (to + n - to) into
+
+    front : length (take to into) ≡ to
+    front = length-take-le to into (omega arith)
+
+    long : length from ≡ length (mid_of to (to + n - to) into)
+    long = let k : to + n - to ≡ n = omega arith in many ∙ sym k ∙ sym (mid_len to (to + n) into fits)
+
+    here : (j : ℕ) → j < n → get_or (take to into ++ rest) (to + j) 0 ≡ get_or from (0 + j) 0
+    here j h =
+        let at : to + j - to ≡ j = omega arith in
+        let same : j ≡ 0 + j = omega arith in
+        get_or-append_right (take to into) rest to (to + j) 0 front (omega arith)
+        ∙ ap (λ (k : ℕ). get_or rest k 0) at
+        ∙ get_or-append from (post_of to (to + n - to) into) 0 j (omega (arith, many, h))
+        ∙ ap (λ (k : ℕ). get_or from k 0) same
 
 -- ---- the numbers from a place on
 
@@ -50,17 +58,17 @@ numbers-at (suc n) l at (suc j) h =
     let e : suc at + j ≡ at + suc j = omega arith in
     numbers-at n l (suc at) j (omega arith) ∙ ap (λ (k : ℕ). get_or l k 0) e
 
--- What is copied to the front of a list of n is the n numbers.
-pub numbers-read : (n : ℕ) (from : List ℕ) (at : ℕ) (into after : List ℕ) → length into ≡ n → Copied n from at into 0 after
-    → after ≡ numbers_at n from at
-numbers-read n from at into after long c =
-    ext_get_or 0 after (numbers_at n from at) (c.long ∙ long ∙ sym (numbers-long n from at)) each
+-- A part of a list is its numbers.
+pub part-read : (n : ℕ) (l : List ℕ) (at : ℕ) → at + n ≤ length l → take n (drop at l) ≡ numbers_at n l at
+part-read n l at fits = ext_get_or 0 (take n (drop at l)) (numbers_at n l at) (long ∙ sym (numbers-long n l at)) each
   where
-    each : (i : ℕ) → i < length after → get_or after i 0 ≡ get_or (numbers_at n from at) i 0
+    long : length (take n (drop at l)) ≡ n
+    long = length-take-le n (drop at l) (omega (arith, length-drop at l))
+
+    each : (i : ℕ) → i < length (take n (drop at l)) → get_or (take n (drop at l)) i 0 ≡ get_or (numbers_at n l at) i 0
     each i h =
-        let within : i < n = subst (λ (m : ℕ). i < m) (c.long ∙ long) h in
-        let front : i ≡ 0 + i = omega arith in
-        ap (λ (k : ℕ). get_or after k 0) front ∙ c.here i within ∙ sym (numbers-at n from at i within)
+        let within : i < n = subst (λ (m : ℕ). i < m) long h in
+        get_or-take n (drop at l) i 0 within ∙ get_or-drop at l i 0 ∙ sym (numbers-at n l at i within)
 
 -- ---- an account's 515 numbers
 
@@ -187,13 +195,3 @@ pub account-read : (l kept broken : List ℕ) → kept ≡ numbers_at most_talli
     → five l kept broken ≡ read_account l
 unfolding read_account
 account-read l kept broken k b = ap₂ (five l) k b
-
--- The C form's promise, from what was read, what the audit handed back, and what was written.
-pub audited-out : {sheet before piece after : List ℕ} {n place : ℕ} {account back : Account} → account ≡ read_account before
-    → Audited sheet account piece n place back → after ≡ write_account back → AuditedOut sheet before piece n after
-audited-out {sheet} {before} {piece} {after} {n} {place} {account} {back} read promise written = record {
-  place = place;
-  back = back;
-  promise = subst (λ (x : Account). Audited sheet x piece n place back) read promise;
-  written = written;
-}

@@ -1,7 +1,7 @@
 -- The account of a log: what document 02's order 2 reports of the whole of a monitor's recorded states held against a sheet. Nothing here
 -- knows of pieces. "Moments are numbered by order of arrival and never by the clock": the state at moment i is the log's i-th, from 0.
 -- Promises are not judged on a log. Assumes nothing.
-use Rattle.std.specs.Prelude.{◌≡◌, ◌⊎◌, Bool, cond, not, ◌&&◌, List, [], ◌∷◌, ◌++◌, map, ℕ, zero, suc, ◌+◌, ◌-◌, ◌<◌, eqb, length, get_or, replicate}
+use Rattle.std.specs.Prelude.{◌≡◌, ◌⊎◌, Bool, cond, not, ◌&&◌, List, [], ◌∷◌, ◌++◌, map, ℕ, zero, suc, ◌-◌, ◌<◌, eqb, length, get_or, replicate}
 use Rattle.meaning.specs.Sheet.{Sheet, StepRule}
 use Rattle.meaning.specs.Rules.{lawful, first_state, all_literals_true, some_literal_true, step_holds}
 use Rattle.rules.specs.Book.{how_many}

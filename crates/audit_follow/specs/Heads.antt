@@ -1,8 +1,20 @@
--- The five numbers that the code carries on, as an account with its tallies. Assumes nothing.
-use Rattle.std.specs.Prelude.{Bool, cond, List, ℕ, ◌+◌}
-use Rattle.audit_account.specs.Account.{Account}
+-- The numbers of breaches, and the five numbers that the code carries on, as an account with its tallies. Assumes nothing.
+use Rattle.std.specs.Prelude.{Bool, cond, Option, Some, None, List, ℕ, ◌+◌}
+use Rattle.audit_account.specs.Account.{Account, nothing, unlawful, broke_first, broke_step}
 use Rattle.audit_account.specs.Book.{book_is, book_broke, is_first, rule_told}
+use Rattle.audit_follow.specs.declared.Breach.{Breach}
+use Rattle.audit_follow.specs.declared.Breach.TheVariants.{Unlawful, FirstRule, StepRule}
 use Rattle.audit_follow.specs.declared.Head as Head
+
+-- the number of each breach, and of none
+abbrev pub breach_number : Breach → ℕ
+breach_number Unlawful = unlawful
+breach_number FirstRule = broke_first
+breach_number StepRule = broke_step
+
+abbrev pub number_of : Option Breach → ℕ
+number_of None = nothing
+number_of (Some breach) = breach_number breach
 
 -- its five numbers, with the tallies beside them
 abbrev pub with_tallies : Head.Head → (kept broken : List ℕ) → Account

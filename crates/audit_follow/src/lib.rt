@@ -3,12 +3,12 @@
 #![tactic(auto)]
 
 ghost use Rattle.std.specs.Prelude.{◌≡◌, ◌+◌, ◌<◌, ◌≤◌, length};
-ghost use Rattle.rules.specs.Book.{Shaped};
 ghost use Rattle.audit_account.specs.Carry.{most_moments};
-ghost use Rattle.audit_account.specs.Book.{book_is, book_broke, is_first, rule_told, book_carried, Moved, Within, Carriable};
-ghost use Rattle.audit_follow.specs.Heads.{head_noted, with_tallies};
+ghost use Rattle.audit_account.specs.Book.{book_is, book_broke, rule_told, book_carried, Moved, Within, Carriable};
+ghost use Rattle.audit_follow.specs.Heads.{breach_number, number_of, head_noted, with_tallies};
 
 use ground::State;
+use rules::Book;
 
 mod still;
 mod tally;
@@ -16,7 +16,8 @@ mod tally;
 // How many tallies an account has: one for each step rule that a sheet can have.
 pub const TALLIES: usize = 255;
 
-// An account's five numbers without its tallies.
+// An account's five numbers without its tallies. `what` is a number, and no `Option<Breach>`: any number may be handed in, and it is handed
+// back (`Audited` of crates/audit_account/specs/Carry.antt).
 #[derive(Clone, Copy)]
 pub struct Head {
     pub count: u32,
@@ -26,81 +27,94 @@ pub struct Head {
     pub rule: u32,
 }
 
-// What the state t is after `count` others, where the move into it broke a step rule or did not: 0 no breach, 1 unlawful, 2 it breaks a
-// first rule, 3 a step rule.
-fn what_is(book: &[State], count: u32, broke: bool, t: State) -> u32
-    requires { Shaped book.now }
-    ensures { result ≡ book_is book.now count broke t }
+// What a state can break; an account notes it by its number.
+#[derive(Clone, Copy, PartialEq, Eq)]
+enum Breach {
+    Unlawful,
+    FirstRule,
+    StepRule,
+}
+
+// What an account notes while there is no breach.
+const NOTHING: u32 = 0;
+
+impl From<Breach> for u32 {
+    ghost from_gives = { λ breach r. r ≡ breach_number breach };
+
+    fn from(breach: Breach) -> u32 {
+        match breach {
+            Breach::Unlawful => 1,
+            Breach::FirstRule => 2,
+            Breach::StepRule => 3,
+        }
+    }
+}
+
+// What the state t breaks after `count` others, where the move into it broke a step rule or did not.
+fn what_is(book: &Book, count: u32, broke: bool, t: State) -> Option<Breach>
+    ensures { number_of result ≡ book_is book.now count broke t }
 {
-    if !rules::lawful(book, t) {
-        return 1;
+    if !book.lawful(t) {
+        return Some(Breach::Unlawful);
     }
     if count == 0 {
-        if rules::first_state(book, t) {
-            return 0;
+        if book.first_state(t) {
+            return None;
         }
-        return 2;
+        return Some(Breach::FirstRule);
     }
     if broke {
-        return 3;
+        return Some(Breach::StepRule);
     }
-    0
+    None
 }
 
-// Whether a state that is `is` is the first breach, where `what` was told before.
-fn is_first(what: u32, is: u32) -> bool
-    ensures { result ≡ is_first what is }
+// The step rule that a breach is told with, the move being from s to t.
+fn rule_told(book: &Book, breach: Breach, s: State, t: State) -> u32
+    ensures { result ≡ rule_told (breach_number breach) (book_broke book.now s t) }
 {
-    what == 0 && is != 0
-}
-
-// The step rule that a breach of this kind is told with, the move being from s to t.
-fn rule_told(book: &[State], is: u32, s: State, t: State) -> u32
-    requires { Shaped book.now }
-    ensures { result ≡ rule_told is (book_broke book.now s t) }
-{
-    if is == 3 {
-        return tally::first_broken(book, s, t);
+    match breach {
+        Breach::Unlawful => 0,
+        Breach::FirstRule => 0,
+        Breach::StepRule => tally::first_broken(book, s, t).unwrap_or(0),
     }
-    0
 }
 
-// The five numbers with `times` more states t, all by the same move, which broke a step rule or did not.
-fn note(book: &[State], head: Head, broke: bool, t: State, times: u32) -> Head
-    requires { Shaped book.now × (head.count + times ≤ most_moments) }
+// The five numbers with `times` more states t, all by the same move, which broke a step rule or did not. The first breach stays.
+fn note(book: &Book, head: Head, broke: bool, t: State, times: u32) -> Head
+    requires { head.count + times ≤ most_moments }
     ensures { result ≡ head_noted book.now head broke t times }
 {
     let count = head.count + times;
-    let is = what_is(book, head.count, broke, t);
-    if is_first(head.what, is) {
-        let rule = rule_told(book, is, head.last, t);
-        return Head {
-            count,
-            last: t,
-            what: is,
-            moment: head.count,
-            rule,
-        };
-    }
-    Head {
+    let seen = Head {
         count,
         last: t,
-        what: head.what,
-        moment: head.moment,
-        rule: head.rule,
+        ..head
+    };
+    if head.what != NOTHING {
+        return seen;
+    }
+    match what_is(book, head.count, broke, t) {
+        None => seen,
+        Some(breach) => Head {
+            what: u32::from(breach),
+            moment: head.count,
+            rule: rule_told(book, breach, head.last, t),
+            ..seen
+        },
     }
 }
 
 // Counts the move into t, made `times` times, unless t is the log's first state; whether it broke a step rule.
 fn move_into(
-    book: &[State],
+    book: &Book,
     head: Head,
     t: State,
     times: u32,
     kept: &mut [u32; TALLIES],
     broken: &mut [u32; TALLIES],
 ) -> bool
-    requires { Shaped book.now × (times ≤ most_moments)
+    requires { (times ≤ most_moments)
         × Within (most_moments + most_moments) kept.old × Within (most_moments + most_moments) broken.old }
     ensures { Moved book.now (with_tallies head kept.old broken.old) t times
         kept.new broken.new result }
@@ -113,18 +127,19 @@ fn move_into(
 
 // Follows the states, noting each and counting the move into it, those that come by the same move together; the five numbers at the end.
 pub fn follow(
-    book: &[State],
+    book: &Book,
     states: &[State],
     head: Head,
     kept: &mut [u32; TALLIES],
     broken: &mut [u32; TALLIES],
 ) -> Head
-    requires { Shaped book.now × Carriable (with_tallies head kept.old broken.old) (length states.now) }
+    requires { Carriable (with_tallies head kept.old broken.old) (length states.now) }
     ensures { with_tallies result kept.new broken.new
         ≡ book_carried book.now (with_tallies head kept.old broken.old) states.now }
 {
     let mut last = head;
     let mut i: usize = 0;
+    // No `for`: a turn goes on by as many states as come by the same move.
     while i < states.len() {
         let t = states[i];
         let same = still::same_moves(states, i, last.count, last.last);

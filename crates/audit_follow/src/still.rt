@@ -10,14 +10,8 @@ fn standing(states: &[State], from: usize, s: State) -> usize
     requires { from ≤ length states.now }
     ensures { Standing states.now from s result }
 {
-    let mut i = from;
-    while i < states.len() {
-        if states[i] != s {
-            return i - from;
-        }
-        i += 1;
-    }
-    i - from
+    let rest = &states[from..];
+    rest.iter().position(|t| *t != s).unwrap_or(rest.len())
 }
 
 // How many of the states from place i on come by one and the same move, where `count` states came before, the last of them `last`: as many
@@ -29,9 +23,5 @@ pub fn same_moves(states: &[State], i: usize, count: u32, last: State) -> usize
     if count == 0 {
         return 1;
     }
-    let still = standing(states, i, last);
-    if still == 0 {
-        return 1;
-    }
-    still
+    standing(states, i, last).max(1)
 }

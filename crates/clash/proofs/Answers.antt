@@ -2,36 +2,43 @@
 use mathlib.Core.Path.{◌≡◌, refl, sym, ap, subst, ◌∙◌}
 use mathlib.Core.Bool.{Bool, true, false}
 use mathlib.Core.Option.{Option, none}
-use mathlib.Core.List.{List, []}
+use mathlib.Core.List.{List}
 use Prim.Native.Nat.{ℕ, zero, suc, ◌≤◌, ◌<◌}
 use native.Mathlib.Omega.{arith}
-use lib.ListN.{length, get_or, take}
+use lib.ListN.{length, get_or, replicate}
 use Rattle.meaning.specs.Sheet.{byte, first_fault}
-use Rattle.meaning.specs.Promises.{Lent, over, zeros, cleared}
+use Rattle.meaning.specs.Promises.{Lent, zeros, cleared}
 use Rattle.reader.specs.declared.Verdict.{Verdict}
 use Rattle.reader.specs.Header.{steps_byte}
-use Rattle.reader.proofs.Good.{Refusal, good-header}
-use Rattle.judge_answer.proofs.Wiping.{wiped-whole, zeros-same}
+use Rattle.reader.proofs.Good.{good-header}
+use Rattle.reader.proofs.Good as Good
+use Rattle.judge_answer.proofs.Wiping.{zeros-same}
 use Rattle.clash_choice.specs.Proposals.{most_rules, no_marks, first_marks, marks_of, Chosen, left_out_of, Proposal, ProposalSays}
 use Rattle.clash_choice.proofs.Marks.{length-first}
 use Rattle.clash_trials.specs.Trials.{lent_three, Answered, ends, drops, keeps, Dropping}
-use Rattle.clash_trials.specs.Parts.{Lengths, Trial, EachTried, more, spare, needed, EachLeftOut, end_of, Drops}
+use Rattle.clash_trials.specs.Parts.{answer_for, Lengths, Trial, EachTried, more, spare, needed, EachLeftOut, end_of, Drops}
+use Rattle.clash_trials.specs.declared.NoRoom.{NoRoom}
+use Rattle.clash_trials.specs.declared.Finding.{Finding}
+use Rattle.clash_trials.specs.declared.Finding.TheVariants.{CanBeKept, CannotBeKept}
 use Rattle.clash_trials.proofs.Trials.{lengths-then, lengths-back, answered-same, answered-unique, answered-apart, answered-is}
 use Rattle.clash_trials.proofs.Loops.{dropping-length}
 use Rattle.clash_meaning.specs.Clash.{rules_in, Fighting, Crowded, Weighed, crowded, accepted, refused, ClashChecked, Reduced, Worked}
 use Rattle.clash_meaning.specs.Clash.{Planned}
 use Rattle.clash_meaning.specs.Clash as C
-use Rattle.clash.specs.Parts.{Weighs, Finds, Works}
+use Rattle.clash.specs.Parts.{refusal_number, Weighs, Finds, Works}
 use Rattle.clash.specs.Parts as P
+use Rattle.clash.specs.declared.slices.Refusal.{Refusal}
+use Rattle.clash.specs.declared.slices.Refusal.TheVariants.{WithoutRoom, NotAccepted}
+use Rattle.clash.specs.declared.slices.Refusal.TheVariants as R
+use Rattle.std.specs.Prelude.{Result, Ok}
 
 -- ---- slices
 
--- Three slices wiped from their first place on are cleared.
-pub cleared-three : (t w c : List ℕ) {t' w' c' : List ℕ} → t' ≡ over (take 0 t) (zeros t) → w' ≡ over (take 0 w) (zeros w)
-    → c' ≡ over (take 0 c) (zeros c) → lent_three t' w' c' ≡ cleared (lent_three t w c)
-unfolding cleared
-cleared-three t w c {t'} {w'} {c'} p q r =
-    λ i. lent_three (wiped-whole t' t p i) (wiped-whole w' w q i) (wiped-whole c' c r i)
+-- Three slices filled with zeros are cleared.
+pub cleared-three : (t w c : List ℕ) {t' w' c' : List ℕ} → t' ≡ replicate (length t) 0 → w' ≡ replicate (length w) 0
+    → c' ≡ replicate (length c) 0 → lent_three t' w' c' ≡ cleared (lent_three t w c)
+unfolding cleared zeros
+cleared-three t w c p q r = λ i. lent_three (p i) (q i) (r i)
 
 -- Cleared after trials they are as those that were lent, cleared.
 cleared-same : {t w c t' w' c' : List ℕ} → Lengths (lent_three t w c) (lent_three t' w' c')
@@ -50,6 +57,19 @@ has-count sheet good = omega (arith, (good-header sheet good).least)
 pub count-is : (sheet : List ℕ) → get_or sheet steps_byte 0 ≡ rules_in sheet
 unfolding byte
 count-is sheet = refl
+
+-- ---- what was found, and why not
+
+-- A trial that finds something had room.
+pub found-roomy : {r : Result Finding NoRoom} {f : Finding} → r ≡ Ok f → answer_for r ≡ 11 → ⊥
+found-roomy {f = CanBeKept} e x = omega (arith, ap answer_for e, x)
+found-roomy {f = CannotBeKept} e x = omega (arith, ap answer_for e, x)
+
+-- No refusal is told as 0.
+pub refusal-told : (refusal : Refusal) → refusal_number refusal ≡ 0 → ⊥
+refusal-told WithoutRoom e = omega arith
+refusal-told R.CanBeKept e = omega arith
+refusal-told NotAccepted e = omega arith
 
 -- ---- a choice weighed
 
@@ -121,8 +141,8 @@ module _ {sheet marks marks' : List ℕ} {lent later after : Lent} {n k : ℕ} (
       peace : Fighting sheet lent marks → ⊥
       peace F = never (answered-unique T.answered F.together) (each-of-fight tried F b)
 
-  pub weighed-kept : n ≡ 12 → k ≡ 12 → Weighs sheet lent marks 14 after
-  weighed-kept e f = weighed-else (λ x. omega arith) (λ x. omega arith) (λ x y. omega arith)
+  pub weighed-kept : n ≡ 12 → (k ≡ 11 → ⊥) → Weighs sheet lent marks 14 after
+  weighed-kept e roomy = weighed-else (λ x. omega arith) roomy (λ x y. omega arith)
 
   pub weighed-spare : (n ≡ 11 → ⊥) → k ≡ 13 → Weighs sheet lent marks 14 after
   weighed-spare roomy f = weighed-else roomy (λ x. omega arith) (λ x y. omega arith)
@@ -130,7 +150,7 @@ module _ {sheet marks marks' : List ℕ} {lent later after : Lent} {n k : ℕ} (
 -- ---- the check's answers
 
 -- A bad sheet.
-pub checked-bad : {sheet : List ℕ} (numbers : List ℕ) (lent : Lent) {v : Verdict} → Refusal sheet v
+pub checked-bad : {sheet : List ℕ} (numbers : List ℕ) (lent : Lent) {v : Verdict} → Good.Refusal sheet v
     → ClashChecked sheet numbers lent v.answer v.place lent
 checked-bad numbers lent bad = C.faulty bad.fault bad.first bad.number bad.place refl
 
@@ -222,7 +242,7 @@ module _ {sheet marks : List ℕ} {lent later : Lent} {n : ℕ} (all : marks ≡
 -- ---- the planner's answers
 
 -- A bad sheet.
-pub planned-bad : {sheet : List ℕ} (lent : Lent) {v : Verdict} → Refusal sheet v → Planned sheet lent v.answer v.place no_marks lent
+pub planned-bad : {sheet : List ℕ} (lent : Lent) {v : Verdict} → Good.Refusal sheet v → Planned sheet lent v.answer v.place no_marks lent
 planned-bad lent bad = C.faulty bad.fault bad.first bad.number bad.place refl refl
 
 -- No mark stays set on a refusal.

@@ -6,10 +6,10 @@ ghost use Rattle.meaning.specs.Sheet.{first_fault};
 ghost use Rattle.clash_choice.specs.Proposals.{most_rules};
 ghost use Rattle.clash_trials.specs.Trials.{lent_three};
 ghost use Rattle.clash_meaning.specs.Clash.{ClashChecked};
-ghost use Rattle.clash.specs.Parts.{Weighs};
+ghost use Rattle.clash.specs.Parts.{number_of, Weighs};
 
-use super::slices::{clear, no_room};
-use answers::{DONE, NOT_ACCEPTED, TRIAL_WITHOUT_ROOM};
+use super::slices::{Refusal, clear};
+use answers::{DONE, NOT_ACCEPTED};
 use clash_choice::RULES;
 use clash_trials::Finding;
 use ground::State;
@@ -22,24 +22,16 @@ fn weigh(
     table: &mut [State],
     words: &mut [u32],
     scratch: &mut [State],
-) -> u32
+) -> Result<(), Refusal>
     requires { (first_fault sheet.now ≡ none) × (length marks.old ≡ most_rules) }
     ensures { Weighs sheet.now (lent_three table.old words.old scratch.old)
-        marks.old result (lent_three table.new words.new scratch.new) }
+        marks.old (number_of result) (lent_three table.new words.new scratch.new) }
 {
-    let together = clash_trials::trial(sheet, marks, table, words, scratch);
-    if no_room(together) {
-        return TRIAL_WITHOUT_ROOM;
-    }
-    let less = clash_trials::each_left_out(sheet, marks, table, words, scratch);
-    match less {
-        Finding::NoRoom => TRIAL_WITHOUT_ROOM,
-        Finding::CanBeKept => match together {
-            Finding::NoRoom => TRIAL_WITHOUT_ROOM,
-            Finding::CanBeKept => NOT_ACCEPTED,
-            Finding::CannotBeKept => DONE,
-        },
-        Finding::CannotBeKept => NOT_ACCEPTED,
+    let together = clash_trials::trial(sheet, marks, table, words, scratch)?;
+    let less = clash_trials::each_left_out(sheet, marks, table, words, scratch)?;
+    match (together, less) {
+        (Finding::CannotBeKept, Finding::CanBeKept) => Ok(()),
+        _ => Err(Refusal::NotAccepted),
     }
 }
 
@@ -57,12 +49,14 @@ pub fn check_good(
         (lent_three table.new words.new scratch.new) }
 {
     let count = sheet[STEPS_AT] as u32;
-    let proposed = clash_choice::proposals::is_proposal(rules, count);
-    if proposed {
-        let mut marks = clash_choice::proposals::mark(rules);
-        let answer = weigh(sheet, &mut marks, table, words, scratch);
-        clear(table, words, scratch);
-        return answer;
+    if !clash_choice::proposals::is_proposal(rules, count) {
+        return NOT_ACCEPTED;
     }
-    NOT_ACCEPTED
+    let mut marks = clash_choice::proposals::mark(rules);
+    let weighed = weigh(sheet, &mut marks, table, words, scratch);
+    clear(table, words, scratch);
+    match weighed {
+        Ok(()) => DONE,
+        Err(refusal) => u32::from(refusal),
+    }
 }

@@ -12,7 +12,6 @@ use ground::State;
 use papers::answer::Verdict;
 pub use planner::Plan;
 use planner::plan_good;
-use reader::InNumbers;
 
 pub mod checker;
 pub mod planner;
@@ -34,11 +33,11 @@ pub fn check_clash(
         (lent_three table.new words.new scratch.new) }
 {
     match reader::read_in_numbers(sheet) {
-        InNumbers::Good => {
+        Ok(()) => {
             let answer = check_good(sheet, rules, table, words, scratch);
             Verdict { answer, place: 0 }
         }
-        InNumbers::Refused(v) => v,
+        Err(v) => v,
     }
 }
 
@@ -51,8 +50,8 @@ pub fn clash(sheet: &[u8], table: &mut [State], words: &mut [u32], scratch: &mut
         result.answer result.place result.marks (lent_three table.new words.new scratch.new) }
 {
     match reader::read_in_numbers(sheet) {
-        InNumbers::Good => plan_good(sheet, table, words, scratch),
-        InNumbers::Refused(v) => Plan {
+        Ok(()) => plan_good(sheet, table, words, scratch),
+        Err(v) => Plan {
             answer: v.answer,
             place: v.place,
             marks: [0u8; RULES],
@@ -60,7 +59,7 @@ pub fn clash(sheet: &[u8], table: &mut [State], words: &mut [u32], scratch: &mut
     }
 }
 
-// The check for callers in C, to whom crate clash_c hands it, without the place.
+// The check for callers in C, to whom crate clash_c hands it, without the place: the C interface, so it stands beside `check_clash`.
 pub fn naxxurbi_check_clash(
     sheet: &[u8],
     rules: &[u32],
@@ -72,11 +71,10 @@ pub fn naxxurbi_check_clash(
         (lent_three table.old words.old scratch.old) result
         (lent_three table.new words.new scratch.new) }
 {
-    let r = check_clash(sheet, rules, table, words, scratch);
-    r.answer
+    check_clash(sheet, rules, table, words, scratch).answer
 }
 
-// The planner for callers in C, likewise, without the place: the marks are written on every answer.
+// The planner for callers in C, likewise beside `clash`, without the place: the marks are written on every answer.
 pub fn naxxurbi_clash(
     sheet: &[u8],
     table: &mut [State],
@@ -87,8 +85,8 @@ pub fn naxxurbi_clash(
     ensures { PlannedC sheet.now (lent_three table.old words.old scratch.old)
         result marks.new (lent_three table.new words.new scratch.new) }
 {
-    let r = clash(sheet, table, words, scratch);
-    let chosen = r.marks;
+    let plan = clash(sheet, table, words, scratch);
+    let chosen = plan.marks;
     *marks = chosen;
-    r.answer
+    plan.answer
 }

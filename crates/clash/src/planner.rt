@@ -6,10 +6,10 @@ ghost use Rattle.meaning.specs.Sheet.{first_fault};
 ghost use Rattle.clash_choice.specs.Proposals.{first_marks};
 ghost use Rattle.clash_trials.specs.Trials.{lent_three};
 ghost use Rattle.clash_meaning.specs.Clash.{Planned};
-ghost use Rattle.clash.specs.Parts.{Works};
+ghost use Rattle.clash.specs.Parts.{number_of, Works};
 
-use super::slices::{clear, no_room};
-use answers::{DONE, SHORT_RUN, TRIAL_WITHOUT_ROOM};
+use super::slices::{Refusal, clear};
+use answers::DONE;
 use clash_choice::RULES;
 use clash_trials::Finding;
 use ground::State;
@@ -23,38 +23,28 @@ pub struct Plan {
     pub marks: [u8; RULES],
 }
 
-// The plan for a good sheet, in marks that are all 0 before: a trial without room, a sheet that can be kept, or the choice.
+// The plan for a good sheet, in marks that are all 0 before: the choice, if every trial has room and the sheet cannot be kept.
 fn work(
     sheet: &[u8],
     marks: &mut [u8; RULES],
     table: &mut [State],
     words: &mut [u32],
     scratch: &mut [State],
-) -> u32
+) -> Result<(), Refusal>
     requires { (first_fault sheet.now ≡ none) × (marks.old ≡ first_marks 0) }
     ensures { Works sheet.now (lent_three table.old words.old scratch.old)
-        result marks.new (lent_three table.new words.new scratch.new) }
+        (number_of result) marks.new (lent_three table.new words.new scratch.new) }
 {
     let count = sheet[STEPS_AT] as usize;
     clash_choice::proposals::mark_first(marks, count);
-    match clash_trials::trial(sheet, marks, table, words, scratch) {
-        Finding::NoRoom => {
-            return TRIAL_WITHOUT_ROOM;
-        }
-        Finding::CanBeKept => {
-            return SHORT_RUN;
-        }
+    let whole = clash_trials::trial(sheet, marks, table, words, scratch)?;
+    match whole {
+        Finding::CanBeKept => return Err(Refusal::CanBeKept),
         Finding::CannotBeKept => {}
     }
-    let fits = clash_trials::drop_rules(sheet, marks, count, table, words, scratch);
-    if fits {
-        let last = clash_trials::each_left_out(sheet, marks, table, words, scratch);
-        if no_room(last) {
-            return TRIAL_WITHOUT_ROOM;
-        }
-        return DONE;
-    }
-    TRIAL_WITHOUT_ROOM
+    clash_trials::drop_rules(sheet, marks, count, table, words, scratch)?;
+    clash_trials::each_left_out(sheet, marks, table, words, scratch)?;
+    Ok(())
 }
 
 // The planner for a good sheet: no mark stays set on a refusal.
@@ -69,18 +59,18 @@ pub fn plan_good(
         result.answer result.place result.marks (lent_three table.new words.new scratch.new) }
 {
     let mut marks = [0u8; RULES];
-    let answer = work(sheet, &mut marks, table, words, scratch);
+    let worked = work(sheet, &mut marks, table, words, scratch);
     clear(table, words, scratch);
-    if answer != DONE {
-        return Plan {
-            answer,
+    match worked {
+        Ok(()) => Plan {
+            answer: DONE,
+            place: 0,
+            marks,
+        },
+        Err(refusal) => Plan {
+            answer: u32::from(refusal),
             place: 0,
             marks: [0u8; RULES],
-        };
-    }
-    Plan {
-        answer,
-        place: 0,
-        marks,
+        },
     }
 }

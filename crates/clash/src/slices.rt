@@ -1,23 +1,40 @@
-// What the check of a proposal and the planner share: whether a trial had no room, and the clearing of the slices. What their trials come
-// to is in proofs/Answers.antt.
+// What the check of a proposal and the planner share: why they refuse, and the clearing of the slices. What their trials come to is in
+// proofs/Answers.antt.
 ghost use Rattle.std.specs.Prelude.{◌≡◌};
 ghost use Rattle.meaning.specs.Promises.{cleared};
-ghost use Rattle.answers.specs.Answers.{too_many_states};
-ghost use Rattle.ground.specs.Says.{Says};
 ghost use Rattle.clash_trials.specs.Trials.{lent_three};
-ghost use Rattle.clash_trials.specs.Parts.{answer_for};
+ghost use Rattle.clash.specs.Parts.{refusal_number};
+ghost use Rattle.clash.specs.declared.slices.Refusal.TheVariants.{WithoutRoom};
 
-use clash_trials::Finding;
+use answers::{NOT_ACCEPTED, SHORT_RUN, TRIAL_WITHOUT_ROOM};
+use clash_trials::NoRoom;
 use ground::State;
 
-// Whether a trial had no room for its states.
-pub fn no_room(found: Finding) -> bool
-    ensures { Says (answer_for found ≡ too_many_states) result }
-{
-    match found {
-        Finding::NoRoom => true,
-        Finding::CanBeKept => false,
-        Finding::CannotBeKept => false,
+// Why there is no answer 0 for a good sheet: a trial had no room, the whole sheet can be kept, or a proposal is not one that fights.
+#[derive(Clone, Copy, PartialEq, Eq)]
+pub enum Refusal {
+    WithoutRoom,
+    CanBeKept,
+    NotAccepted,
+}
+
+impl From<NoRoom> for Refusal {
+    ghost from_gives = { λ _ r. r ≡ WithoutRoom };
+
+    fn from(_none: NoRoom) -> Refusal {
+        Refusal::WithoutRoom
+    }
+}
+
+impl From<Refusal> for u32 {
+    ghost from_gives = { λ refusal r. r ≡ refusal_number refusal };
+
+    fn from(refusal: Refusal) -> u32 {
+        match refusal {
+            Refusal::WithoutRoom => TRIAL_WITHOUT_ROOM,
+            Refusal::CanBeKept => SHORT_RUN,
+            Refusal::NotAccepted => NOT_ACCEPTED,
+        }
     }
 }
 
@@ -26,7 +43,7 @@ pub fn clear(table: &mut [State], words: &mut [u32], scratch: &mut [State])
     ensures { lent_three table.new words.new scratch.new
         ≡ cleared (lent_three table.old words.old scratch.old) }
 {
-    ground::wipe_states_from(table, 0);
-    ground::wipe_words_from(words, 0);
-    ground::wipe_states_from(scratch, 0);
+    table.fill(0);
+    words.fill(0);
+    scratch.fill(0);
 }

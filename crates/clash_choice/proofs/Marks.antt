@@ -1,12 +1,13 @@
--- Rows of marks: a rule left out and put back, the first rules marked one by one, and the marks of proposed numbers. Assumes nothing.
-use mathlib.Core.Path.{◌≡◌, sym, ap, ◌∙◌}
-use mathlib.Core.List.{List, [], ◌∷◌, ◌++◌, append_assoc}
-use Prim.Native.Nat.{ℕ, suc, ◌+◌, ◌-◌, ◌≤◌, ◌<◌}
-use native.Mathlib.Decide.{dec_lt}
+-- Rows of marks: a rule left out and put back, how many the first marks are, and the marks of proposed numbers one by one. Assumes nothing.
+use mathlib.Core.Path.{◌≡◌, refl, sym, ap, ◌∙◌}
+use mathlib.Core.List.{List, [], ◌∷◌, ◌++◌}
+use Prim.Native.Nat.{ℕ, ◌+◌, ◌-◌, ◌≤◌, ◌<◌}
+use native.Mathlib.Decide.{dec_lt, ℕ_discrete}
 use native.Mathlib.Omega.{arith}
-use lib.ListN.{length, get_or, set, drop, replicate, length-append, length-replicate, replicate-append-replicate, get_or-eq_default}
-use lib.Seq.{set-set, set-get_or, set_at, drop-length, drop-cons}
-use Rattle.clash_choice.specs.Proposals.{most_rules, no_marks, first_marks, marks_of, Chosen, left_out_of}
+use lib.ListN.{length, get_or, set, take, replicate, length-append, length-replicate, get_or-eq_default}
+use lib.Seq.{set-set, set-get_or}
+use Rattle.std.proofs.lemmas.List.{take_more, set_comm}
+use Rattle.clash_choice.specs.Proposals.{most_rules, first_marks, marks_of, Chosen, left_out_of}
 
 -- ---- one rule
 
@@ -24,21 +25,6 @@ chosen-within marks i chosen = by (dec_lt i (length marks))
 
 -- ---- the first rules
 
--- One rule more, for a row of any length.
-one_more : (m k : ℕ) → set (replicate {A = ℕ} m 1 ++ replicate (suc k) 0) m 1 ≡ replicate (suc m) 1 ++ replicate k 0
-one_more m k =
-    let e : m + 1 ≡ suc m = omega arith in
-    set_at (replicate m 1) 0 (replicate k 0) 1 m (length-replicate m 1)
-    ∙ sym (append_assoc (replicate m 1) (1 ∷ []) (replicate k 0))
-    ∙ ap (λ (l : List ℕ). l ++ replicate k 0) (replicate-append-replicate m 1 1 ∙ ap (λ (n : ℕ). replicate n 1) e)
-
--- One rule more of the sheet's.
-pub first-marks-more : (m : ℕ) → m < most_rules → set (first_marks m) m 1 ≡ first_marks (m + 1)
-first-marks-more m h =
-    let k : most_rules - m ≡ suc (most_rules - suc m) = omega arith in
-    let e : suc m ≡ m + 1 = omega arith in
-    ap (λ (n : ℕ). set (replicate {A = ℕ} m 1 ++ replicate n 0) m 1) k ∙ one_more m (most_rules - suc m) ∙ ap first_marks e
-
 -- There are as many marks as ever.
 pub length-first : (m : ℕ) → m ≤ most_rules → length (first_marks m) ≡ most_rules
 length-first m h =
@@ -51,16 +37,22 @@ length-first m h =
 
 -- ---- proposed numbers
 
--- Behind the last number none is marked.
-pub marks-none : (numbers : List ℕ) → no_marks ≡ marks_of (drop (length numbers) numbers)
-unfolding marks_of
-marks-none numbers = ap marks_of (sym (drop-length numbers))
+-- Two rules may be marked in either order.
+mark-either : (marks : List ℕ) (i j : ℕ) → set (set marks i 1) j 1 ≡ set (set marks j 1) i 1
+mark-either marks i j = by (ℕ_discrete i j)
+  where
+    by : Dec (i ≡ j) → set (set marks i 1) j 1 ≡ set (set marks j 1) i 1
+    by (yes e) = ap (λ (k : ℕ). set (set marks i 1) k 1) (sym e) ∙ ap (λ (k : ℕ). set (set marks k 1) i 1) e
+    by (no e) = set_comm marks i j 1 1 e
 
--- One number more, from the last to the first.
-pub marks-more : (numbers : List ℕ) (i : ℕ) → 0 < i → i ≤ length numbers
-    → set (marks_of (drop i numbers)) (get_or numbers (i - 1) 0 - 1) 1 ≡ marks_of (drop (i - 1) numbers)
+-- One number more behind the others.
+marks-behind : (numbers : List ℕ) (k : ℕ) → marks_of (numbers ++ k ∷ []) ≡ set (marks_of numbers) (k - 1) 1
 unfolding marks_of
-marks-more numbers i h inside =
-    let e : suc (i - 1) ≡ i = omega arith in
-    sym (ap marks_of (drop-cons numbers (i - 1) 0 (omega arith))
-    ∙ ap (λ (k : ℕ). set (marks_of (drop k numbers)) (get_or numbers (i - 1) 0 - 1) 1) e)
+marks-behind [] k = refl
+marks-behind (x ∷ numbers) k =
+    ap (λ (m : List ℕ). set m (x - 1) 1) (marks-behind numbers k) ∙ mark-either (marks_of numbers) (k - 1) (x - 1)
+
+-- So a loop counts.
+pub marks-next : (numbers : List ℕ) (i : ℕ) → i < length numbers
+    → set (marks_of (take i numbers)) (get_or numbers i 0 - 1) 1 ≡ marks_of (take (i + 1) numbers)
+marks-next numbers i h = sym (ap marks_of (take_more numbers i 0 h) ∙ marks-behind (take i numbers) (get_or numbers i 0))

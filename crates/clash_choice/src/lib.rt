@@ -28,8 +28,7 @@ fn next(sheet: &[u8], at: usize) -> usize
     requires { next_at sheet.now at ≤ length sheet.now }
     ensures { result ≡ next_at sheet.now at }
 {
-    let start = at + 1;
-    start + sheet[at] as usize
+    at + 1 + sheet[at] as usize
 }
 
 // Where `count` records end, the first of them at `from`.
@@ -38,10 +37,8 @@ fn skip(sheet: &[u8], count: u8, from: usize) -> usize
     ensures { result ≡ after_at sheet.now count from }
 {
     let mut at = from;
-    let mut i: u8 = 0;
-    while i < count {
+    for _record in 0..count {
         at = next(sheet, at);
-        i += 1;
     }
     at
 }
@@ -51,10 +48,8 @@ fn steps_at(sheet: &[u8]) -> usize
     requires { first_fault sheet.now ≡ none }
     ensures { result ≡ steps_at sheet.now }
 {
-    let limits = sheet[LIMITS_AT];
-    let at = skip(sheet, limits, RECORDS_AT);
-    let firsts = sheet[FIRSTS_AT];
-    skip(sheet, firsts, at)
+    let at = skip(sheet, sheet[LIMITS_AT], RECORDS_AT);
+    skip(sheet, sheet[FIRSTS_AT], at)
 }
 
 // Writes the next step rule behind what was written, if its mark is not 0.
@@ -63,24 +58,16 @@ fn write_rule(sheet: &[u8], mark: u8, buffer: &mut [u8; MOST_BYTES], p: Progress
     ensures { Added (marked sheet.now mark p.from) (next_at sheet.now p.from)
         buffer.old p buffer.new result }
 {
-    let from = p.from;
-    let to = p.to;
-    let rules = p.rules;
-    let end = next(sheet, from);
+    let end = next(sheet, p.from);
     if mark == 0 {
-        return Progress {
-            from: end,
-            to,
-            rules,
-        };
+        return Progress { from: end, ..p };
     }
-    let start = from + 1;
-    let rule = &sheet[start..end];
-    let written = records::write_record(buffer, to, rule);
+    let rule = &sheet[p.from + 1..end];
+    let to = records::write_record(buffer, p.to, rule);
     Progress {
         from: end,
-        to: written,
-        rules: rules + 1,
+        to,
+        rules: p.rules + 1,
     }
 }
 
@@ -100,11 +87,8 @@ fn write_rules(
         to: at,
         rules: 0,
     };
-    let most = count as usize;
-    let mut i: usize = 0;
-    while i < most {
-        p = write_rule(sheet, marks[i], buffer, p);
-        i += 1;
+    for mark in &marks[..count as usize] {
+        p = write_rule(sheet, *mark, buffer, p);
     }
     p
 }

@@ -10,9 +10,8 @@ pub fn is_proposal(rules: &[u32], count: u32) -> bool
     ensures { ProposalSays count rules.now result }
 {
     let mut above: u32 = 0;
-    let mut i: usize = 0;
-    while i < rules.len() {
-        let number = rules[i];
+    for number in rules {
+        let number = *number;
         if number <= above {
             return false;
         }
@@ -20,7 +19,6 @@ pub fn is_proposal(rules: &[u32], count: u32) -> bool
             return false;
         }
         above = number;
-        i += 1;
     }
     true
 }
@@ -31,11 +29,8 @@ pub fn mark(rules: &[u32]) -> [u8; RULES]
     ensures { result ≡ marks_of rules.now }
 {
     let mut marks = [0u8; RULES];
-    let mut i = rules.len();
-    while 0 < i {
-        i -= 1;
-        let number = rules[i] as usize;
-        marks[number - 1] = 1;
+    for number in rules {
+        marks[*number as usize - 1] = 1;
     }
     marks
 }
@@ -45,9 +40,5 @@ pub fn mark_first(marks: &mut [u8; RULES], count: usize)
     requires { (count ≤ most_rules) × (marks.old ≡ first_marks 0) }
     ensures { marks.new ≡ first_marks count }
 {
-    let mut i: usize = 0;
-    while i < count {
-        marks[i] = 1;
-        i += 1;
-    }
+    marks[..count].fill(1);
 }

@@ -2,11 +2,10 @@
 use mathlib.Core.Path.{◌≡◌, refl, sym, ap, subst, ◌∙◌}
 use mathlib.Core.Bool.{true, false}
 use mathlib.Core.Option.{Option, none, some}
-use mathlib.Core.List.{List, []}
+use mathlib.Core.List.{List}
 use Prim.Native.Nat.{ℕ, zero, suc, ◌+◌, ◌-◌, ◌≤◌, ◌<◌}
 use native.Mathlib.Omega.{arith}
 use lib.ListN.{length, get_or, length-set}
-use Rattle.meaning.specs.Sheet.{first_fault}
 use Rattle.meaning.specs.Promises.{Lent}
 use Rattle.meaning.proofs.Tests.{below_next}
 use Rattle.clash_choice.specs.Proposals.{most_rules, Chosen, left_out_of}

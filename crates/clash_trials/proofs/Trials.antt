@@ -9,11 +9,11 @@ use Rattle.meaning.specs.System.{CanBeKept}
 use Rattle.meaning.specs.Sheet.{first_fault}
 use Rattle.meaning.specs.Promises.{system_in, Lent, Outcome, Finding, bad, crowded, short, can, cannot, Found, outcome, Judged}
 use Rattle.meaning.proofs.Promised.{judged-unique, bad-not-good}
-use Rattle.meaning.proofs.Meetable.{AsLong, judged-as-long, judged-met}
+use Rattle.meaning.proofs.Meetable.{AsLong, judged-met}
 use Rattle.clash_choice.specs.Choice.{with_chosen, Wrote}
 use Rattle.clash_choice.proofs.Chosen.{chosen-good}
 use Rattle.judge.proofs.Neighbours.{found-same, judged-same-numbers}
-use Rattle.clash_trials.specs.Trials.{lent_three, Answered}
+use Rattle.clash_trials.specs.Trials.{Answered}
 use Rattle.clash_trials.specs.Parts.{Lengths, BytesJudged, Trial}
 
 -- ---- lengths
@@ -91,15 +91,6 @@ third {sheet} {marks} {x} {n} good no_run A a b = by (verdict good no_run marks)
     by (is_13 B never) = answered-unique A B
 
 -- ---- a trial
-
--- Bytes judged with no run lent; what is left of the run slice is nobody's.
-pub bytes-judged : {bytes t w c : List ℕ} {o : Outcome} → Judged bytes (lent_three t w c) o
-    → BytesJudged bytes (lent_three t w c) o.answer (lent_three o.leaves.table o.leaves.words o.leaves.scratch)
-bytes-judged {t = t} {w} {c} {o} J =
-    let long = judged-as-long J in
-    let lengths : Lengths (lent_three t w c) (lent_three o.leaves.table o.leaves.words o.leaves.scratch) =
-    record { table = long.table; words = long.words; scratch = long.scratch; run = refl } in
-    record { got = o; promise = J; number = refl; lengths = lengths }
 
 -- The sheet written down and judged is a trial; its number may go by another name.
 pub trial-judged : {sheet marks buffer : List ℕ} {before after : Lent} {n k m : ℕ} → Wrote sheet marks buffer n

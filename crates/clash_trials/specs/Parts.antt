@@ -1,18 +1,19 @@
 -- What the parts of the trials promise each other and the crates above. Assumes nothing.
-use Rattle.std.specs.Prelude.{◌≡◌, Bool, true, false, List, ℕ, length}
+use Rattle.std.specs.Prelude.{◌≡◌, Bool, true, false, Result, Ok, Err, List, ℕ, length}
 use Rattle.std.proofs.Math.Option.{Option, none, some}
 use Rattle.meaning.specs.Promises.{Lent, Outcome, Judged}
 use Rattle.answers.specs.Answers.{too_many_states, short_run, cannot_be_kept}
 use Rattle.clash_choice.specs.Proposals.{Chosen, left_out_of}
 use Rattle.clash_trials.specs.Trials.{Answered, Dropping}
 use Rattle.clash_trials.specs.declared.Finding.{Finding}
-use Rattle.clash_trials.specs.declared.Finding.TheVariants.{NoRoom, CanBeKept, CannotBeKept}
+use Rattle.clash_trials.specs.declared.Finding.TheVariants.{CanBeKept, CannotBeKept}
+use Rattle.clash_trials.specs.declared.NoRoom.{NoRoom}
 
--- the judge's number for each finding of a trial
-abbrev pub answer_for : Finding → ℕ
-answer_for NoRoom = too_many_states
-answer_for CanBeKept = short_run
-answer_for CannotBeKept = cannot_be_kept
+-- the judge's number for what a trial finds, or for one without room
+abbrev pub answer_for : Result Finding NoRoom → ℕ
+answer_for (Ok CanBeKept) = short_run
+answer_for (Ok CannotBeKept) = cannot_be_kept
+answer_for (Err _) = too_many_states
 
 -- the lent slices keep their lengths; what they hold is nobody's business until they are cleared
 pub record Lengths (before after : Lent) : Type 0 where

@@ -2,7 +2,7 @@
 // a choice with each of its rules left out by itself, or rules are dropped from the last to the first.
 #![tactic(auto)]
 
-ghost use Rattle.std.specs.Prelude.{◌≡◌, ◌≤◌, ◌<◌, length, take};
+ghost use Rattle.std.specs.Prelude.{◌≡◌, ◌≤◌, ◌<◌, length, take, is_ok};
 ghost use Rattle.std.proofs.Math.Option.{none};
 ghost use Rattle.meaning.specs.Sheet.{most_bytes_of_a_sheet, first_fault};
 ghost use Rattle.clash_choice.specs.Proposals.{most_rules, left_out_of};
@@ -15,27 +15,28 @@ use clash_choice::RULES;
 use ground::State;
 use reader::header::MOST_BYTES;
 
-// What a trial finds: there is no room for the states, the sheet can be kept, or it cannot. A trial lends no room for a run, so the judge
+// What a trial finds where there is room for the states: the sheet can be kept, or it cannot. A trial lends no room for a run, so the judge
 // answers a sheet that can be kept by SHORT_RUN.
-#[derive(Clone, Copy)]
+#[derive(Clone, Copy, PartialEq, Eq)]
 pub enum Finding {
-    NoRoom,
     CanBeKept,
     CannotBeKept,
 }
 
-// The finding that one of the judge's three answers stands for.
-fn found_by(answer: u32) -> Finding
+// A trial that had no room for the states finds nothing.
+#[derive(Clone, Copy, PartialEq, Eq)]
+pub struct NoRoom;
+
+// What one of the judge's three answers stands for. It asks that the answer is one of them, as no `TryFrom` can.
+fn found_by(answer: u32) -> Result<Finding, NoRoom>
     requires { (answer ≡ too_many_states → ⊥) → (answer ≡ short_run → ⊥) → answer ≡ cannot_be_kept }
     ensures { answer_for result ≡ answer }
 {
-    if answer == TOO_MANY_STATES {
-        return Finding::NoRoom;
+    match answer {
+        TOO_MANY_STATES => Err(NoRoom),
+        SHORT_RUN => Ok(Finding::CanBeKept),
+        _ => Ok(Finding::CannotBeKept),
     }
-    if answer == SHORT_RUN {
-        return Finding::CanBeKept;
-    }
-    Finding::CannotBeKept
 }
 
 // What the judge answers for the first `n` bytes of a buffer, with no room for a run.
@@ -51,10 +52,7 @@ fn judge_front(
         (lent_three table.old words.old scratch.old) result
         (lent_three table.new words.new scratch.new) }
 {
-    let mut no_run: [State; 1] = [0; 1];
-    let bytes: &[u8] = buffer;
-    let j = judge::judge(&bytes[..n], table, words, scratch, &mut no_run[..0]);
-    j.answer
+    judge::judge(&buffer[..n], table, words, scratch, &mut []).answer
 }
 
 // What the judge finds for the sheet with the chosen rules and no room for a run.
@@ -64,7 +62,7 @@ pub fn trial(
     table: &mut [State],
     words: &mut [u32],
     scratch: &mut [State],
-) -> Finding
+) -> Result<Finding, NoRoom>
     requires { first_fault sheet.now ≡ none }
     ensures { Trial sheet.now (lent_three table.old words.old scratch.old)
         marks.now (answer_for result) (lent_three table.new words.new scratch.new) }
@@ -83,7 +81,7 @@ fn left_out(
     table: &mut [State],
     words: &mut [u32],
     scratch: &mut [State],
-) -> Finding
+) -> Result<Finding, NoRoom>
     requires { (first_fault sheet.now ≡ none) × (i < most_rules) }
     ensures { Trial sheet.now (lent_three table.old words.old scratch.old)
         (left_out_of i marks.old) (answer_for result) (lent_three table.new words.new scratch.new)
@@ -91,9 +89,9 @@ fn left_out(
 {
     let mark = marks[i];
     marks[i] = 0;
-    let n = trial(sheet, marks, table, words, scratch);
+    let found = trial(sheet, marks, table, words, scratch);
     marks[i] = mark;
-    n
+    found
 }
 
 // Tries the choice with each of its rules left out by itself: no room if there is none for one of these sheets; or else cannot be kept if
@@ -104,33 +102,26 @@ pub fn each_left_out(
     table: &mut [State],
     words: &mut [u32],
     scratch: &mut [State],
-) -> Finding
+) -> Result<Finding, NoRoom>
     requires { (first_fault sheet.now ≡ none) × (length marks.old ≡ most_rules) }
     ensures { EachLeftOut sheet.now (lent_three table.old words.old scratch.old)
         marks.old (answer_for result) marks.new (lent_three table.new words.new scratch.new) }
 {
     let mut worst = Finding::CanBeKept;
-    let mut next: usize = 0;
-    while next < RULES {
-        let i = next;
-        next += 1;
-        if marks[i] != 0 {
-            let less = left_out(sheet, marks, i, table, words, scratch);
-            match less {
-                Finding::NoRoom => {
-                    return Finding::NoRoom;
-                }
-                Finding::CanBeKept => {}
-                Finding::CannotBeKept => {
-                    worst = Finding::CannotBeKept;
-                }
-            }
+    for i in 0..RULES {
+        if marks[i] == 0 {
+            continue;
+        }
+        let less = left_out(sheet, marks, i, table, words, scratch)?;
+        match less {
+            Finding::CanBeKept => {}
+            Finding::CannotBeKept => worst = Finding::CannotBeKept,
         }
     }
-    worst
+    Ok(worst)
 }
 
-// Drops rules from the last of `count` to the first wherever the sheet still cannot be kept. False if a sheet that it tries has no room.
+// Drops rules from the last of `count` to the first wherever the sheet still cannot be kept, if every sheet that it tries has room.
 pub fn drop_rules(
     sheet: &[u8],
     marks: &mut [u8; RULES],
@@ -138,24 +129,17 @@ pub fn drop_rules(
     table: &mut [State],
     words: &mut [u32],
     scratch: &mut [State],
-) -> bool
+) -> Result<(), NoRoom>
     requires { (first_fault sheet.now ≡ none) × (count ≤ most_rules) }
     ensures { Drops sheet.now (lent_three table.old words.old scratch.old)
-        count marks.old result marks.new (lent_three table.new words.new scratch.new) }
+        count marks.old (is_ok result) marks.new (lent_three table.new words.new scratch.new) }
 {
-    let mut i = count;
-    while 0 < i {
-        i -= 1;
-        let without = left_out(sheet, marks, i, table, words, scratch);
+    for i in (0..count).rev() {
+        let without = left_out(sheet, marks, i, table, words, scratch)?;
         match without {
-            Finding::NoRoom => {
-                return false;
-            }
             Finding::CanBeKept => {}
-            Finding::CannotBeKept => {
-                marks[i] = 0;
-            }
+            Finding::CannotBeKept => marks[i] = 0,
         }
     }
-    true
+    Ok(())
 }

@@ -28,11 +28,7 @@ fn judge_one(
         (desk_of table.new words.new scratch.new run.new numbers.new) }
 {
     let r = judge::judge(sheet, table, words, scratch, run);
-    let answer = r.answer;
-    let count = r.count;
-    let a = r.a;
-    let b = r.b;
-    note(numbers, at, answer, count, a, b);
+    note(numbers, at, r.answer, r.count, r.a, r.b);
 }
 
 // Judges all sheets in turn.
@@ -52,14 +48,11 @@ fn judge_all(
         (desk_of table.new words.new scratch.new run.new numbers.new) }
 {
     let mut start: usize = 0;
-    let mut i: usize = 0;
-    while i < ends.len() {
-        let end = ends[i] as usize;
-        let next = i + 1;
+    for (i, end) in ends.iter().enumerate() {
+        let end = *end as usize;
         let at = i * EACH;
         judge_one(&sheets[start..end], table, words, scratch, run, numbers, at);
         start = end;
-        i = next;
     }
 }
 
@@ -81,17 +74,14 @@ pub fn judge_class(
         result
         (desk_of table.new words.new scratch.new run.new numbers.new) }
 {
-    let size = sheets.len();
-    let room = numbers.len();
-    let taken = fair(size, ends, room);
-    if taken {
+    if fair(sheets.len(), ends, numbers.len()) {
         judge_all(sheets, ends, table, words, scratch, run, numbers);
         return DONE;
     }
     CLASS_REFUSED
 }
 
-// The same for callers in C, to whom crate class_c hands it.
+// The same for callers in C, to whom crate class_c hands it: the C interface, so it stands beside `judge_class`.
 pub fn naxxurbi_judge_class(
     sheets: &[u8],
     ends: &[u32],

@@ -17,9 +17,8 @@ fn cut(size: usize, ends: &[u32]) -> bool
     ensures { EndsFitSays size ends.now result }
 {
     let mut start: usize = 0;
-    let mut i: usize = 0;
-    while i < ends.len() {
-        let end = ends[i] as usize;
+    for end in ends {
+        let end = *end as usize;
         if end < start {
             return false;
         }
@@ -27,7 +26,6 @@ fn cut(size: usize, ends: &[u32]) -> bool
             return false;
         }
         start = end;
-        i += 1;
     }
     start == size
 }
@@ -52,8 +50,5 @@ pub fn note(numbers: &mut [u32], at: usize, answer: u32, count: u32, a: u32, b: 
     requires { at + 4 ≤ length numbers.old }
     ensures { numbers.new ≡ stored at answer count a b numbers.old }
 {
-    numbers[at] = answer;
-    numbers[at + 1] = count;
-    numbers[at + 2] = a;
-    numbers[at + 3] = b;
+    numbers[at..at + EACH].copy_from_slice(&[answer, count, a, b]);
 }

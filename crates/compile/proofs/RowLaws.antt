@@ -5,7 +5,7 @@ use mathlib.Core.List.{List}
 use Prim.Native.Nat.{ℕ, suc, ◌+◌, ◌≤◌}
 use native.Mathlib.Omega.{arith}
 use lib.ListN.{length}
-use Rattle.meaning.specs.Sheet.{limit_of, step_of, byte, body_at, next_at, letters_in, most_letters, a_limit, a_first, a_step}
+use Rattle.meaning.specs.Sheet.{byte, body_at, next_at, letters_in, most_letters, a_limit, a_first, a_step}
 use Rattle.reader.specs.Place.{part}
 use Rattle.reader.specs.Parts.{LimitRead, StepRead}
 use Rattle.reader.specs.declared.parts.LimitParts.{LimitParts}

@@ -3,7 +3,6 @@ use mathlib.Core.Path.{◌≡◌}
 use mathlib.Core.List.{List}
 use Prim.Native.Nat.{ℕ}
 use lib.Dec.{T}
-use Rattle.meaning.specs.System.{System}
 use Rattle.meaning.specs.Sheet.{Sheet}
 use Rattle.meaning.specs.Rules.{system_of}
 use Rattle.rules.specs.Book.{book_system}

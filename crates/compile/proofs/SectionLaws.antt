@@ -1,5 +1,5 @@
 -- Sections of rows: every record of a good sheet is sound, and one more row behind the others leaves them as they are. Assumes nothing.
-use mathlib.Core.Path.{◌≡◌, refl, sym, ◌∙◌, ap, subst}
+use mathlib.Core.Path.{◌≡◌, sym, ◌∙◌, ap, subst}
 use mathlib.Core.Bool.{true}
 use mathlib.Core.Option.{none}
 use mathlib.Core.List.{List}
@@ -128,12 +128,6 @@ row_from a_limit i = omega arith
 row_from a_first i = omega arith
 row_from a_step i = omega arith
 row_from a_promise i = omega arith
-
--- A first rule and a promise have the same row.
-pub promise-written :
-    (s : List ℕ) (at : ℕ) (before : List ℕ) (row : ℕ) (after : List ℕ) (next : ℕ)
-    → RowWritten a_first s at before row after next → RowWritten a_promise s at before row after next
-promise-written s at before row after next w = record { keeps = w.keeps; says = w.says; there = w.there }
 
 pub none_written : (kind : Kind) (s l : List ℕ) (from : ℕ) → from ≡ start_of kind s → Section kind s l l 0 from
 unfolding after_at

@@ -23,13 +23,9 @@ fn limit(sheet: &[u8], at: usize, book: &mut [State], row: usize) -> usize
     ensures { RowWritten a_limit sheet.now at book.old row book.new result }
 {
     let p = reader::parts::limit_parts(sheet, at);
-    let start = p.start;
-    let end = p.end;
-    put_list(sheet, start, end, book, row);
-    let least = least(p.exact, p.bound);
-    let most = p.bound as State;
-    put_bounds(book, row, least, most);
-    end
+    put_list(&sheet[p.start..p.end], book, row);
+    put_bounds(book, row, least(p.exact, p.bound), p.bound as State);
+    p.end
 }
 
 // Compiles a first rule or a promise, the same way: the masks of its literals.
@@ -37,10 +33,9 @@ fn list(sheet: &[u8], at: usize, book: &mut [State], row: usize) -> usize
     requires { ListRecordSound sheet.now at × (row + list_width ≤ length book.old) }
     ensures { RowWritten a_first sheet.now at book.old row book.new result }
 {
-    let len = sheet[at] as usize;
     let start = at + 1;
-    let end = start + len;
-    put_list(sheet, start, end, book, row);
+    let end = start + sheet[at] as usize;
+    put_list(&sheet[start..end], book, row);
     end
 }
 
@@ -50,13 +45,9 @@ fn step(sheet: &[u8], at: usize, book: &mut [State], row: usize) -> usize
     ensures { RowWritten a_step sheet.now at book.old row book.new result }
 {
     let p = reader::parts::step_parts(sheet, at);
-    let left = p.left;
-    let right = p.right;
-    let end = p.end;
-    put_list(sheet, left, right, book, row);
-    let second = row + RIGHT;
-    put_list(sheet, right, end, book, second);
-    end
+    put_list(&sheet[p.left..p.right], book, row);
+    put_list(&sheet[p.right..p.end], book, row + RIGHT);
+    p.end
 }
 
 // Compiles a record of any kind, the same way.
@@ -66,8 +57,7 @@ pub fn compile(kind: Kind, sheet: &[u8], at: usize, book: &mut [State], row: usi
 {
     match kind {
         Kind::Limit => limit(sheet, at, book, row),
-        Kind::FirstRule => list(sheet, at, book, row),
+        Kind::FirstRule | Kind::Promise => list(sheet, at, book, row),
         Kind::StepRule => step(sheet, at, book, row),
-        Kind::Promise => list(sheet, at, book, row),
     }
 }

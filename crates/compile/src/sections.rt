@@ -10,7 +10,7 @@ ghost use Rattle.compile.specs.Promise.{BookOf};
 use super::record;
 use reader::Kind;
 use reader::header::{FIRSTS_AT, LETTERS_AT, LIMITS_AT, PROMISES_AT, RECORDS_AT, STEPS_AT};
-use rules::book::{State, first_at, limit_at, promise_at, put_counts, step_at};
+use rules::book::{FIRSTS, LIMITS, PROMISES, STEPS, State, put_counts};
 
 // Writes the five counts of a good sheet.
 fn counts(sheet: &[u8], book: &mut [State])
@@ -31,10 +31,10 @@ fn row_at(kind: Kind, i: usize) -> usize
     ensures { result ≡ row_at (kind_of kind) i }
 {
     match kind {
-        Kind::Limit => limit_at(i),
-        Kind::FirstRule => first_at(i),
-        Kind::StepRule => step_at(i),
-        Kind::Promise => promise_at(i),
+        Kind::Limit => LIMITS.at(i),
+        Kind::FirstRule => FIRSTS.at(i),
+        Kind::StepRule => STEPS.at(i),
+        Kind::Promise => PROMISES.at(i),
     }
 }
 
@@ -43,13 +43,9 @@ fn section(kind: Kind, sheet: &[u8], count: u8, from: usize, book: &mut [State])
     requires { SectionAsks (kind_of kind) sheet.now book.old count from }
     ensures { Section (kind_of kind) sheet.now book.old book.new count result }
 {
-    let records = count as usize;
     let mut at = from;
-    let mut i: usize = 0;
-    while i < records {
-        let row = row_at(kind, i);
-        at = record::compile(kind, sheet, at, book, row);
-        i += 1;
+    for i in 0..count as usize {
+        at = record::compile(kind, sheet, at, book, row_at(kind, i));
     }
     at
 }

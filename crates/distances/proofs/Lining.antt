@@ -1,5 +1,5 @@
 -- The loop that lines up the places with one value, turn by turn. Assumes nothing.
-use mathlib.Core.Path.{◌≡◌, refl, sym, ap, subst, ◌∙◌}
+use mathlib.Core.Path.{◌≡◌, sym, ap, subst, ◌∙◌}
 use mathlib.Core.List.{List}
 use Prim.Native.Nat.{ℕ, suc, ◌+◌, ◌-◌, ◌≤◌, ◌<◌}
 use native.Mathlib.Decide.{ℕ_discrete}
@@ -10,17 +10,6 @@ use lib.Seq.{get_or-set_same, get_or-set_other}
 use Rattle.ground.specs.Listed.{Between}
 use Rattle.distances.specs.Far.{far, gone}
 use Rattle.distances.specs.Values.{LinedUp}
-
--- Before the first turn nobody stands in the list.
-pub lined-none : (v : ℕ) (near list : List ℕ) → LinedUp v near 0 0 list
-lined-none v near list = record {
-  few = omega arith;
-  room = λ z. omega arith;
-  counted = λ f. refl;
-  rises = λ s t h k. absurd (omega arith);
-  each = λ t h. absurd (omega arith);
-  whole = λ i h e. absurd (omega arith);
-}
 
 module _ (v : ℕ) (near : List ℕ) (i tail : ℕ) (list : List ℕ) (l : LinedUp v near i tail list) where
   -- A place with another value is passed by.
@@ -82,7 +71,3 @@ module _ (v : ℕ) (near : List ℕ) (i tail : ℕ) (list : List ℕ) (l : Lined
         where
           shift : Between list 0 tail m → Between list' 0 (tail + 1) m
           shift (t, a, b, f) = (t, a, omega arith, kept t (λ g. omega arith) ∙ f)
-
--- All places are lined up.
-pub lined-all : (v : ℕ) (near : List ℕ) (i r tail : ℕ) (list : List ℕ) → i ≡ r → LinedUp v near i tail list → LinedUp v near r tail list
-lined-all v near i r tail list e l = subst (λ (n : ℕ). LinedUp v near n tail list) e l

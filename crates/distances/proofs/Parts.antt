@@ -9,13 +9,6 @@ use Rattle.meaning.specs.System.{System}
 use Rattle.distances.specs.Far.{Place, UnstruckIn, Measured}
 use Rattle.distances.specs.Values.{Near}
 
--- The part has r places.
-pub part-long : (r at : ℕ) (old : List ℕ) → at + r ≤ length old → length (take (at + r - at) (drop at old)) ≡ r
-part-long r at old fits =
-    let a : at + r - at ≡ r = omega arith in
-    let b = length-drop at old in
-    length-take-le (at + r - at) (drop at old) (omega arith) ∙ a
-
 -- Distances found in the part from `at` on, and put back into the whole.
 pub near-measured : (S : System) (G : ℕ → Type 0) (table words : List ℕ) (r at : ℕ) (old part : List ℕ) → at + r ≤ length old
     → Near S G table words r part → Measured S G table words r at old (take at old ++ (part ++ drop (at + r - at) (drop at old)))

@@ -79,26 +79,6 @@ pub record Begins (book : List ℕ) (k : ℕ) (table words : List ℕ) (r i : �
   pub long : length near ≡ r
   pub each : (m : ℕ) → m < i → Begun (kept_in book k (get_or table m 0)) (get_or words m 0) (get_or near m 0)
 
--- Before the first turn no place has begun.
-pub begins-none : (book : List ℕ) (k : ℕ) (table words : List ℕ) (r : ℕ) (near : List ℕ) → length near ≡ r
-    → Begins book k table words r 0 near
-begins-none book k table words r near e = record { long = e; each = λ m h. absurd (omega arith) }
-
--- one more place begins with v
-pub begins-more : (book : List ℕ) (k : ℕ) (table words : List ℕ) (r i : ℕ) (near : List ℕ) (v : ℕ) → Begins book k table words r i near
-    → i < r → Begun (kept_in book k (get_or table i 0)) (get_or words i 0) v → Begins book k table words r (i + 1) (set near i v)
-begins-more book k table words r i near v b inside begun =
-    record { long = length-set near i v ∙ b.long; each = λ m h. at m (ℕ_discrete m i) h }
-  where
-    within : i < length near
-    within = let a = b.long in omega arith
-
-    at : (m : ℕ) → Dec (m ≡ i) → m < i + 1 → Begun (kept_in book k (get_or table m 0)) (get_or words m 0) (get_or (set near i v) m 0)
-    at m (yes q) h = subst (λ (x : ℕ). Begun (kept_in book k (get_or table x 0)) (get_or words x 0) (get_or (set near i v) x 0)) (sym q)
-        (subst (λ (x : ℕ). Begun (kept_in book k (get_or table i 0)) (get_or words i 0) x) (sym (get_or-set_same near i v 0 within)) begun)
-    at m (no q) h = subst (λ (x : ℕ). Begun (kept_in book k (get_or table m 0)) (get_or words m 0) x) (sym (get_or-set_other near i m v 0 q))
-        (b.each m (omega arith))
-
 -- All places have begun.
 pub begins-opening : (book : List ℕ) (k : ℕ) (table words : List ℕ) (r i : ℕ) (near : List ℕ)
     → Begins book k table words r i near → i ≡ r → Opening book k table words r near

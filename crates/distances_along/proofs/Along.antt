@@ -10,8 +10,6 @@ use lib.ListN.{length, get_or}
 use Rattle.meaning.specs.System.{System}
 use Rattle.ground.specs.Listed.{Between}
 use Rattle.meaning.specs.Promises.{most_states}
-use Rattle.rules.specs.Book.{book_system}
-use Rattle.moves.specs.Moves.{Back}
 use Rattle.moves.specs.Layout.{moves_size, most_cells, start_at, end_at, cell_at, Backed, Ascending}
 use Rattle.distances.specs.Far.{Unstruck, gone}
 use Rattle.distances.specs.Values.{fars, LinedUp, Reaches, as_was, reached, Sure, Opened, Near}
@@ -219,17 +217,6 @@ module _ (S : System) (G : ℕ → Type 0) (table words : List ℕ) (r : ℕ) wh
             to : (i : ℕ) → Row i → S.Move (get_or table i 0) (get_or table next 0)
             to i p = rows.sound i next along-next.0 p
 
--- Stored moves back are the rows back of the sheet's moves.
-pub moves-back : (book table : List ℕ) (r : ℕ) (back : List ℕ) → Back book table r back → MovesBack (book_system book) table r back
-moves-back book table r back b = record {
-  long = b.long;
-  in_cells = b.in_cells;
-  places = b.places;
-  links = b.links;
-  sound = b.sound;
-  whole = b.whole;
-}
-
 -- ---- the loop over the queue
 
 -- what is known of the next place of the queue, so that its row can be looked up
@@ -248,12 +235,6 @@ module _ (S : System) (G : ℕ → Type 0) (table words : List ℕ) (r : ℕ) (b
     pub in_queue : r ≤ length queue
     pub same : length queue ≡ length before
     pub along : Along S G table words r near queue head tail
-
-  -- Before the first turn.
-  pub tracing-none : (queue near : List ℕ) (tail : ℕ) → MovesBack S table r back
-      → r ≤ most_states → r ≤ length queue → Opened S G table words r near → LinedUp 0 near r tail queue → Tracing queue queue near tail 0
-  tracing-none queue near tail rows few long first l =
-      record { rows = rows; few = few; in_queue = long; same = refl; along = along-none S G table words r near queue tail first l }
 
   module _ (before queue near : List ℕ) (tail head : ℕ) (t : Tracing before queue near tail head) where
     -- After the last place the values are the distances.

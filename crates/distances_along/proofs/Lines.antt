@@ -2,7 +2,7 @@
 use mathlib.Core.Path.{◌≡◌, refl, sym, ap, subst, ◌∙◌}
 use mathlib.Core.Logic.{◌⊎◌, inl, inr}
 use mathlib.Core.List.{List}
-use Prim.Native.Nat.{ℕ, ◌+◌, ◌-◌, ◌≤◌, ◌<◌}
+use Prim.Native.Nat.{ℕ, ◌+◌, ◌≤◌, ◌<◌}
 use native.Mathlib.Decide.{dec_lt, ℕ_discrete}
 use native.Mathlib.Omega.{arith}
 use lib.ListN.{length, get_or, set, length-set}
@@ -241,10 +241,6 @@ module _ (moves : List ℕ) (j d r : ℕ) (old : List ℕ) (tail : ℕ) (queue :
 
         here : (i : ℕ) → Backed moves i j → InRow moves j e i
         here i (c, (t, a, b, q), l) = (t, a, omega arith, b, subst (λ (x : ℕ). Linked moves x i) (sym q) l)
-
-    -- No more are got than there are places,
-    pub row-few : tail + got ≤ r
-    row-few = let a = ready.ready.room in let b = s.so_far.spread.counted in omega arith
 
     -- a cell's chain may be followed,
     pub cell-ready : (c : ℕ) → e < end_at moves j → c ≡ cell_at moves e → Ready moves d (length near) near line (tail + got)

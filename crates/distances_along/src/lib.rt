@@ -1,4 +1,5 @@
-// Distances to a promise along stored moves, with a queue, in time linear in places and moves.
+// Distances to a promise along stored moves, with a queue, in time linear in places and moves. The queue is a lent slice with its length
+// beside it: there is no heap.
 #![tactic(auto)]
 
 ghost use Rattle.std.specs.Prelude.{◌≡◌, ◌+◌, ◌<◌, ◌≤◌, length};
@@ -6,10 +7,11 @@ ghost use Rattle.rules.specs.Book.{book_system};
 ghost use Rattle.moves.specs.Layout.{Linked, Backed};
 ghost use Rattle.moves.specs.Moves.{Back};
 ghost use Rattle.distances.specs.Far.{Measured};
-ghost use Rattle.distances.specs.Values.{Measurable, Near};
+ghost use Rattle.distances.specs.Values.{Measurable};
 ghost use Rattle.distances_along.specs.Follow.{Ready, RowReady, Followed};
 
 use ground::State;
+use rules::Book;
 
 // Gives d to the places on the chain that begins with place c that are not reached yet, and puts them into the queue behind its first
 // `tail`; how many those are.
@@ -27,16 +29,14 @@ fn follow_chain(
 {
     let mut got: usize = 0;
     let mut i = c;
+    // A chain goes from link to link, so that no range counts its places.
     while i < near.len() {
         if near[i] == distances::FAR {
-            let at = tail + got;
             near[i] = d;
-            queue[at] = i as u16;
+            queue[tail + got] = i as u16;
             got += 1;
-            i = moves::link(moves, i);
-        } else {
-            i = moves::link(moves, i);
         }
+        i = moves::link(moves, i);
     }
     got
 }
@@ -54,51 +54,18 @@ fn follow_row(
     ensures { Followed (λ i. Backed moves.now i j) d (length near.old) near.old near.new
         tail queue.old queue.new result }
 {
-    let end = moves::row_end(moves, j);
     let mut got: usize = 0;
-    let mut e = moves::row_start(moves, j);
-    while e < end {
+    for e in moves::row_start(moves, j)..moves::row_end(moves, j) {
         let c = moves::cell(moves, e);
-        let at = tail + got;
-        let more = follow_chain(moves, c, d, near, at, queue);
-        got += more;
-        e += 1;
+        got += follow_chain(moves, c, d, near, tail + got, queue);
     }
     got
 }
 
-// The distances of the table's first r places, in a slice of that length, by the stored moves back: from each place of the queue in turn,
-// its row is followed.
-fn measure_back(
-    book: &[State],
-    k: usize,
-    table: &[State],
-    words: &[u32],
-    r: usize,
-    back: &[u16],
-    queue: &mut [u16],
-    near: &mut [u16],
-)
-    requires { Measurable book.now k table.now words.now r × (length near.old ≡ r)
-        × Back book.now table.now r back.now × (r ≤ length queue.old) }
-    ensures { Near (book_system book.now) ((book_system book.now).Kept k) table.now
-        words.now r near.new × (length queue.new ≡ length queue.old) }
-{
-    distances::begin(book, k, table, words, r, near);
-    let mut tail = distances::line_up(near, r, 0, queue);
-    let mut head: usize = 0;
-    while head < tail {
-        let j = queue[head] as usize;
-        let d = near[j] + 1;
-        let got = follow_row(back, j, d, near, tail, queue);
-        tail += got;
-        head += 1;
-    }
-}
-
-// The same, written from `from` on.
+// The distances of the table's first r places, written from `from` on, by the stored moves back: from each place of the queue in turn, its
+// row is followed.
 pub fn follow(
-    book: &[State],
+    book: &Book,
     k: usize,
     table: &[State],
     words: &[u32],
@@ -113,6 +80,15 @@ pub fn follow(
     ensures { Measured (book_system book.now) ((book_system book.now).Kept k) table.now
         words.now r from dist.old dist.new × (length queue.new ≡ length queue.old) }
 {
-    let end = from + r;
-    measure_back(book, k, table, words, r, back, queue, &mut dist[from..end]);
+    let near = &mut dist[from..from + r];
+    distances::begin(book, k, table, words, r, near);
+    let mut tail = distances::line_up(near, r, 0, queue);
+    let mut head: usize = 0;
+    // The queue grows while it is walked.
+    while head < tail {
+        let j = queue[head] as usize;
+        let d = near[j] + 1;
+        tail += follow_row(back, j, d, near, tail, queue);
+        head += 1;
+    }
 }

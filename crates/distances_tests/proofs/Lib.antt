@@ -1,4 +1,3 @@
 pub mod Sifts
-pub mod Order
 pub mod Layering
 pub mod Turns

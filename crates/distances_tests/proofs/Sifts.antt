@@ -7,11 +7,10 @@ use native.Mathlib.Omega.{arith}
 use lib.ListN.{length, get_or, set, length-set}
 use lib.Seq.{get_or-set_same, get_or-set_other}
 use Rattle.ground.specs.Listed.{Between}
-use Rattle.meaning.specs.Promises.{most_states}
 use Rattle.distances.specs.Far.{far, gone}
 use Rattle.distances.specs.Values.{Reaches, as_was, reached, Spread}
-use Rattle.distances_tests.specs.Layers.{Listed, Sifted}
-use Rattle.distances.proofs.Spreads.{spread_none, spread_same, spread-was, spread-one}
+use Rattle.distances_tests.specs.Layers.{Listed}
+use Rattle.distances.proofs.Spreads.{spread_same, spread-one}
 
 -- a reason that holds at a place before the list's place i
 abbrev pub Looked : (P : ℕ → Type 0) (list : List ℕ) (i m : ℕ) → Type 0
@@ -28,15 +27,6 @@ pub record Sifting (P : ℕ → Type 0) (d r left : ℕ) (old list : List ℕ) (
   pub whole : (m : ℕ) → get_or near m 0 ≡ far → Between list 0 i m → Between rest 0 kept m
   pub ahead : (u : ℕ) → i ≤ u → get_or rest u 0 ≡ get_or list u 0
 
--- what a turn asks of the place at i of the list, and of place `kept`, which may be written
-pub record Here (r : ℕ) (near list : List ℕ) (i kept : ℕ) : Type 0 where
-  pub in_list : i < length list
-  pub place : get_or list i 0 < r
-  pub in_near : get_or list i 0 < length near
-  pub few : get_or list i 0 < most_states
-  pub behind : kept < length list
-  pub few_kept : kept < most_states
-
 module _ (P : ℕ → Type 0) (d r left : ℕ) (old list : List ℕ) (ready : Listed r left list old) (small : d < gone) where
   -- the same with what does not change
   abbrev Sift : (i kept : ℕ) (near rest : List ℕ) → Type 0
@@ -44,22 +34,6 @@ module _ (P : ℕ → Type 0) (d r left : ℕ) (old list : List ℕ) (ready : Li
 
   abbrev Before : (i m : ℕ) → Type 0
   Before i m = Looked P list i m
-
-  -- Before the first turn.
-  pub sifting-none : Sift 0 0 old list
-  sifting-none = record {
-    few = omega arith;
-    spread = spread_none (Before 0) d r old (λ m p. nowhere m p.1);
-    same = refl;
-    each = λ t h. absurd (omega arith);
-    rises = λ s t h k. absurd (omega arith);
-    under = λ t u h k l. absurd (omega arith);
-    whole = λ m o p. absurd (nowhere m p);
-    ahead = λ u h. refl;
-  }
-    where
-      nowhere : (m : ℕ) → Between list 0 0 m → ⊥
-      nowhere m (t, a, b, e) = omega arith
 
   module _ (i kept : ℕ) (near rest : List ℕ) (s : Sift i kept near rest) (more : i < left) where
     -- the place that is looked at, and that it is one
@@ -188,24 +162,6 @@ module _ (P : ℕ → Type 0) (d r left : ℕ) (old list : List ℕ) (ready : Li
     is-here : get_or rest i 0 ≡ here
     is-here = s.ahead i (omega arith)
 
-    pub sift-here : Here r near rest i kept
-    sift-here =
-        let a = is-here in
-        let b = place in
-        let e = ready.few in
-        let f = ready.waiting.few in
-        let g = s.few in
-        let h = s.same in
-        let j = ready.in_list in
-        record {
-          in_list = omega arith;
-          place = omega arith;
-          in_near = let c = inside in omega arith;
-          few = omega arith;
-          behind = omega arith;
-          few_kept = omega arith;
-        }
-
     pub sift-reach : P (get_or rest i 0) → Sift (i + 1) kept (set near (get_or rest i 0) d) rest
     sift-reach p = subst (λ (y : ℕ). Sift (i + 1) kept (set near y d) rest) (sym is-here) (sifting-reach (subst P is-here p))
 
@@ -213,34 +169,3 @@ module _ (P : ℕ → Type 0) (d r left : ℕ) (old list : List ℕ) (ready : Li
     sift-keep without =
         subst (λ (y : ℕ). Sift (i + 1) (kept + 1) near (set rest kept y)) (sym is-here)
         (sifting-keep (λ p. without (subst P (sym is-here) p)))
-
-  -- After the last turn every listed place was looked at.
-  pub sifting-done : (i kept : ℕ) (near rest : List ℕ) → Sift i kept near rest → i ≡ left → Sifted P d r left kept old near list rest
-  sifting-done i kept near rest s end = record {
-    spread = all;
-    same = s.same;
-    listed = record {
-      in_list = let a = s.same in let b = ready.in_list in omega arith;
-      long = s.spread.long ∙ ready.long;
-      few = ready.few;
-      waiting = record {
-        few = let a = s.few in let b = ready.waiting.few in omega arith;
-        room = λ z. absurd (omega arith);
-        counted = λ f. let a = ready.waiting.counted refl in let b = s.spread.counted in let c = s.few in omega arith;
-        rises = s.rises;
-        each = s.each;
-        whole = λ m h o. s.whole m o (stood m h o);
-      };
-    };
-  }
-    where
-      -- each place that is not reached stood in the list, and was looked at
-      stood : (m : ℕ) → m < r → get_or near m 0 ≡ far → Between list 0 i m
-      stood m h o =
-          subst (λ (n : ℕ). Between list 0 n m) (sym end)
-          (ready.waiting.whole m h (spread-was (Before i) P d r old near (i - kept) s.spread m h
-          (let a = s.spread.long in let b = ready.long in omega arith) o))
-
-      all : Spread P d r old near (left - kept)
-      all = subst (λ (n : ℕ). Spread P d r old near (n - kept)) end
-          (spread_same (Before i) P d r old near (i - kept) s.spread (λ m p. p.0) (λ m h o p. (p, stood m h o)))

@@ -1,5 +1,5 @@
 -- The loops over layers and over a layer's places, turn by turn, over a book. Assumes nothing.
-use mathlib.Core.Path.{◌≡◌, refl, sym, subst, ◌∙◌}
+use mathlib.Core.Path.{◌≡◌, refl, subst, ◌∙◌}
 use mathlib.Core.List.{List}
 use Prim.Native.Nat.{ℕ, ◌+◌, ◌-◌, ◌≤◌, ◌<◌}
 use native.Mathlib.Numerals.{add-one}
@@ -7,35 +7,15 @@ use native.Mathlib.Omega.{arith}
 use lib.ListN.{length, get_or}
 use Rattle.rules.specs.Book.{book_system}
 use Rattle.rules.specs.Table.{To}
-use Rattle.rules_signs.specs.Signs.{Signed}
-use Rattle.distances.specs.Far.{far}
-use Rattle.distances.specs.Values.{Measurable, LinedUp, Spread, Opening}
+use Rattle.distances.specs.Values.{Spread, Opening}
 use Rattle.distances_tests.specs.Layers.{Listed, Sifted, Layered, Served, Spreadable, LayerSifted, LayersDone}
-use Rattle.distances_tests.proofs.Layering.{
-  layered-none,
-  layered-past,
-  layered-served,
-  layered-spread,
-  layered-full,
-  layered-next,
-  quiet-near,
-  full-near,
-}
+use Rattle.distances_tests.proofs.Layering.{layered-past, layered-served, layered-spread, layered-full, layered-next, quiet-near, full-near}
 
 -- what the values say of promise k and these words
 abbrev LayeredBy : (book : List ℕ) (k : ℕ) (table words : List ℕ) (r d j got : ℕ) (near : List ℕ) → Type 0
 LayeredBy book k table words r d j got near = Layered (book_system book) ((book_system book).Kept k) table words r d j got near
 
 -- ---- a layer's places
-
--- the listed places stay listed where r is written as the length
-pub listed-long : (r left : ℕ) (list near : List ℕ) → Listed r left list near → Listed (length near) left list near
-listed-long r left list near l = subst (λ (n : ℕ). Listed n left list near) (sym l.long) l
-
--- and so do the signs
-pub signed-long : (book table : List ℕ) (r : ℕ) (signs near : List ℕ) → length near ≡ r → Signed book table r signs
-    → Signed book table (length near) signs
-signed-long book table r signs near long s = subst (λ (n : ℕ). Signed book table n signs) (sym long) s
 
 -- layer d is spread from its places below j, and `kept` of `left` places are listed still
 pub record Spreading (book table : List ℕ) (r d left : ℕ) (old list : List ℕ) (j kept : ℕ) (near rest : List ℕ) : Type 0 where
@@ -45,15 +25,6 @@ pub record Spreading (book table : List ℕ) (r d left : ℕ) (old list : List �
   pub so_far : (k : ℕ) (words : List ℕ) → LayeredBy book k table words r d 0 0 old → LayeredBy book k table words r d j (left - kept) near
 
 module _ (book table : List ℕ) (r d left : ℕ) (old list signs : List ℕ) (ready : Spreadable book table r d left list old signs) where
-  -- Before the first place the layer is as it was.
-  pub spreading-none : Spreading book table r d left old list 0 left old list
-  spreading-none = record {
-    most = omega arith;
-    listed = ready.listed;
-    same = refl;
-    so_far = λ k words l. subst (λ (n : ℕ). LayeredBy book k table words r d 0 n old) (omega arith) l;
-  }
-
   module _ (j kept : ℕ) (near rest : List ℕ) (s : Spreading book table r d left old list j kept near rest) where
     -- A place of another layer is passed by.
     pub spreading-past : (get_or near j 0 ≡ d → ⊥) → Spreading book table r d left old list (j + 1) kept near rest
@@ -140,24 +111,7 @@ module _ (book table : List ℕ) (r : ℕ) (first : List ℕ) where
     pub listed : Listed r left list near
     pub room : d + left ≤ r
 
-  -- The first layer is to be spread.
-  pub measuring-none : (left : ℕ) (list : List ℕ) → Listed r left list first → Measuring left 0 first list
-  measuring-none left list l = record {
-    so_far = λ k words o. layered-none (book_system book) ((book_system book).Kept k) table words r first
-        o;
-    listed = l;
-    room = let b = l.waiting.few in omega arith;
-  }
-
   module _ (left d : ℕ) (old list : List ℕ) (m : Measuring left d old list) where
-    -- the next layer may be spread
-    pub measuring-spreadable : (signs : List ℕ) → Signed book table r signs → 0 < left → Spreadable book table r d left list old signs
-    measuring-spreadable signs signed some = record {
-      signed = signed;
-      small = let b = m.room in let c = m.listed.few in omega arith;
-      listed = m.listed;
-    }
-
     module _ (kept : ℕ) (near rest : List ℕ) (l : LayerSifted book table r d left kept old near list rest) where
       -- A layer that reaches something is followed by the next.
       pub measuring-next : (kept ≡ left → ⊥) → Measuring kept (d + 1) near rest
@@ -184,9 +138,3 @@ module _ (book table : List ℕ) (r : ℕ) (first : List ℕ) where
       answers = λ k words o. full-near (book_system book) ((book_system book).Kept k) table words r d old (m.so_far k words o)
           (let b = m.listed.waiting.counted refl in omega arith);
     }
-
--- What is lined up as not reached yet is listed.
-pub opening-listed : (book : List ℕ) (k : ℕ) (table words : List ℕ) (r left : ℕ) (near list : List ℕ) → Measurable book k table words r
-    → Opening book k table words r near → r ≤ length list → LinedUp far near r left list → Listed r left list near
-opening-listed book k table words r left near list a o in_list l =
-    record { in_list = in_list; long = o.sure.long; few = a.states.few; waiting = l }

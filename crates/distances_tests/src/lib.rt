@@ -1,5 +1,6 @@
 // Distances to a promise by tests of pairs, layer by layer: each state of the last layer is looked at once, and only against the states
-// that are not reached yet, which are listed, unless another state did as much before it.
+// that are not reached yet, which are listed, unless another state did as much before it. The list is a lent slice with its length beside
+// it: there is no heap.
 #![tactic(auto)]
 
 ghost use Rattle.std.specs.Prelude.{◌≡◌, true, ◌+◌, ◌<◌, ◌≤◌, length, get_or};
@@ -8,14 +9,15 @@ ghost use Rattle.rules.specs.Book.{book_system};
 ghost use Rattle.rules.specs.Table.{To};
 ghost use Rattle.rules_signs.specs.Signs.{Signed};
 ghost use Rattle.distances.specs.Far.{Measured, gone};
-ghost use Rattle.distances.specs.Values.{Measurable, Near};
+ghost use Rattle.distances.specs.Values.{Measurable};
 ghost use Rattle.distances_tests.specs.Layers.{Listed, Sifted, Spreadable, LayerSifted, LayersDone, Done, Serves, Served};
 
 use ground::State;
+use rules::Book;
 
 // Gives d to the listed places that move to place j, and closes the gaps that they leave in the list; how many places are left there.
 fn spread(
-    book: &[State],
+    book: &Book,
     table: &[State],
     signs: &[u64],
     j: usize,
@@ -31,16 +33,13 @@ fn spread(
 {
     let r = near.len();
     let mut kept: usize = 0;
-    let mut i: usize = 0;
-    while i < left {
-        let x = list[i] as usize;
-        if rules_signs::meets(book, table, r, signs, x, j) {
-            near[x] = d;
-            i += 1;
+    for i in 0..left {
+        let x = list[i];
+        if rules_signs::meets(book, table, r, signs, x as usize, j) {
+            near[x as usize] = d;
         } else {
-            list[kept] = x as u16;
+            list[kept] = x;
             kept += 1;
-            i += 1;
         }
     }
     kept
@@ -52,15 +51,12 @@ fn known(near: &[u16], d: u16, j: usize, k: usize) -> bool
     ensures { Says (Done d j k (get_or near.now k 0)) result }
 {
     let x = near[k];
-    if x == d {
-        return k < j;
-    }
-    x < d
+    if x == d { k < j } else { x < d }
 }
 
 // Whether it is sure that place k serves for place j.
 fn serves(
-    book: &[State],
+    book: &Book,
     table: &[State],
     r: usize,
     d: u16,
@@ -72,19 +68,13 @@ fn serves(
     requires { Signed book.now table.now r signs.now × (j < r) × (length near.now ≡ r) }
     ensures { result ≡ true → Serves book.now table.now r d j k near.now }
 {
-    if k >= r {
-        return false;
-    }
-    if known(near, d, j, k) {
-        return rules_signs::stricter(book, table, r, signs, k, j);
-    }
-    false
+    k < r && known(near, d, j, k) && rules_signs::stricter(book, table, r, signs, k, j)
 }
 
 // Whether it is sure that another place serves for place j, so that it need not be spread from: the last one that was, of those with the
 // same slot. Not looked for where few places are left, since they are soon tested. If none does, j is the last one.
 fn served(
-    book: &[State],
+    book: &Book,
     table: &[State],
     r: usize,
     d: u16,
@@ -113,7 +103,7 @@ fn served(
 // Spreads layer d: gives d + 1 to the listed places, which are not reached yet, that move into it; how many are left in the list. Stops
 // where none is. A place for which another serves is passed by.
 fn layer(
-    book: &[State],
+    book: &Book,
     table: &[State],
     r: usize,
     d: u16,
@@ -129,20 +119,12 @@ fn layer(
 {
     let next = d + 1;
     let mut kept = left;
-    let mut j: usize = 0;
-    while j < r {
+    for j in 0..r {
         if kept == 0 {
             return kept;
         }
-        if near[j] == d {
-            if served(book, table, r, d, j, kept, near, places, signs) {
-                j += 1;
-            } else {
-                kept = spread(book, table, signs, j, next, kept, list, near);
-                j += 1;
-            }
-        } else {
-            j += 1;
+        if near[j] == d && !served(book, table, r, d, j, kept, near, places, signs) {
+            kept = spread(book, table, signs, j, next, kept, list, near);
         }
     }
     kept
@@ -150,7 +132,7 @@ fn layer(
 
 // Spreads the layers one after the other, until one reaches nothing or none of the listed places, which are not reached yet, is left.
 fn layers(
-    book: &[State],
+    book: &Book,
     table: &[State],
     r: usize,
     listed: usize,
@@ -165,6 +147,7 @@ fn layers(
 {
     let mut left = listed;
     let mut d: u16 = 0;
+    // How many layers there are is known only once they are spread.
     while left > 0 {
         let kept = layer(book, table, r, d, left, list, near, places, signs);
         if kept == left {
@@ -175,38 +158,11 @@ fn layers(
     }
 }
 
-// The distances of the table's first r places, in a slice of that length, with room for a list of places. Where few places are left at the
-// beginning the table of those spread from is never asked, so it is not made. What a slot holds is tested before it is believed, so that
-// zeros will do at first.
-fn measure(
-    book: &[State],
-    k: usize,
-    table: &[State],
-    words: &[u32],
-    r: usize,
-    list: &mut [u16],
-    near: &mut [u16],
-    signs: &[u64],
-)
-    requires { Measurable book.now k table.now words.now r × (length near.old ≡ r) × (r ≤ length list.old)
-        × Signed book.now table.now r signs.now }
-    ensures { Near (book_system book.now) ((book_system book.now).Kept k) table.now
-        words.now r near.new × (length list.new ≡ length list.old) }
-{
-    distances::begin(book, k, table, words, r, near);
-    let left = distances::line_up(near, r, distances::FAR, list);
-    if left <= rules_signs::FEW_WAITING {
-        let mut unused = [0u16; 1];
-        layers(book, table, r, left, list, near, &mut unused, signs);
-    } else {
-        let mut places = [0u16; rules_signs::SLOTS];
-        layers(book, table, r, left, list, near, &mut places, signs);
-    }
-}
-
-// The same, written from `from` on.
+// The distances of the table's first r places, written from `from` on; the queue is room for a list of places. Where few places are left at
+// the beginning the table of those spread from is never asked, so it is not made. What a slot holds is tested before it is believed, so
+// that zeros will do at first.
 pub fn by_tests(
-    book: &[State],
+    book: &Book,
     k: usize,
     table: &[State],
     words: &[u32],
@@ -221,6 +177,13 @@ pub fn by_tests(
     ensures { Measured (book_system book.now) ((book_system book.now).Kept k) table.now
         words.now r from dist.old dist.new × (length queue.new ≡ length queue.old) }
 {
-    let end = from + r;
-    measure(book, k, table, words, r, queue, &mut dist[from..end], signs);
+    let near = &mut dist[from..from + r];
+    distances::begin(book, k, table, words, r, near);
+    let left = distances::line_up(near, r, distances::FAR, queue);
+    if left <= rules_signs::FEW_WAITING {
+        layers(book, table, r, left, queue, near, &mut [0], signs);
+    } else {
+        let places = &mut [0; rules_signs::SLOTS];
+        layers(book, table, r, left, queue, near, places, signs);
+    }
 }

@@ -15,6 +15,9 @@ use Rattle.rules.specs.Book.{book_system}
 use Rattle.rules.specs.Table.{To}
 use Rattle.distances.specs.Far.{Unstruck, UnstruckIn}
 use Rattle.watch.specs.Witness.{free_in}
+use Rattle.watch.specs.Turns.{Names}
+use Rattle.std.proofs.Common.{Option, Some, None}
+use Rattle.ends_tests.specs.Searching.{place_behind}
 use Rattle.ends_tests.specs.Phases.{
   Counts,
   Points,
@@ -40,6 +43,11 @@ use Rattle.ends_tests.specs.Phases.{
 }
 use Rattle.ends_tests.proofs.Fewer.{free-set, points-fewer, phased-free}
 use Rattle.ends_tests.proofs.Noting.{Noting}
+
+-- A number of a table is the place behind the one that it names.
+behind-is : (x : ℕ) (place : Option ℕ) → Names x place → place_behind place ≡ x
+behind-is x None is = sym is
+behind-is x (Some j) is = sym is
 
 module _ (book table : List ℕ) (r v : ℕ) (old : List ℕ) (from : ℕ) where
   -- reason 0 saves place i
@@ -118,30 +126,34 @@ module _ (book table : List ℕ) (r v : ℕ) (old : List ℕ) (from : ℕ) where
         at m h (no q) = P.each m (omega arith)
 
     -- what the pointer of an unstruck place says of the places below it, if its own place does not count
-    clear-below : (q : ℕ) → Points book table old r i q → (Pointing words q v → ⊥) → (m : ℕ) → m < q → m < r → Unstruck old m
-        → To book table i m → ⊥
-    clear-below q (fresh e) shut m l h z t = omega arith
-    clear-below q (target j e k to low) shut m l h z t = by (ℕ_discrete m j)
+    clear-below : (q : ℕ) (place : Option ℕ) → Names q place → Points book table old r i q → (Pointing words place v → ⊥) → (m : ℕ) → m < q
+        → m < r → Unstruck old m → To book table i m → ⊥
+    clear-below q place is (fresh e) shut m l h z t = omega arith
+    clear-below q None is (target j e k to low) shut m l h z t = omega arith
+    clear-below q (Some p) is (target j e k to low) shut m l h z t = by (ℕ_discrete m j)
       where
         by : Dec (m ≡ j) → ⊥
         by (no d) = low m (omega arith) z t
-        by (yes d) = shut (omega arith, subst (λ (x : ℕ). Counts v (get_or words x 0)) (omega arith) (was-counts m h z))
+        by (yes d) = shut (subst (λ (x : ℕ). Counts v (get_or words x 0)) (omega arith) (was-counts m h z))
 
     within : i < r → i < length words
     within inside = let a = P.long in let b = u.in_words in omega arith
 
     -- Where an unstruck place may fall, the log has room for it.
-    pub passing-room : from ≤ end → from + free_in old r ≡ r → i < r → {q : ℕ} {b : Bool} → Pending words i q v b → b ≡ true → end < r
+    pub passing-room : from ≤ end → from + free_in old r ≡ r → i < r → {q : Option ℕ} {b : Bool} → Pending words i q v b
+        → b ≡ true → end < r
     passing-room since count inside (hit y a) e = absurd (passes false (sym y ∙ e))
     passing-room since count inside (settled y z a) e = absurd (passes false (sym y ∙ e))
     passing-room since count inside (open_yet y z shut) e =
         let a = P.counted in let b = free-set words i v r inside (within inside) z u.some in omega arith
 
     -- A place that is struck, or whose pointer still counts, is passed by.
-    pub passing-past : i < r → {b : Bool} → Pending words i (get_or row i 0) v b → b ≡ false → Passing (i + 1) end words row
-    passing-past inside (open_yet y z shut) f = absurd (passes false (sym f ∙ y))
-    passing-past inside (hit y a) f = kept_word (was (λ z. a (P.rest i (omega arith) ∙ z)) (P.rest i (omega arith))) row P.pointers
-    passing-past inside (settled y z (pos, c)) f =
+    pub passing-past : i < r → (place : Option ℕ) → Names (get_or row i 0) place → {b : Bool} → Pending words i place v b → b ≡ false
+        → Passing (i + 1) end words row
+    passing-past inside place is (open_yet y z shut) f = absurd (passes false (sym f ∙ y))
+    passing-past inside place is (hit y a) f = kept_word (was (λ z. a (P.rest i (omega arith) ∙ z)) (P.rest i (omega arith))) row P.pointers
+    passing-past inside None is (settled y z c) f = absurd c
+    passing-past inside (Some p) is (settled y z c) f =
         kept_word (stays (sym (P.rest i (omega arith)) ∙ z) z (by (P.pointers i inside z))) row P.pointers
       where
         by : Points book table old r i (get_or row i 0) → SavedAt i
@@ -149,39 +161,44 @@ module _ (book table : List ℕ) (r v : ℕ) (old : List ℕ) (from : ℕ) where
         by (target j g h t low) = saved-to i j h (counts-was j h (subst (λ (x : ℕ). Counts v (get_or words x 0)) (omega arith) c)) t
 
     -- A place whose pointer must move and finds a place.
-    pub passing-moved : i < r → i < length row → (q : ℕ) {b : Bool} → Pending words i (get_or row i 0) v b → b ≡ true
-        → Sought book table words v r (get_or table i 0) (get_or row i 0) q → (q ≡ 0 → ⊥) → Passing (i + 1) end words (set row i q)
-    passing-moved inside long q (hit y a) e sought some = absurd (passes false (sym y ∙ e))
-    passing-moved inside long q (settled y z a) e sought some = absurd (passes false (sym y ∙ e))
-    passing-moved inside long q (open_yet y z shut) e (none f g) some = absurd (some f)
-    passing-moved inside long q (open_yet y z shut) e (found j f h c t low) some =
-        kept_word (stays (sym (P.rest i (omega arith)) ∙ z) z (saved-to i j h (counts-was j h c) t)) (set row i q)
+    pub passing-moved : i < r → i < length row → (place : Option ℕ) → Names (get_or row i 0) place → (q : ℕ) {b : Bool}
+        → Pending words i place v b → b ≡ true → Sought book table words v r (get_or table i 0) (place_behind place) (Some q)
+        → Passing (i + 1) end words (set row i (q + 1))
+    passing-moved inside long place is q (hit y a) e sought = absurd (passes false (sym y ∙ e))
+    passing-moved inside long place is q (settled y z a) e sought = absurd (passes false (sym y ∙ e))
+    passing-moved inside long place is q (open_yet y z shut) e (none f g) = cc
+    passing-moved inside long place is q (open_yet y z shut) e (found j f h c t low) =
+        kept_word (stays (sym (P.rest i (omega arith)) ∙ z) z (saved-to i j h (counts-was j h c) t)) (set row i (q + 1))
         (λ m k y. at m k y (ℕ_discrete m i))
       where
         mine : Points book table old r i (get_or row i 0)
         mine = P.pointers i inside z
 
+        same : q ≡ j
+        same = cc
+
         nothing : (m : ℕ) → m < j → Unstruck old m → To book table i m → ⊥
         nothing m l y to = by (dec_lt m (get_or row i 0))
           where
             by : Dec (m < get_or row i 0) → ⊥
-            by (yes k) = clear-below (get_or row i 0) mine shut m k (omega arith) y to
-            by (no k) = low m (omega arith) l (was-counts m (omega arith) y) to
+            by (yes k) = clear-below (get_or row i 0) place is mine shut m k (omega arith) y to
+            by (no k) = let b = behind-is (get_or row i 0) place is in low m (omega arith) l (was-counts m (omega arith) y) to
 
-        here : Points book table old r i (get_or (set row i q) i 0)
-        here = target j (get_or-set_same row i q 0 long ∙ f) h t nothing
+        here : Points book table old r i (get_or (set row i (q + 1)) i 0)
+        here = let s = same in let g = get_or-set_same row i (q + 1) 0 long in target j (omega arith) h t nothing
 
-        at : (m : ℕ) → m < r → Unstruck words m → Dec (m ≡ i) → Points book table old r m (get_or (set row i q) m 0)
-        at m k y (yes d) = subst (λ (x : ℕ). Points book table old r x (get_or (set row i q) x 0)) (sym d) here
-        at m k y (no d) = subst (λ (x : ℕ). Points book table old r m x) (sym (get_or-set_other row i m q 0 d)) (P.pointers m k y)
+        at : (m : ℕ) → m < r → Unstruck words m → Dec (m ≡ i) → Points book table old r m (get_or (set row i (q + 1)) m 0)
+        at m k y (yes d) = subst (λ (x : ℕ). Points book table old r x (get_or (set row i (q + 1)) x 0)) (sym d) here
+        at m k y (no d) = subst (λ (x : ℕ). Points book table old r m x) (sym (get_or-set_other row i m (q + 1) 0 d)) (P.pointers m k y)
 
     -- A place whose pointer must move and finds none falls.
-    pub passing-fell : from ≤ end → i < r → (q : ℕ) {b : Bool} → Pending words i (get_or row i 0) v b → b ≡ true
-        → Sought book table words v r (get_or table i 0) (get_or row i 0) q → q ≡ 0 → Passing (i + 1) (end + 1) (set words i v) row
-    passing-fell since inside q (hit y a) e sought nil = absurd (passes false (sym y ∙ e))
-    passing-fell since inside q (settled y z a) e sought nil = absurd (passes false (sym y ∙ e))
-    passing-fell since inside q (open_yet y z shut) e (found j f h c t low) nil = absurd (omega arith)
-    passing-fell since inside q (open_yet y z shut) e (none f low) nil = record {
+    pub passing-fell : from ≤ end → i < r → (place : Option ℕ) → Names (get_or row i 0) place → {b : Bool} → Pending words i place v b
+        → b ≡ true → Sought book table words v r (get_or table i 0) (place_behind place) None
+        → Passing (i + 1) (end + 1) (set words i v) row
+    passing-fell since inside place is (hit y a) e sought = absurd (passes false (sym y ∙ e))
+    passing-fell since inside place is (settled y z a) e sought = absurd (passes false (sym y ∙ e))
+    passing-fell since inside place is (open_yet y z shut) e (found j f h c t low) = cc
+    passing-fell since inside place is (open_yet y z shut) e (none f low) = record {
       long = length-set words i v ∙ P.long;
       each = λ m h. at m h (ℕ_discrete m i);
       rest = λ m h. get_or-set_other words i m v 0 (λ d. omega arith) ∙ P.rest m (omega arith);
@@ -196,8 +213,8 @@ module _ (book table : List ℕ) (r v : ℕ) (old : List ℕ) (from : ℕ) where
         nothing m h y to = by (dec_lt m (get_or row i 0))
           where
             by : Dec (m < get_or row i 0) → ⊥
-            by (yes k) = clear-below (get_or row i 0) mine shut m k h y to
-            by (no k) = low m (omega arith) h (was-counts m h y) to
+            by (yes k) = clear-below (get_or row i 0) place is mine shut m k h y to
+            by (no k) = let b = behind-is (get_or row i 0) place is in low m (omega arith) h (was-counts m h y) to
 
         here : Falls (SavedAt i) v (get_or old i 0) (get_or (set words i v) i 0)
         here = falls (sym (P.rest i (omega arith)) ∙ z) (get_or-set_same words i v 0 (within inside)) (saved-from i nothing)
@@ -214,19 +231,6 @@ module _ (book table : List ℕ) (r v : ℕ) (old : List ℕ) (from : ℕ) where
             (get_or-set_same words i v 0 (within inside)) in
             let b = u.some in
             absurd (omega arith)
-
-    -- the pointer of an unstruck place lies within the table
-    pub pointer-within : i < r → Unstruck words i → get_or row i 0 ≤ r
-    pointer-within inside z = by (P.pointers i inside z)
-      where
-        by : Points book table old r i (get_or row i 0) → get_or row i 0 ≤ r
-        by (fresh e) = omega arith
-        by (target j e h t low) = omega arith
-
-    -- what a search finds is a place of the table
-    pub sought-within : {s lo q : ℕ} → Sought book table words v r s lo q → q ≤ r
-    sought-within (none e f) = omega arith
-    sought-within (found j e h c t f) = omega arith
 
     -- All places judged make the phase.
     pub passing-phased : i ≡ r → Phased (book_system book) table r 0 v old words (end - from)
@@ -256,3 +260,13 @@ passing-done {book} {table} {words} {row} {signs} {before} {from} {v} K i end wo
   };
   noted = N.noted;
 }
+
+-- Where an unstruck place may fall, there is room for it in the log.
+pub fell-room : {book table words row signs before : List ℕ} {from v : ℕ} → Striking book table words row signs before from v
+    → {i end : ℕ} {words' row' log : List ℕ} → Passing book table (length row) v words from i end words' row'
+    → Noting (length row) words before from end words' log → i < length row → {q : Option ℕ} {b : Bool} → Pending words' i q v b
+    → b ≡ true
+    → end < length log
+fell-room {book} {table} {words} {row} {from = from} {v = v} K {i} {end} {words'} {row'} P N more D t =
+    let a = passing-room book table (length row) v words from K.unphased i end words' row' P N.grows K.log_is.count more D t in
+    omega (arith, a, K.log_is.in-log, N.long)

@@ -1,5 +1,6 @@
 -- One phase of striking, the pointers that reason 0 keeps, and the tests. Assumes nothing.
-use Rattle.std.specs.Prelude.{◌≡◌, Bool, true, false, ◌⊎◌, List, ℕ, suc, ◌+◌, ◌-◌, ◌≤◌, ◌<◌, length, get_or}
+use Rattle.std.specs.Prelude.{◌≡◌, Bool, true, false, Option, Some, None, MatchOption, ◌⊎◌}
+use Rattle.std.specs.Prelude.{List, ℕ, suc, ◌+◌, ◌-◌, ◌≤◌, ◌<◌, length, get_or}
 use Rattle.ground.specs.Listed.{Between, Rises}
 use Rattle.meaning.specs.System.{System}
 use Rattle.meaning.specs.Strike.{SavedBy}
@@ -24,21 +25,21 @@ pub data Points (book table words : List ℕ) (r i q : ℕ) : Type 0 where
 abbrev pub Pointers : (book table words row : List ℕ) (r : ℕ) → Type 0
 Pointers book table words row r = (i : ℕ) → i < r → Unstruck words i → Points book table words r i (get_or row i 0)
 
--- the place that the pointer q names counts
-abbrev pub Pointing : (words : List ℕ) (q v : ℕ) → Type 0
-Pointing words q v = (0 < q) × Counts v (get_or words (q - 1) 0)
+-- the place that a pointer names counts
+abbrev pub Pointing : (words : List ℕ) (q : Option ℕ) (v : ℕ) → Type 0
+Pointing words q v = MatchOption q ⊥ (λ j. Counts v (get_or words j 0))
 
--- whether place i's pointer, q, must move: the place is struck, the pointer's place still counts, or neither
-pub data Pending (words : List ℕ) (i q v : ℕ) (b : Bool) : Type 0 where
+-- whether place i's pointer, which names q, must move: the place is struck, the pointer's place still counts, or neither
+pub data Pending (words : List ℕ) (i : ℕ) (q : Option ℕ) (v : ℕ) (b : Bool) : Type 0 where
   hit : b ≡ false → (Unstruck words i → ⊥) → Pending words i q v b
   settled : b ≡ false → Unstruck words i → Pointing words q v → Pending words i q v b
   open_yet : b ≡ true → Unstruck words i → (Pointing words q v → ⊥) → Pending words i q v b
 
--- the place after the first one from `lo` on that counts and that s moves to, or 0
-pub data Sought (book table words : List ℕ) (v r s lo q : ℕ) : Type 0 where
-  none : q ≡ 0 → ((m : ℕ) → lo ≤ m → m < r → Counts v (get_or words m 0) → (book_system book).Move s (get_or table m 0) → ⊥)
+-- the first place from `lo` on and below r that counts and that s moves to, if there is one
+pub data Sought (book table words : List ℕ) (v r s lo : ℕ) (q : Option ℕ) : Type 0 where
+  none : q ≡ None → ((m : ℕ) → lo ≤ m → m < r → Counts v (get_or words m 0) → (book_system book).Move s (get_or table m 0) → ⊥)
       → Sought book table words v r s lo q
-  found : (j : ℕ) → q ≡ suc j → j < r → Counts v (get_or words j 0) → (book_system book).Move s (get_or table j 0)
+  found : (j : ℕ) → q ≡ Some j → j < r → Counts v (get_or words j 0) → (book_system book).Move s (get_or table j 0)
       → ((m : ℕ) → lo ≤ m → m < j → Counts v (get_or words m 0) → (book_system book).Move s (get_or table m 0) → ⊥)
       → Sought book table words v r s lo q
 

@@ -3,14 +3,16 @@
 // found by listing.
 #![tactic(auto)]
 
-ghost use Rattle.std.specs.Prelude.{◌≡◌, ◌-◌, ◌<◌, ◌≤◌, length, get_or};
+ghost use Rattle.std.specs.Prelude.{◌+◌, ◌^◌, ◌<◌, ◌≤◌, length, get_or, IfSome};
 ghost use Rattle.ground.specs.Says.{Says};
-ghost use Rattle.rules.specs.Table.{To};
 ghost use Rattle.table_lookup.specs.Lookup.{StandsAt};
 ghost use Rattle.distances.specs.Far.{Unstruck};
-ghost use Rattle.ends_tests.specs.Phases.{Striking, DeadDone, Seekable, Counts, Sought, Pointing, Pending};
+ghost use Rattle.ends_tests.specs.Phases.{Striking, DeadDone, Counts, Pending};
+ghost use Rattle.ends_tests.specs.Searching.{Searchable, Goes, Finds, place_behind};
 
 use ground::State;
+use rules::Book;
+use watch::named;
 
 // So many places are tested before the next states are listed: mostly a next state stands among them, and a listing costs more than a test.
 const FRONT: usize = 2048;
@@ -19,157 +21,106 @@ const FRONT: usize = 2048;
 fn counts(x: u32, word: u32) -> bool
     ensures { Says (Counts word x) result }
 {
-    if x == 0 {
-        return true;
-    }
-    x == word
+    x == 0 || x == word
 }
 
-// Whether place j counts and place i moves to it.
-fn goes(
-    book: &[State],
-    table: &[State],
-    words: &[u32],
+// A search for a place that place i moves to and that counts in the phase that gives `word`, among the first r.
+#[derive(Clone, Copy)]
+struct Search<'a, 'b> {
+    book: &'a Book<'b>,
+    table: &'a [State],
+    words: &'a [u32],
     r: usize,
-    signs: &[u64],
+    signs: &'a [u64],
     i: usize,
-    j: usize,
     word: u32,
-) -> bool
-    requires { Seekable book.now table.now words.now r signs.now i × (j < r) }
-    ensures { Says (Counts word (get_or words.now j 0) × To book.now table.now i j) result }
-{
-    if counts(words[j], word) {
-        return rules_signs::meets(book, table, r, signs, i, j);
-    }
-    false
 }
 
-// The place after the first one from `lo` on and below `hi` that counts and that place i moves to; 0 if there is none.
-fn seek(
-    book: &[State],
-    table: &[State],
-    words: &[u32],
-    r: usize,
-    signs: &[u64],
-    i: usize,
-    word: u32,
-    lo: usize,
-    hi: usize,
-) -> usize
-    requires { Seekable book.now table.now words.now r signs.now i × (hi ≤ r) }
-    ensures { Sought book.now table.now words.now word hi (get_or table.now i 0) lo result }
-{
-    let mut j = lo;
-    while j < hi {
-        if goes(book, table, words, r, signs, i, j, word) {
-            return j + 1;
+impl Search<'_, '_> {
+    // Whether place j will do.
+    fn goes(&self, j: usize) -> bool
+        requires { Searchable self.now × (j < self.now.r) }
+        ensures { Says (Goes self.now j) result }
+    {
+        counts(self.words[j], self.word)
+            && rules_signs::meets(self.book, self.table, self.r, self.signs, self.i, j)
+    }
+
+    // The first place from `lo` on and below `hi` that will do.
+    fn seek(&self, lo: usize, hi: usize) -> Option<usize>
+        requires { Searchable self.now × (hi ≤ self.now.r) }
+        ensures { Finds self.now hi lo result }
+    {
+        for j in lo..hi {
+            if self.goes(j) {
+                return Some(j);
+            }
         }
-        j += 1;
+        None
     }
-    0
+
+    // Whether x stands at place p and counts there.
+    fn still_stands(&self, p: usize, x: State) -> bool
+        requires { (self.now.r ≤ length self.now.table.now) × (self.now.r ≤ length self.now.words.now) }
+        ensures { Says (StandsAt self.now.table.now self.now.r p x
+            × Counts self.now.word (get_or self.now.words.now p 0)) result }
+    {
+        table_lookup::stands(self.table, self.r, p, x) && counts(self.words[p], self.word)
+    }
+
+    // The first place that will do, if it is known that none before `lo` does. The least next state is listed: no place before it is a
+    // next state, since the table rises.
+    fn seek_listed(&self, lo: usize) -> Option<usize>
+        requires { Searchable self.now }
+        ensures { Finds self.now self.now.r lo result }
+    {
+        let mut one = [0 as State; 1];
+        if walk_listing::next_states(self.book, self.table[self.i], &mut one) == 0 {
+            return None;
+        }
+        let least = one[0];
+        let p = table_lookup::place(self.table, self.r, least, self.i);
+        if self.still_stands(p, least) {
+            return Some(p);
+        }
+        self.seek(lo.max(p), self.r)
+    }
+
+    // The first place behind a known one, or the first of all, that will do.
+    fn seek_behind(&self, known: Option<usize>) -> Option<usize>
+        requires { Searchable self.now × IfSome known (λ j. j + 1 < 2 ^ 64) }
+        ensures { Finds self.now self.now.r (place_behind known) result }
+    {
+        if let Some(j) = known {
+            return self.seek(j + 1, self.r);
+        }
+        if self.r <= FRONT {
+            return self.seek(0, self.r);
+        }
+        if let Some(j) = self.seek(0, FRONT) {
+            return Some(j);
+        }
+        self.seek_listed(FRONT)
+    }
 }
 
-// Whether x stands at place p and counts there.
-fn still_stands(table: &[State], words: &[u32], r: usize, p: usize, x: State, word: u32) -> bool
-    requires { (r ≤ length table.now) × (r ≤ length words.now) }
-    ensures { Says (StandsAt table.now r p x × Counts word (get_or words.now p 0)) result }
-{
-    if table_lookup::stands(table, r, p, x) {
-        let seen = words[p];
-        return counts(seen, word);
-    }
-    false
-}
-
-// The place after the first one that counts and that place i moves to, if it is known that none before `lo` is such; 0 if there is none.
-// The least next state is listed: no place before it is a next state, since the table rises.
-fn seek_listed(
-    book: &[State],
-    table: &[State],
-    words: &[u32],
-    r: usize,
-    signs: &[u64],
-    i: usize,
-    word: u32,
-    lo: usize,
-) -> usize
-    requires { Seekable book.now table.now words.now r signs.now i }
-    ensures { Sought book.now table.now words.now word r (get_or table.now i 0) lo result }
-{
-    let s = table[i];
-    let mut one = [0 as State; 1];
-    let n = walk_listing::next_states(book, s, &mut one);
-    if n == 0 {
-        return 0;
-    }
-    let least = one[0];
-    let p = table_lookup::place(table, r, least, i);
-    if still_stands(table, words, r, p, least, word) {
-        return p + 1;
-    }
-    if p < lo {
-        return seek(book, table, words, r, signs, i, word, lo, r);
-    }
-    seek(book, table, words, r, signs, i, word, p, r)
-}
-
-// The place after the first one from `lo` on that counts and that place i moves to; 0 if there is none.
-fn seek_from(
-    book: &[State],
-    table: &[State],
-    words: &[u32],
-    r: usize,
-    signs: &[u64],
-    i: usize,
-    word: u32,
-    lo: usize,
-) -> usize
-    requires { Seekable book.now table.now words.now r signs.now i }
-    ensures { Sought book.now table.now words.now word r (get_or table.now i 0) lo result }
-{
-    if lo > 0 {
-        return seek(book, table, words, r, signs, i, word, lo, r);
-    }
-    if r <= FRONT {
-        return seek(book, table, words, r, signs, i, word, lo, r);
-    }
-    let q = seek(book, table, words, r, signs, i, word, lo, FRONT);
-    if q > 0 {
-        return q;
-    }
-    seek_listed(book, table, words, r, signs, i, word, FRONT)
-}
-
-// Whether the place that a pointer names still counts.
-fn points(words: &[u32], q: usize, word: u32) -> bool
-    requires { q ≤ length words.now }
-    ensures { Says (Pointing words.now q word) result }
-{
-    if q == 0 {
-        return false;
-    }
-    let at = q - 1;
-    counts(words[at], word)
-}
-
-// Whether place i is unstruck and its pointer, q, must move.
-fn pending(words: &[u32], i: usize, q: usize, word: u32) -> bool
-    requires { (i < length words.now) × (Unstruck words.now i → q ≤ length words.now) }
-    ensures { Pending words.now i q word result }
+// Whether place i is unstruck and its pointer must move: the place that it names, if it names one, counts no more.
+fn pending(words: &[u32], i: usize, pointer: Option<usize>, word: u32) -> bool
+    requires { (i < length words.now) × (Unstruck words.now i → IfSome pointer (λ j. j < length words.now)) }
+    ensures { Pending words.now i pointer word result }
 {
     if words[i] != 0 {
         return false;
     }
-    if points(words, q, word) {
-        return false;
+    match pointer {
+        Some(j) => !counts(words[j], word),
+        None => true,
     }
-    true
 }
 
 // Reason 0: strikes together the states with no move to an unstruck state, and writes their places into the log; how long the log then is.
 pub fn dead_ends(
-    book: &[State],
+    book: &Book,
     table: &[State],
     words: &mut [u32],
     row: &mut [u16],
@@ -184,22 +135,26 @@ pub fn dead_ends(
 {
     let r = row.len();
     let mut end = m;
-    let mut i: usize = 0;
-    while i < r {
-        let lo = row[i] as usize;
-        if pending(words, i, lo, word) {
-            let q = seek_from(book, table, words, r, signs, i, word, lo);
-            if q == 0 {
+    for i in 0..r {
+        let pointer = named(row[i]);
+        if pending(words, i, pointer, word) {
+            let search = Search {
+                book,
+                table,
+                words: &*words,
+                r,
+                signs,
+                i,
+                word,
+            };
+            if let Some(j) = search.seek_behind(pointer) {
+                let after = j + 1;
+                row[i] = after as u16;
+            } else {
                 words[i] = word;
                 log[end] = i as u16;
                 end += 1;
-                i += 1;
-            } else {
-                row[i] = q as u16;
-                i += 1;
             }
-        } else {
-            i += 1;
         }
     }
     end

@@ -2,7 +2,8 @@
 ghost use Rattle.std.specs.Prelude.{◌≡◌};
 ghost use Rattle.std.proofs.lemmas.List.Edits.{sets};
 
-// Writes a piece into a slice from a place on. What goes past the end is not stored.
+// Writes a piece into a slice from a place on. What goes past the end is not stored. A loop, since `copy_from_slice` calls memmove, and the
+// archives call memset and memcpy alone.
 pub fn write(slice: &mut [u8], at: usize, piece: &[u8])
     ensures { slice.new ≡ sets slice.old at piece.now }
 {

@@ -7,7 +7,7 @@ ghost use Rattle.meaning.specs.Sheet.{most_letters};
 pub type State = u32;
 
 // How many bits a state has: `state_bits`.
-pub const STATE_BITS: u32 = 32;
+pub const STATE_BITS: u32 = State::BITS;
 
 // The most letters that a sheet can have: `most_letters` of the meaning.
 pub const MOST_LETTERS: u32 = 24;
@@ -19,7 +19,7 @@ pub const ALL_STATES: State = 1 << MOST_LETTERS;
 pub const ABOVE_LETTERS: State = 1 << (STATE_BITS - 1);
 
 // Every bit: `every_bit`.
-pub const EVERY_BIT: State = (ABOVE_LETTERS - 1) + ABOVE_LETTERS;
+pub const EVERY_BIT: State = State::MAX;
 
 // The bit of the letter that has u letters below it; past the highest, the number of all states.
 pub fn bit_of(u: u32) -> State
@@ -33,5 +33,5 @@ pub fn bit_of(u: u32) -> State
 pub fn ones_in(x: State) -> State
     ensures { result ≡ ones x }
 {
-    u32::count_ones(x) as State
+    x.count_ones() as State
 }

@@ -12,7 +12,7 @@ pub use ground::State;
 pub use judge_answer::Judgement;
 use judge_answer::refusal;
 use judge_book::judge_book;
-use reader::InNumbers;
+use rules::Book;
 
 // For a good sheet.
 fn judge_good(
@@ -27,8 +27,9 @@ fn judge_good(
         (lent_of table.old words.old scratch.old run.old)
         (outcome_of result (lent_of table.new words.new scratch.new run.new)) }
 {
-    let mut book: [State; rules::BOOK_SIZE] = [0; rules::BOOK_SIZE];
-    compile::compile(sheet, &mut book);
+    let mut numbers = [0 as State; rules::BOOK_SIZE];
+    compile::compile(sheet, &mut numbers);
+    let book = Book { numbers: &numbers };
     judge_book(&book, table, words, scratch, run)
 }
 
@@ -49,8 +50,8 @@ pub fn judge(
         (outcome_of result (lent_of table.new words.new scratch.new run.new)) }
 {
     match reader::read_in_numbers(sheet) {
-        InNumbers::Good => judge_good(sheet, table, words, scratch, run),
-        InNumbers::Refused(v) => refusal(v.answer, 0, v.place),
+        Ok(()) => judge_good(sheet, table, words, scratch, run),
+        Err(v) => refusal(v.answer, 0, v.place),
     }
 }
 

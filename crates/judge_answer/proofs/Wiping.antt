@@ -1,11 +1,16 @@
 -- What the wipings that end each answer leave. Assumes nothing.
-use mathlib.Core.Path.{◌≡◌, ap, ◌∙◌}
-use mathlib.Core.List.{List}
-use Prim.Native.Nat.{ℕ, zero}
-use lib.ListN.{length, take, replicate}
+use Rattle.std.proofs.Common.{◌≡◌, sym, ap, ◌∙◌, ℕ, ◌-◌, ◌≤◌, List, [], ◌++◌, length, take, drop, append-nil, arith}
+use Rattle.std.proofs.Math.ListN.{replicate, drop_of_length-le}
+use Rattle.std.proofs.lemmas.List.{drop-replicate, length-drop, length-take-le}
+use borrow.Rule.Slice.PartMut.{put_mid}
 use Rattle.meaning.specs.Promises.{over, zeros}
 use Rattle.table_order.specs.Placing.{Ordered}
 use Rattle.judge_answer.specs.Judging.{LeftOver, StrikesWritten}
+
+-- What `l.fill(0)` leaves.
+pub filled-whole : (old new : List ℕ) → new ≡ replicate (length old) 0 → new ≡ zeros old
+unfolding zeros
+filled-whole old new e = e
 
 -- From place 0 on all is zero.
 pub wiped-whole : (new old : List ℕ) → new ≡ over (take 0 old) (zeros old) → new ≡ zeros old
@@ -17,17 +22,7 @@ pub zeros-same : (a b : List ℕ) → length a ≡ length b → zeros a ≡ zero
 unfolding zeros
 zeros-same a b e = λ i. replicate (e i) 0
 
--- ---- three slices wiped
-
--- Table and words from a place on, the scratch whole.
-pub wiped-left : {t w : ℕ} {table words scratch table' words' scratch' : List ℕ} → table' ≡ over (take t table) (zeros table)
-    → words' ≡ over (take w words) (zeros words) → scratch' ≡ over (take 0 scratch) (zeros scratch)
-    → LeftOver t w table words scratch table' words' scratch'
-wiped-left {scratch = scratch} {scratch' = scratch'} t w s = record {
-  table_is = t;
-  words_is = w;
-  scratch_is = wiped-whole scratch' scratch s;
-}
+-- ---- the strike list
 
 -- The strike list: ordered, then table and words from place r on.
 pub wiped-strikes : {table words scratch table₁ words₁ scratch₁ table' words' scratch' : List ℕ} {r : ℕ}

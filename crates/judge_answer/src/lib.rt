@@ -7,9 +7,10 @@ ghost use Rattle.meaning.specs.Promises.{most_states};
 ghost use Rattle.table_order.specs.Placing.{Orderable};
 ghost use Rattle.judge_answer.specs.Judging.{refused, LeftOver, StrikesWritten};
 
-use ground::{MOST_STATES, State, lesser};
+use ground::{MOST_STATES, State};
 
-// What the judge returns: document 01's answer, count, a and b, and the place of a bad sheet's fault.
+// What the judge returns: document 01's answer, count, a and b, and the place of a bad sheet's fault. The answer is a number and no enum,
+// as `Judged` of the meaning promises it and as C gets it.
 #[derive(Clone, Copy)]
 pub struct Judgement {
     pub answer: u32,
@@ -38,16 +39,16 @@ pub fn leave(table: &mut [State], words: &mut [u32], scratch: &mut [State], t: u
     ensures { LeftOver t w table.old words.old scratch.old table.new words.new
         scratch.new }
 {
-    ground::wipe_states_from(table, t);
-    ground::wipe_words_from(words, w);
-    ground::wipe_states_from(scratch, 0);
+    table[t..].fill(0);
+    words[w..].fill(0);
+    scratch.fill(0);
 }
 
 // C: the least of the table's length, the words' length, half the scratch length rounded down, and 16,384.
 pub fn room(table: usize, words: usize, scratch: usize) -> usize
     ensures { result ≡ min (min table words) (min (scratch / 2) most_states) }
 {
-    lesser(lesser(table, words), lesser(scratch / 2, MOST_STATES))
+    table.min(words).min((scratch / 2).min(MOST_STATES))
 }
 
 // Leaves the strike list of r struck states: in order, then zeros.

@@ -3,7 +3,7 @@
 // does it.
 #![tactic(auto)]
 
-ghost use Rattle.rules.specs.Book.{Shaped, book_system};
+ghost use Rattle.rules.specs.Book.{book_system};
 ghost use Rattle.judge_answer.specs.Judging.{lent_of, outcome_of, JudgedBy};
 ghost use Rattle.judge_book.specs.Reached.{Reached};
 
@@ -12,13 +12,14 @@ use ground::State;
 use judge_answer::{Judgement, leave, refusal, room};
 use judge_kept::judge_kept;
 use judge_struck::judge_struck;
+use rules::Book;
 use tiny::judge_tiny;
 
 pub mod tiny;
 
 // With the r reachable states listed in the table.
 fn judge_reached(
-    book: &[State],
+    book: &Book,
     table: &mut [State],
     words: &mut [u32],
     scratch: &mut [State],
@@ -43,22 +44,21 @@ fn judge_reached(
 
 // For a good sheet, compiled into its book.
 pub fn judge_book(
-    book: &[State],
+    book: &Book,
     table: &mut [State],
     words: &mut [u32],
     scratch: &mut [State],
     run: &mut [State],
 ) -> Judgement
-    requires { Shaped book.now }
     ensures { JudgedBy (book_system book.now)
         (lent_of table.old words.old scratch.old run.old)
         (outcome_of result (lent_of table.new words.new scratch.new run.new)) }
 {
+    book.shaped();
     let cap = room(table.len(), words.len(), scratch.len());
-    let r = table_explore::explore(book, table, scratch, cap);
-    if cap < r {
+    let Some(r) = table_explore::explore(book, table, scratch, cap) else {
         leave(table, words, scratch, 0, 0);
         return refusal(TOO_MANY_STATES, 0, 0);
-    }
+    };
     judge_reached(book, table, words, scratch, run, r)
 }

@@ -13,11 +13,12 @@ use ground::State;
 use judge_answer::Judgement;
 use judge_kept::judge_kept_signed;
 use judge_struck::judge_struck;
+use rules::Book;
 
 // Once striking left some of the r states: puts those in front, and tells how many they are. Their signs are written anew only where some
 // state was struck.
 fn keep_signed(
-    book: &[State],
+    book: &Book,
     table: &mut [State],
     words: &[u32],
     r: usize,
@@ -40,7 +41,7 @@ fn keep_signed(
 
 // With the very few reachable states listed in the table: by their signs.
 fn judge_signed(
-    book: &[State],
+    book: &Book,
     table: &mut [State],
     words: &mut [u32],
     scratch: &mut [State],
@@ -65,7 +66,7 @@ fn judge_signed(
 
 // With room for these signs alone, so that the smallest sheets stay quick.
 pub fn judge_tiny(
-    book: &[State],
+    book: &Book,
     table: &mut [State],
     words: &mut [u32],
     scratch: &mut [State],

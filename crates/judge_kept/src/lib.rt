@@ -13,6 +13,7 @@ ghost use Rattle.judge_kept.specs.Kept.{Kept, HandedOver};
 use answers::{DONE, SHORT_RUN};
 use ground::State;
 use judge_answer::{Judgement, leave, refusal};
+use rules::Book;
 use sample::Steps;
 
 // The answer once the run is found: 0, and the table's first k states left, if it fits, else 12.
@@ -29,18 +30,15 @@ fn hand_over(
         scratch.old
         table.new words.new scratch.new result }
 {
-    let a = steps.a;
-    let b = steps.b;
-    let needed = b as usize;
-    if run.len() < needed {
+    let Steps { a, b } = steps;
+    if run.len() < b as usize {
         leave(table, words, scratch, 0, 0);
         return refusal(SHORT_RUN, b, 0);
     }
     leave(table, words, scratch, k, 0);
-    let kept = k as u32;
     Judgement {
         answer: DONE,
-        count: kept,
+        count: k as u32,
         a,
         b,
         place: 0,
@@ -49,7 +47,7 @@ fn hand_over(
 
 // For a sheet that can be kept, by k livable states: the sample run if it fits.
 pub fn judge_kept(
-    book: &[State],
+    book: &Book,
     table: &mut [State],
     words: &mut [u32],
     scratch: &mut [State],
@@ -65,9 +63,10 @@ pub fn judge_kept(
     hand_over(table, words, scratch, run, k, steps)
 }
 
-// The same for very few livable states, by their signs.
+// The same for very few livable states, by their signs. (One function of both, with the way of steering as a closure, would be no plainer:
+// each has two lines.)
 pub fn judge_kept_signed(
-    book: &[State],
+    book: &Book,
     table: &mut [State],
     words: &mut [u32],
     scratch: &mut [State],

@@ -22,10 +22,9 @@ pub fn judge_struck(
         table.new words.new scratch.new × (result ≡ all_struck r) }
 {
     write_strikes(table, words, scratch, r);
-    let reached = r as u32;
     Judgement {
         answer: CANNOT_BE_KEPT,
-        count: reached,
+        count: r as u32,
         a: 0,
         b: 0,
         place: 0,

@@ -185,12 +185,6 @@ row-set moves i start end h = record {
   long = length-set (set moves i start) (most_states + i) end ∙ length-set moves i start;
 }
 
--- The same, where the numbers are known by equations.
-pub place-set-as : (i start end k first last : ℕ) (old new : List ℕ) → start ≡ first → end ≡ last → PlaceSet i start end k old new
-    → PlaceSet i first last k old new
-place-set-as i start end k first last old new p q w =
-    subst (λ (x : ℕ). PlaceSet i first x k old new) q (subst (λ (x : ℕ). PlaceSet i x end k old new) p w)
-
 -- A cell and an end are written.
 pub appended : (moves : List ℕ) (i j e : ℕ) → i < most_states → end_at moves i < most_cells → e ≡ end_at moves i
     → Appended i j moves (set (set moves (cells_from + e) j) (most_states + i) (e + 1))
@@ -257,7 +251,3 @@ module _ (moves cells : List ℕ) (long : length moves ≡ moves_size) (same : l
 pub cells-part : (moves : List ℕ) → take (links_from - cells_from) (drop cells_from moves) ≡ cells_of moves
 unfolding cells_of
 cells-part moves = refl
-
--- The ends, lent as room for counts, have a number for each place.
-pub ends-part : (moves : List ℕ) → length moves ≡ moves_size → length (take most_states (drop most_states moves)) ≡ most_states
-ends-part moves long = length-take-le most_states (drop most_states moves) (omega (arith, length-drop most_states moves))

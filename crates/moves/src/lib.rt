@@ -21,8 +21,10 @@ pub const LINKS: usize = CELLS + MOST_CELLS;
 // How long the slice is.
 pub const SIZE: usize = LINKS + ground::MOST_STATES;
 
-// The link that leads nowhere.
+// The link that leads nowhere. It is one of the numbers that a link may be: the memory is fixed, and has no room beside a link.
 pub const NONE: usize = 65535;
+
+// Each reader below knows its own part of the slice. One for all would be told where the part begins, and so every caller would know it.
 
 // The cell that place i's row starts at.
 pub fn row_start(moves: &[u16], i: usize) -> usize
@@ -98,16 +100,4 @@ pub fn append(moves: &mut [u16], i: usize, j: usize)
     let after = e + 1;
     moves[to] = j as u16;
     moves[at] = after as u16;
-}
-
-// Sets the first r numbers to 0.
-pub fn clear(numbers: &mut [u16], r: usize)
-    requires { r ≤ length numbers.old }
-    ensures { length numbers.new ≡ length numbers.old }
-{
-    let mut i: usize = 0;
-    while i < r {
-        numbers[i] = 0;
-        i += 1;
-    }
 }

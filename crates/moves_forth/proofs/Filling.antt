@@ -9,22 +9,13 @@ use lib.ListN.{length, get_or, set, take, drop, length-set}
 use lib.Seq.{get_or-set_same, get_or-set_other}
 use Rattle.rules.proofs.FreerLaws.{freer-moves}
 use Rattle.meaning.specs.Promises.{most_states}
-use Rattle.moves.specs.Layout.{most_cells, moves_size, cells_from, links_from, starts_of, ends_of, cells_of, no_link, start_at, end_at, HasRow}
+use Rattle.moves.specs.Layout.{most_cells, moves_size, cells_from, links_from, starts_of, ends_of, cells_of, no_link, start_at, end_at}
 use Rattle.moves.specs.Layout.{CellsOnly, PlaceSet}
 use Rattle.moves.specs.Moves.{Forth, Storable, SameMoves, Kindred}
 use Rattle.moves_forth.specs.Storing.{Row, Nexts, Filled}
-use Rattle.moves.proofs.Layouts.{starts-long, ends-long, cells-long, cells-part, cells_back, cells-back, cells-only}
+use Rattle.moves.proofs.Layouts.{starts-long, ends-long, cells-long, cells-part, cells_back, cells-back}
 
 -- ---- one row
-
--- A row of no places is empty.
-pub row-none : (P : ℕ → Type 0) (at : ℕ) (cells : List ℕ) → ((j : ℕ) → P j → ⊥) → Row P at at cells
-row-none P at cells none = record {
-  forwards = omega arith;
-  sound = λ e h l. absurd (omega arith);
-  whole = λ j p. absurd (none j p);
-  ascends = λ e h l. absurd (omega arith);
-}
 
 -- The same places have the same row.
 pub row_same : (P Q : ℕ → Type 0) {from to : ℕ} {cells : List ℕ} → ((j : ℕ) → P j → Q j) → ((j : ℕ) → Q j → P j) → Row P from to cells
@@ -88,74 +79,30 @@ row_more P Q from to j cells room w above there here back = record {
 
 -- ---- filling one row
 
--- the row of P so far, up to `to`
-pub record Filling (P : ℕ → Type 0) (at : ℕ) (old new : List ℕ) (to : ℕ) : Type 0 where
-  pub long : length new ≡ length old
-  pub keeps : (e : ℕ) → e < at → get_or new e 0 ≡ get_or old e 0
-  pub inside : to ≤ length old
-  pub row : Row P at to new
-
--- A row of no places is filled before anything is written.
-pub filling-none : (P : ℕ → Type 0) (at : ℕ) (cells : List ℕ) → at ≤ length cells → ((j : ℕ) → P j → ⊥) → Filling P at cells cells at
-filling-none P at cells h none = record { long = refl; keeps = λ e l. refl; inside = h; row = row-none P at cells none }
-
 -- The same places are filled.
-pub filling-same : (P Q : ℕ → Type 0) {at to : ℕ} {old new : List ℕ} → ((j : ℕ) → P j → Q j) → ((j : ℕ) → Q j → P j)
-    → Filling P at old new to
-    → Filling Q at old new to
-filling-same P Q there back w =
+pub filled-same : (P Q : ℕ → Type 0) {at to : ℕ} {old new : List ℕ} → ((j : ℕ) → P j → Q j) → ((j : ℕ) → Q j → P j)
+    → Filled P at old new to
+    → Filled Q at old new to
+filled-same P Q there back w =
     record { long = w.long; keeps = w.keeps; inside = w.inside; row = row_same P Q there back w.row }
 
 -- A place above all others is written.
-pub filling-more : (P Q : ℕ → Type 0) (at to j : ℕ) (old new : List ℕ) → to < length old → Filling P at old new to → ((i : ℕ) → P i → i < j)
-    → ((i : ℕ) → P i → Q i) → Q j → ((i : ℕ) → Q i → P i ⊎ (i ≡ j)) → Filling Q at old (set new to j) (to + 1)
-filling-more P Q at to j old new room w above there here back = record {
+pub filled-more : (P Q : ℕ → Type 0) (at to j : ℕ) (old new : List ℕ) → to < length old → Filled P at old new to → ((i : ℕ) → P i → i < j)
+    → ((i : ℕ) → P i → Q i) → Q j → ((i : ℕ) → Q i → P i ⊎ (i ≡ j)) → Filled Q at old (set new to j) (to + 1)
+filled-more P Q at to j old new room w above there here back = record {
   long = length-set new to j ∙ w.long;
   keeps = λ e l. get_or-set_other new to e j 0 (let a = w.row.forwards in omega arith) ∙ w.keeps e l;
   inside = omega arith;
   row = row_more P Q at to j new (let a = w.long in omega arith) w.row above there here back;
 }
 
--- What is filled is a filled row of the same places.
-pub filling-filled : (P Q : ℕ → Type 0) {at to : ℕ} {old new : List ℕ} → ((j : ℕ) → P j → Q j) → ((j : ℕ) → Q j → P j)
-    → Filling P at old new to
-    → Filled Q at old new to
-filling-filled P Q there back w = record { long = w.long; keeps = w.keeps; row = λ h. row_same P Q there back w.row }
-
--- Where there is no room, nothing is told.
-pub filling-over : (P Q : ℕ → Type 0) {at to : ℕ} {old new : List ℕ} (over : ℕ) → length old < over → Filling P at old new to
-    → Filled Q at old new over
-filling-over P Q over h w = record { long = w.long; keeps = w.keeps; row = λ l. absurd (omega arith) }
-
--- A filled row of some places is one of the same places.
-pub filled-same : (P Q : ℕ → Type 0) {at to : ℕ} {old new : List ℕ} → ((j : ℕ) → P j → Q j) → ((j : ℕ) → Q j → P j) → Filled P at old new to
-    → Filled Q at old new to
-filled-same P Q there back w = record { long = w.long; keeps = w.keeps; row = λ h. row_same P Q there back (w.row h) }
-
 -- A row that was filled in the lent cells is filled in the list, where nothing else has changed.
-pub filled-back : (P : ℕ → Type 0) (at to : ℕ) (moves cells : List ℕ) → length moves ≡ moves_size
+pub filled-back : (P : ℕ → Type 0) (at to : ℕ) (moves cells : List ℕ) → length moves ≡ moves_size → length cells ≡ most_cells
     → Filled P at (take (links_from - cells_from) (drop cells_from moves)) cells to
-    → Filled P at (cells_of moves) (cells_of (cells_back moves cells)) to × CellsOnly moves (cells_back moves cells)
-filled-back P at to moves cells long f = (
-  subst (λ (l : List ℕ). Filled P at (cells_of moves) l to) (sym (cells-back moves cells long same)) there,
-  cells-only moves cells long same,
-)
-  where
-    there : Filled P at (cells_of moves) cells to
-    there = subst (λ (l : List ℕ). Filled P at l cells to) (cells-part moves) f
-
-    same : length cells ≡ most_cells
-    same = there.long ∙ cells-long moves long
-
--- Where nothing was written for want of room, nothing is told,
-pub filled-over : (Q : ℕ → Type 0) (at over : ℕ) (moves : List ℕ) → length moves ≡ moves_size → most_cells < over
-    → Filled Q at (cells_of moves) (cells_of moves) over
-filled-over Q at over moves long h =
-    record { long = refl; keeps = λ e l. refl; row = λ l. absurd (omega (arith, cells-long moves long)) }
-
--- and nothing has changed.
-pub cells-kept : (moves : List ℕ) → CellsOnly moves moves
-cells-kept moves = record { starts = refl; ends = refl; links = refl; long = refl }
+    → Filled P at (cells_of moves) (cells_of (cells_back moves cells)) to
+filled-back P at to moves cells long same f =
+    subst (λ (l : List ℕ). Filled P at (cells_of moves) l to) (sym (cells-back moves cells long same))
+    (subst (λ (l : List ℕ). Filled P at l cells to) (cells-part moves) f)
 
 -- ---- row after row
 
@@ -169,10 +116,6 @@ abbrev pub StoredIn : (book table : List ℕ) (r i at : ℕ) (moves : List ℕ) 
 StoredIn book table r i at moves = Stored book table r i at (starts_of moves) (ends_of moves) (cells_of moves)
 
 module _ (book table : List ℕ) (r : ℕ) where
-  -- Before the first place there is no row.
-  pub stored-none : (starts ends cells : List ℕ) → Stored book table r 0 0 starts ends cells
-  stored-none starts ends cells = record { below = λ k h. absurd (omega arith); rows = λ k h. absurd (omega arith) }
-
   -- One row more, below at', where the rows before it are kept.
   stored_row : (i at at' from to : ℕ) (starts ends cells cells' : List ℕ) → i < length starts → i < length ends → at ≤ at' → to ≤ at'
       → ((e : ℕ) → e < at → get_or cells' e 0 ≡ get_or cells e 0) → Stored book table r i at starts ends cells
@@ -209,11 +152,11 @@ module _ (book table : List ℕ) (r : ℕ) where
           (row_kept _ _ _ cells cells' (λ e l. keeps e (let b = s.below k (omega arith) in omega arith)) (s.rows k (omega arith))))
 
   -- One row more is written.
-  pub stored_more : (i at to : ℕ) (starts ends cells cells' : List ℕ) → i < length starts → i < length ends → to ≤ length cells
+  pub stored_more : (i at to : ℕ) (starts ends cells cells' : List ℕ) → i < length starts → i < length ends
       → Stored book table r i at starts ends cells → Filled (Nexts book table r (get_or table i 0)) at cells cells' to
       → Stored book table r (i + 1) to (set starts i at) (set ends i to) cells'
-  stored_more i at to starts ends cells cells' in_starts in_ends room s f =
-      stored_row i at to at to starts ends cells cells' in_starts in_ends (f.row room).forwards (omega arith) f.keeps s (f.row room)
+  stored_more i at to starts ends cells cells' in_starts in_ends s f =
+      stored_row i at to at to starts ends cells cells' in_starts in_ends f.row.forwards (omega arith) f.keeps s f.row
 
   -- What three lists store, one list with these parts stores.
   stored-as : (i at : ℕ) (starts ends cells moves : List ℕ) → starts_of moves ≡ starts → ends_of moves ≡ ends → cells_of moves ≡ cells
@@ -234,25 +177,16 @@ module _ (book table : List ℕ) (r : ℕ) where
       (λ j p. (p.0, freer-moves book _ _ (able.states.lawful k (let a = same.before in omega arith)) same.freer _ p.1))
       (s.rows k same.before))
 
-  -- A stored row can be read.
-  pub stored-has : (i k at : ℕ) (moves : List ℕ) → length moves ≡ moves_size → i ≤ most_states → at ≤ most_cells
-      → StoredIn book table r i at moves → k < i
-      → HasRow moves k × (start_at moves k ≤ most_cells)
-  stored-has i k at moves long few room s h = (
-    record { long = long; place = omega arith; within = omega (arith, s.below k h) },
-    omega (arith, s.below k h, (s.rows k h).forwards),
-  )
-
   -- The same in one list: a filled row is set,
-  pub set_more : (i at to : ℕ) (old mid new : List ℕ) → length old ≡ moves_size → i < most_states → to ≤ most_cells
+  pub set_more : (i at to : ℕ) (old mid new : List ℕ) → length old ≡ moves_size → i < most_states
       → StoredIn book table r i at old
       → Filled (Nexts book table r (get_or table i 0)) at (cells_of old) (cells_of mid) to → CellsOnly old mid → PlaceSet i at to no_link mid new
       → StoredIn book table r (i + 1) to new
-  set_more i at to old mid new long inside room s f c w =
+  set_more i at to old mid new long inside s f c w =
       stored-as i to _ _ _ new (w.starts ∙ ap (λ (l : List ℕ). set l i at) c.starts) (w.ends ∙ ap (λ (l : List ℕ). set l i to)
       c.ends) w.cells
       (stored_more i at to (starts_of old) (ends_of old) (cells_of old) (cells_of mid) (omega (arith, starts-long old long))
-      (omega (arith, ends-long old long)) (omega (arith, cells-long old long)) s f)
+      (omega (arith, ends-long old long)) s f)
 
   -- and a row is shared.
   pub set-again : (i k at : ℕ) (old new : List ℕ) → length old ≡ moves_size → i < most_states → Storable book table r → i < r
@@ -263,10 +197,6 @@ module _ (book table : List ℕ) (r : ℕ) where
       (stored-again i k at (starts_of old) (ends_of old) (cells_of old) (omega (arith, starts-long old long))
       (omega (arith, ends-long old long)) able h
       same s)
-
-  -- Before the first place there is no link.
-  pub kin-none : (links : List ℕ) → Kindred book table 0 links
-  kin-none links = record { each = λ k h. absurd (omega arith) }
 
   -- The last place has its link.
   pub kin-all : (i : ℕ) (links : List ℕ) → i ≡ r → Kindred book table i links → Kindred book table r links

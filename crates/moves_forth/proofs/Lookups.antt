@@ -5,7 +5,8 @@ use mathlib.Core.List.{List}
 use Prim.Native.Nat.{ℕ, suc, ◌+◌, ◌≤◌, ◌<◌}
 use native.Mathlib.Decide.{dec_lt, ℕ_discrete}
 use native.Mathlib.Omega.{arith}
-use lib.ListN.{length, get_or, set}
+use lib.ListN.{length, get_or, set, take}
+use lib.Seq.{length-take-le, get_or-take}
 use Rattle.ground.specs.Listed.{Rises}
 use Rattle.ground.proofs.Rising.{rises-apart, rises-le}
 use Rattle.walk_listing.specs.Listing.{Listing}
@@ -15,7 +16,7 @@ use Rattle.table_lookup.proofs.Places.{split-absent}
 use Rattle.rules.specs.Book.{book_system}
 use Rattle.moves.specs.Moves.{Storable}
 use Rattle.moves_forth.specs.Storing.{Listed, Nexts, Filled}
-use Rattle.moves_forth.proofs.Filling.{Filling, filling-more, filling-same, filling-filled, filled-same}
+use Rattle.moves_forth.proofs.Filling.{filled-more, filled-same}
 
 -- A storable table is sorted.
 pub storable-sorted : (book table : List ℕ) (r : ℕ) → Storable book table r → Sorted table r
@@ -38,15 +39,11 @@ module _ (list table : List ℕ) (r : ℕ) (sorted : Rises table r) where
   up : (k i : ℕ) → Upto k i → Upto (k + 1) i
   up k i (l, (m, a, e)) = (l, (m, omega arith, e))
 
-  -- Before the first state nothing is listed.
-  pub listed-none : (j : ℕ) → Upto 0 j → ⊥
-  listed-none j (l, (m, a, e)) = omega arith
-
   -- The place where the next state stands is written.
   pub listed_more : (n k p at to : ℕ) (old new : List ℕ) → Rises list n → k < n → StandsAt table r p (get_or list k 0) → to < length old
-      → Filling (Upto k) at old new to → Filling (Upto (k + 1)) at old (set new to p) (to + 1)
+      → Filled (Upto k) at old new to → Filled (Upto (k + 1)) at old (set new to p) (to + 1)
   listed_more n k p at to old new R h st room w =
-      filling-more (Upto k) (Upto (k + 1)) at to p old new room w above (up k) (st.inside, (k, omega arith, sym st.there)) back
+      filled-more (Upto k) (Upto (k + 1)) at to p old new room w above (up k) (st.inside, (k, omega arith, sym st.there)) back
     where
       above : (i : ℕ) → Upto k i → i < p
       above i (l, (m, a, e)) = by (dec_lt i p)
@@ -66,8 +63,8 @@ module _ (list table : List ℕ) (r : ℕ) (sorted : Rises table r) where
 
   -- A state that does not stand where it belongs is left out.
   pub listed-past : (k p at to : ℕ) (old new : List ℕ) → Splits table r (get_or list k 0) p → (StandsAt table r p (get_or list k 0) → ⊥)
-      → Filling (Upto k) at old new to → Filling (Upto (k + 1)) at old new to
-  listed-past k p at to old new cut out w = filling-same (Upto k) (Upto (k + 1)) (up k) back w
+      → Filled (Upto k) at old new to → Filled (Upto (k + 1)) at old new to
+  listed-past k p at to old new cut out w = filled-same (Upto k) (Upto (k + 1)) (up k) back w
     where
       back : (i : ℕ) → Upto (k + 1) i → Upto k i
       back i (l, (m, a, e)) = by (ℕ_discrete m k)
@@ -77,22 +74,47 @@ module _ (list table : List ℕ) (r : ℕ) (sorted : Rises table r) where
               absurd (split-absent table r (get_or list k 0) p sorted cut out (i, l, sym e ∙ ap (λ (x : ℕ). get_or list x 0) d))
           by (no d) = (l, (m, omega arith, e))
 
-  -- Once all states are looked up the row is filled.
-  pub listed-filled : (n k at to : ℕ) (old new : List ℕ) → k ≡ n → Filling (Upto k) at old new to → Filled (Upto n) at old new to
-  listed-filled n k at to old new q w =
-      filling-filled (Upto k) (Upto n) (λ i p. subst (λ (x : ℕ). Upto x i) q p) (λ i p. subst (λ (x : ℕ). Upto x i) (sym q) p) w
+-- The first n states of a list, as a list of their own: as many, and each where it was.
+first_long : (n : ℕ) (list : List ℕ) → n ≤ length list → length (take n list) ≡ n
+first_long n list h = length-take-le n list h
 
-module _ (book : List ℕ) (s : ℕ) (before after : List ℕ) (n : ℕ) (L : Listing ((book_system book).Move s) before after n) where
-  -- The listed states rise.
-  pub listing-sorted : n ≤ length before → Sorted after n
-  listing-sorted h =
-      record { rises = front-rises before after n L h; long = (let l = front_long before after n L in omega arith) }
+first_at : (n : ℕ) (list : List ℕ) (i : ℕ) → i < n → get_or (take n list) i 0 ≡ get_or list i 0
+first_at n list i h = get_or-take n list i 0 h
 
-  -- The places of the listed next states are the places that s moves to.
-  pub listing-nexts : n ≤ length before → (table : List ℕ) (r at : ℕ) {to : ℕ} {old new : List ℕ}
-      → Filled (Listed after n table r) at old new to
-      → Filled (Nexts book table r s) at old new to
-  listing-nexts h table r at w =
-      filled-same (Listed after n table r) (Nexts book table r s)
-      (λ j p. (p.0, subst ((book_system book).Move s) p.1.2 (front-sound before after n L h p.1.0 p.1.1)))
-      (λ j p. (p.0, front-there before after n L h (get_or table j 0) p.1)) w
+module _ (book : List ℕ) (s : ℕ) (before after : List ℕ) (n : ℕ) (L : Listing ((book_system book).Move s) before after n)
+    (fits : n ≤ length before)
+  where
+    inside : n ≤ length after
+    inside = omega (arith, front_long before after n L)
+
+    -- The listed states rise.
+    pub listing-sorted : Sorted (take n after) (length (take n after))
+    listing-sorted = record {
+      rises = λ i h.
+          let long = first_long n after inside in
+          let a = first_at n after i (omega arith) in
+          let b = first_at n after (suc i) (omega arith) in
+          let c = front-rises before after n L fits i (omega arith) in
+          omega arith;
+      long = omega arith;
+    }
+
+    -- The places of the listed next states are the places that s moves to.
+    pub listing-nexts : (table : List ℕ) (r at : ℕ) {to : ℕ} {old new : List ℕ}
+        → Filled (Listed (take n after) (length (take n after)) table r) at old new to
+        → Filled (Nexts book table r s) at old new to
+    listing-nexts table r at w =
+        filled-same (Listed (take n after) (length (take n after)) table r) (Nexts book table r s) there back w
+      where
+        long : length (take n after) ≡ n
+        long = first_long n after inside
+
+        there : (j : ℕ) → Listed (take n after) (length (take n after)) table r j → Nexts book table r s j
+        there j (l, (m, a, e)) =
+            let b : m < n = omega (arith, long) in
+            (l, subst ((book_system book).Move s) (sym (first_at n after m b) ∙ e) (front-sound before after n L fits m b))
+
+        back : (j : ℕ) → Nexts book table r s j → Listed (take n after) (length (take n after)) table r j
+        back j (l, p) =
+            let (m, a, e) = front-there before after n L fits (get_or table j 0) p in
+            (l, (m, omega (arith, long), first_at n after m a ∙ e))

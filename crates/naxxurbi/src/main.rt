@@ -21,6 +21,7 @@ fn read_full<R: Read>(reader: &mut R, room: &mut [u8]) -> io::Result<usize>
     ensures all { IfOk result (λ n. (n ≡ length room.new) ⊎ IsAtEnd (R.remaining reader.new)) }
 {
     let mut done = 0;
+    // No `for`: a turn goes on by as many bytes as its read brings.
     while done < room.len() {
         let n = reader.read(&mut room[done..])?;
         if n == 0 {

@@ -1,22 +1,20 @@
--- A part of a paper, its states or its words, as the checkers are handed it: bytes, as many a number as its width, or numbers as they are.
--- One of the two is empty; the part stands for the numbers of both, those in bytes first. And what a checker then says. Assumes nothing.
-use Rattle.std.specs.Prelude.{Bool, true, false, List, ◌++◌, ℕ}
-use Rattle.meaning.specs.Promises.{numbers_in, state_bytes, word_bytes}
+-- A part of a paper, its states or its words, as the checkers are handed it: numbers as they are, or bytes, four a number, the highest
+-- first. And what a checker then says. Assumes nothing.
+use Rattle.std.specs.Prelude.{Bool, true, false, List, ℕ}
+use Rattle.meaning.specs.Promises.{Whole, numbers_in, state_bytes}
 use Rattle.answers.specs.Answers.{done, not_accepted}
 use Rattle.reader.specs.declared.Verdict.{Verdict}
 
--- the numbers that a part stands for, `width` bytes each where they stand in bytes
-unfoldable pub paper : (width : ℕ) (bytes numbers : List ℕ) → List ℕ
-paper width bytes numbers = numbers_in width bytes ++ numbers
+-- the numbers of a part in bytes
+abbrev pub in_bytes : List ℕ → List ℕ
+in_bytes bytes = numbers_in state_bytes bytes
 
--- a paper's states, and its words
-unfoldable pub states_of : (bytes numbers : List ℕ) → List ℕ
-unfolding paper
-states_of bytes numbers = paper state_bytes bytes numbers
+-- that nothing is left over: never of numbers
+abbrev pub AreWhole : List ℕ → Type 0
+AreWhole numbers = Unit {0}
 
-unfoldable pub words_of : (bytes numbers : List ℕ) → List ℕ
-unfolding paper
-words_of bytes numbers = paper word_bytes bytes numbers
+abbrev pub whole_in : List ℕ → Type 0
+whole_in bytes = Whole state_bytes bytes
 
 -- what a checker says of a paper that it accepts, and of one that it does not, on a good sheet
 abbrev pub on_paper : Bool → Verdict

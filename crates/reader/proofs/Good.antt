@@ -1,5 +1,5 @@
 -- What a good sheet is, for the crates above: laws of the meaning (crates/meaning/specs/Sheet.antt), none of the reader's code.
---   answers       told: good, or refused by this number and this place (Refusal); placed-good, placed-refused; read-answer-unique
+--   answers       told: good, or refused by this number and this place (Refusal); placed-good, placed-refused
 --   the sheet     Header, good-header: lengths, counts, and that each section reads without fault to the sheet's end
 --   a section     record-good and limit-record .. promise-record (the i-th record), after_more, after-within, length-bodies, bodies-at
 --   a record      limit-good, first_good, step-good, promise-good: its shape and its lists; names-letter, not_least: what a literal names
@@ -26,11 +26,8 @@ use Rattle.meaning.proofs.Placing.{place-within}
 use Rattle.reader.specs.Header.{version_byte, length_byte, letters_byte, limits_byte, promises_byte, records_at}
 use Rattle.reader.specs.Header.{version_in, length_in, limits_in, firsts_in, steps_in, promises_in}
 use Rattle.reader.specs.declared.Fault as F
-use Rattle.reader.specs.declared.Answer.{Answer}
-use Rattle.reader.specs.declared.Answer.TheVariants.{Good, Bad}
 use Rattle.reader.specs.declared.Verdict.{Verdict}
-use Rattle.reader.specs.declared.InNumbers.{InNumbers}
-use Rattle.reader.specs.declared.InNumbers.TheVariants as N
+use Rattle.std.specs.Prelude.{Result, Ok, Err}
 use Rattle.reader.specs.Answer.{why_of, fault_of, why_number, answer_of, in_numbers_of}
 
 -- ---- answers
@@ -48,28 +45,21 @@ number-kept bad_literal = refl
 number-kept not_rising = refl
 number-kept surplus = refl
 
--- The reader's answer r, known to be good or a fault f, is so in numbers. A fault's place is small.
-pub reads-good : (s : List ℕ) {r : Answer} → r ≡ answer_of (first_fault s) → r ≡ Good → N.Good ≡ in_numbers_of (first_fault s)
-reads-good s {r} e same = by (first_fault s) (sym e ∙ same)
-  where
-    by : (o : Option Fault) → answer_of o ≡ Good → N.Good ≡ in_numbers_of o
-    by none q = refl
-    by (some f) q = let z : ◌≡◌ {A = ℕ} 0 1 = cc in absurd (omega arith)
-
+-- The reader's answer r, known to be a fault f, is so in numbers, and the fault's place is small.
 pub record Faulty (s : List ℕ) (f : F.Fault) : Type 0 where
   pub small : f.at ≤ 4096
-  pub reads : N.Refused (record { answer = why_number f.why; place = f.at }) ≡ in_numbers_of (first_fault s)
+  pub reads : Err (record { answer = why_number f.why; place = f.at }) ≡ in_numbers_of (first_fault s)
 
-pub reads-faulty : (s : List ℕ) {r : Answer} {f : F.Fault} → r ≡ answer_of (first_fault s) → r ≡ Bad f → Faulty s f
+pub reads-faulty : (s : List ℕ) {r : Result (Unit {0}) F.Fault} {f : F.Fault} → r ≡ answer_of (first_fault s) → r ≡ Err f → Faulty s f
 reads-faulty s {r} {f} e same = by (first_fault s) refl (sym e ∙ same)
   where
-    by : (o : Option Fault) → first_fault s ≡ o → answer_of o ≡ Bad f → Faulty s f
+    by : (o : Option Fault) → first_fault s ≡ o → answer_of o ≡ Err f → Faulty s f
     by none q bad = let z : ◌≡◌ {A = ℕ} 0 1 = cc in absurd (omega arith)
     by (some g) q bad =
         let same : fault_of g ≡ f = cc in
         let faulty : Faulty s (fault_of g) = record {
           small = place-within s q;
-          reads = ap (λ (n : ℕ). N.Refused (record { answer = n; place = g.at })) (number-kept g.why) ∙ ap in_numbers_of (sym q);
+          reads = ap (λ (n : ℕ). Err (record { answer = n; place = g.at })) (number-kept g.why) ∙ ap in_numbers_of (sym q);
         } in
         subst (Faulty s) same faulty
 
@@ -81,12 +71,12 @@ pub record Refusal (s : List ℕ) (v : Verdict) : Type 0 where
   pub place : v.place ≡ fault.at
 
 -- what a call is told of a sheet: it is good, or refused so
-abbrev pub Tells : List ℕ → InNumbers → Type 0
-Tells s N.Good = first_fault s ≡ none
-Tells s (N.Refused v) = Refusal s v
+abbrev pub Tells : List ℕ → Result (Unit {0}) Verdict → Type 0
+Tells s (Ok tt) = first_fault s ≡ none
+Tells s (Err v) = Refusal s v
 
 -- What is told, r, known to be x, says so: good, or this number and this place.
-pub told : (s : List ℕ) {r x : InNumbers} → r ≡ in_numbers_of (first_fault s) → r ≡ x → Tells s x
+pub told : (s : List ℕ) {r x : Result (Unit {0}) Verdict} → r ≡ in_numbers_of (first_fault s) → r ≡ x → Tells s x
 told s {r} e same = subst (Tells s) (sym e ∙ same) (by (first_fault s) refl)
   where
     by : (o : Option Fault) → first_fault s ≡ o → Tells s (in_numbers_of (first_fault s))
@@ -105,10 +95,6 @@ pub placed-refused : (s : List ℕ) {v : Verdict} → Refusal s v → ReadPlaced
 unfolding ReadPlaced ReadSays read_number place_of
 placed-refused s bad =
     record { number = bad.number ∙ ap read_number (sym bad.first); where_met = bad.place ∙ ap place_of (sym bad.first) }
-
--- Two answers that meet the reader's promise are the same answer.
-pub read-answer-unique : (s : List ℕ) {r r' : Answer} → r ≡ answer_of (first_fault s) → r' ≡ answer_of (first_fault s) → r ≡ r'
-read-answer-unique s e e' = e ∙ sym e'
 
 -- ---- checks in a row
 

@@ -15,9 +15,8 @@ use Rattle.ground.proofs.Tests.{second-false}
 use Rattle.reader.specs.declared.Why.TheVariants.{BadLiteral, NotAscending, BadShape}
 use Rattle.reader.specs.declared.Fault as F
 use Rattle.reader.specs.declared.cursor.Cursor.{Cursor}
-use Rattle.reader.specs.declared.cursor.Step.{Step}
-use Rattle.reader.specs.declared.cursor.Step.TheVariants.{Moved, Refused}
-use Rattle.reader.specs.Answer.{step_to, record_step}
+use Rattle.std.specs.Prelude.{Ok, Err}
+use Rattle.reader.specs.Answer.{Step, step_to, record_step}
 use Rattle.reader.specs.Place.{part}
 use Rattle.reader.specs.Parts.{LimitRead, StepRead}
 use Rattle.reader.specs.declared.parts.LimitParts.{LimitParts}
@@ -38,12 +37,12 @@ listing_begins s n start end h = record { order = h; rest = refl }
 
 module _ (s : List ℕ) (n end start before at : ℕ) (l : Listing s n end start before at) where
   -- every literal was read
-  pub listing-done : end ≤ at → Moved (record { at = at }) ≡ step_to end (list_fault n start (part start end s))
+  pub listing-done : end ≤ at → Ok (record { at = at }) ≡ step_to end (list_fault n start (part start end s))
   unfolding literals_fault
   listing-done h =
       let e : at ≡ end = omega (arith, l.order) in
       let none_left : part at end s ≡ [] = ap (λ (k : ℕ). part k end s) e ∙ part_none end s in
-      ap (λ (k : ℕ). Moved (record { at = k })) e
+      ap (λ (k : ℕ). Ok (record { at = k })) e
       ∙ ap (step_to end) (sym (ap (literals_fault n at before) none_left) ∙ l.rest)
 
   module _ (h : at < end) (w : end ≤ length s) where
@@ -53,14 +52,14 @@ module _ (s : List ℕ) (n end start before at : ℕ) (l : Listing s n end start
     -- a literal that names no letter
     pub listing-names-none :
         names n (get_or s at 0) ≡ false
-        → Refused (record { why = BadLiteral; at = at }) ≡ step_to end (list_fault n start (part start end s))
+        → Err (record { why = BadLiteral; at = at }) ≡ step_to end (list_fault n start (part start end s))
     unfolding literals_fault
     listing-names-none q = ap (step_to end) (rw q at this)
 
     -- a literal that does not ascend
     pub listing-falls :
         names n (get_or s at 0) ≡ true → signed_below before (get_or s at 0) ≡ false
-        → Refused (record { why = NotAscending; at = at }) ≡ step_to end (list_fault n start (part start end s))
+        → Err (record { why = NotAscending; at = at }) ≡ step_to end (list_fault n start (part start end s))
     unfolding literals_fault
     listing-falls q r = ap (step_to end) (rw (q, r) at this)
 
@@ -76,22 +75,21 @@ module _ (s : List ℕ) (n end start before at : ℕ) (l : Listing s n end start
 -- ---- what a step says of the fault
 
 -- a moved cursor: no fault, and where it is
-pub moved : (e : ℕ) (o : Option Fault) {c : Cursor} → step_to e o ≡ Moved c → (o ≡ none) × (c.at ≡ e)
-moved e none q = (refl, moved_at q)
-  where
-    moved_at : {a b : Cursor} → Moved a ≡ Moved b → b.at ≡ a.at
-    moved_at q = ap (λ (c : Cursor). c.at) (cc)
+pub moved : (e : ℕ) (o : Option Fault) {c : Cursor} → step_to e o ≡ Ok c → (o ≡ none) × (c.at ≡ e)
+moved e none {c} q =
+    let same : c ≡ record { at = e } = cc in
+    (refl, ap (λ (k : Cursor). k.at) same)
 moved e (some f) q = let z : ◌≡◌ {A = ℕ} 0 1 = cc in absurd (omega arith)
 
 -- a fault stays the fault, whatever is read after it
-pub refused : (e d : ℕ) (o later : Option Fault) {f : F.Fault} → step_to e o ≡ Refused f → Refused f ≡ step_to d (o then later)
+pub refused : (e d : ℕ) (o later : Option Fault) {f : F.Fault} → step_to e o ≡ Err f → Err f ≡ step_to d (o then later)
 refused e d none later q = let z : ◌≡◌ {A = ℕ} 0 1 = cc in absurd (omega arith)
 refused e d (some g) later q = sym q
 
 -- ---- one record
 
 abbrev pub misshapen : ℕ → Step
-misshapen at = Refused (record { why = BadShape; at = at })
+misshapen at = Err (record { why = BadShape; at = at })
 
 shapeless : (t : Bool) (e at : ℕ) (later : Option Fault) → t ≡ false → misshapen at ≡ step_to e (unless t bad_shape at then later)
 shapeless t e at later q = rw q
@@ -195,12 +193,12 @@ module _ (s : List ℕ) (n at : ℕ) (fits : next_at s at ≤ length s) where
         ∙ ap (step_to (next_at s at)) (shaped _ at _ (ap (λ (b : Bool). b && leb (get_or body 0 0) (length body - 1)) long ∙ count))
 
     pub left-refused :
-        {f : F.Fault} → step_to p.right (list_fault n p.left (part p.left p.right s)) ≡ Refused f
-        → Refused f ≡ record_step a_step n s at
+        {f : F.Fault} → step_to p.right (list_fault n p.left (part p.left p.right s)) ≡ Err f
+        → Err f ≡ record_step a_step n s at
     left-refused q = refused p.right (next_at s at) (list_fault n p.left (part p.left p.right s)) _ q ∙ sides
 
     pub left-moved :
-        {c : Cursor} → step_to p.right (list_fault n p.left (part p.left p.right s)) ≡ Moved c
+        {c : Cursor} → step_to p.right (list_fault n p.left (part p.left p.right s)) ≡ Ok c
         → (c.at ≡ p.right) × (step_to p.end (list_fault n c.at (part c.at p.end s)) ≡ record_step a_step n s at)
     left-moved {c} q =
         let m = moved p.right (list_fault n p.left (part p.left p.right s)) q in (

@@ -11,8 +11,7 @@ use Rattle.meaning.specs.Sheet.{record_missing, surplus, Fault, unless, ◌then�
 use Rattle.reader.specs.declared.Why.TheVariants.{RecordMissing, Surplus}
 use Rattle.reader.specs.declared.Fault as F
 use Rattle.reader.specs.declared.cursor.Cursor.{Cursor}
-use Rattle.reader.specs.declared.cursor.Step.{Step}
-use Rattle.reader.specs.declared.cursor.Step.TheVariants.{Moved, Refused}
+use Rattle.std.specs.Prelude.{Ok, Err}
 use Rattle.reader.specs.Answer.{step_to, record_step, next_step, records_step, onwards, Within, end_step}
 use Rattle.reader.proofs.Good.{then-none, passed, after-within}
 use Rattle.reader.proofs.Reading.{moved, refused}
@@ -22,7 +21,7 @@ use Rattle.reader.proofs.Reading.{moved, refused}
 -- a record that runs past the end, or is missing
 pub record-missing :
     (kind : Kind) (n : ℕ) (s : List ℕ) (at : ℕ) → length s < next_at s at
-    → Refused (record { why = RecordMissing; at = at }) ≡ next_step kind n s at
+    → Err (record { why = RecordMissing; at = at }) ≡ next_step kind n s at
 unfolding next_step
 record-missing kind n s at h = let t = lt-leb (next_at s at) (length s) h in rw t
 
@@ -42,14 +41,14 @@ pub section-begins : (kind : Kind) (n : ℕ) (s : List ℕ) (count start : ℕ) 
 section-begins kind n s count start h = record { within = h; rest = refl }
 
 -- the first of some records, and the others
-unrolled : (e d : ℕ) (a b c : Option Fault) {f : F.Fault} → step_to e (a then b) ≡ Refused f → Refused f ≡ step_to d (a then b then c)
+unrolled : (e d : ℕ) (a b c : Option Fault) {f : F.Fault} → step_to e (a then b) ≡ Err f → Err f ≡ step_to d (a then b then c)
 unrolled e d none b c q = refused e d b c q
 unrolled e d (some f) b c q = sym q
 
 -- every record was read
 pub section-done :
     (kind : Kind) (n : ℕ) (s : List ℕ) (count start left at : ℕ) → Section kind n s count start left at
-    → left ≤ 0 → Moved (record { at = at }) ≡ records_step kind n s count start
+    → left ≤ 0 → Ok (record { at = at }) ≡ records_step kind n s count start
 unfolding records_step after_at records_fault
 section-done kind n s count start zero at l h = l.rest
 section-done kind n s count start (suc m) at l h = absurd (omega arith)
@@ -57,7 +56,7 @@ section-done kind n s count start (suc m) at l h = absurd (omega arith)
 -- a record with a fault
 pub section-refused :
     (kind : Kind) (n : ℕ) (s : List ℕ) (count start left at : ℕ) → Section kind n s count start left at
-    → 0 < left → {f : F.Fault} → next_step kind n s at ≡ Refused f → Refused f ≡ records_step kind n s count start
+    → 0 < left → {f : F.Fault} → next_step kind n s at ≡ Err f → Err f ≡ records_step kind n s count start
 unfolding next_step records_step after_at records_fault
 section-refused kind n s count start zero at l h q = absurd (omega arith)
 section-refused kind n s count start (suc m) at l h q =
@@ -68,7 +67,7 @@ section-refused kind n s count start (suc m) at l h q =
 -- a record without fault
 pub section-goes-on :
     (kind : Kind) (n : ℕ) (s : List ℕ) (count start left at : ℕ) → Section kind n s count start left at
-    → 0 < left → {c : Cursor} → next_step kind n s at ≡ Moved c → Section kind n s count start (left - 1) c.at
+    → 0 < left → {c : Cursor} → next_step kind n s at ≡ Ok c → Section kind n s count start (left - 1) c.at
 unfolding next_step records_step after_at records_fault
 section-goes-on kind n s count start zero at l h q = absurd (omega arith)
 section-goes-on kind n s count start (suc m) at l h {c} q =
@@ -92,7 +91,7 @@ section-goes-on kind n s count start (suc m) at l h {c} q =
 -- ---- from section to section
 
 -- whatever was read, what follows stands within the sheet
-pub records-within :
+records-within :
     (kind : Kind) (n : ℕ) (s : List ℕ) (count at : ℕ) → at ≤ length s → Within s (records_step kind n s count at)
 unfolding records_step
 records-within kind n s count at h = by (records_fault kind n s count at) refl
@@ -101,10 +100,9 @@ records-within kind n s count at h = by (records_fault kind n s count at) refl
     by none q = after-within kind n s count at q h count (omega arith)
     by (some f) q = tt
 
-pub onwards-within :
-    (kind : Kind) (n : ℕ) (s : List ℕ) (count : ℕ) (step : Step) → Within s step → Within s (onwards step (records_step kind n s count))
-onwards-within kind n s count (Moved c) h = records-within kind n s count c.at h
-onwards-within kind n s count (Refused f) h = tt
+pub moved-within :
+    (kind : Kind) (n : ℕ) (s : List ℕ) (count at : ℕ) {c : Cursor} → records_step kind n s count at ≡ Ok c → at ≤ length s → c.at ≤ length s
+moved-within kind n s count at q h = subst (Within s) q (records-within kind n s count at h)
 
 -- a section behind others
 pub onwards-records :
@@ -122,10 +120,10 @@ unfolding end_step
 onwards-end s at none = refl
 onwards-end s at (some f) = refl
 
-pub at-end : (s : List ℕ) (at : ℕ) → at ≡ length s → Moved (record { at = at }) ≡ end_step s at
+pub at-end : (s : List ℕ) (at : ℕ) → at ≡ length s → Ok (record { at = at }) ≡ end_step s at
 unfolding end_step
 at-end s at e = let t = eq-eqb at (length s) e in rw t
 
-pub not-at-end : (s : List ℕ) (at : ℕ) → (at ≡ length s → ⊥) → Refused (record { why = Surplus; at = at }) ≡ end_step s at
+pub not-at-end : (s : List ℕ) (at : ℕ) → (at ≡ length s → ⊥) → Err (record { why = Surplus; at = at }) ≡ end_step s at
 unfolding end_step
 not-at-end s at e = let t = ne_eqb at (length s) e in rw t

@@ -1,6 +1,6 @@
--- The reader's enums beside the meaning: which fault each stands for, and document 01's number for each answer. Assumes nothing.
+-- The reader's types beside the meaning: which fault each stands for, and document 01's number for each answer. Assumes nothing.
 use Rattle.std.proofs.Math.Option.{Option, none, some}
-use Rattle.std.specs.Prelude.{List, ℕ, ◌≤◌, ◌<◌, leb, eqb, length}
+use Rattle.std.specs.Prelude.{List, ℕ, ◌≤◌, leb, eqb, length, Result, Ok, Err}
 use Rattle.meaning.specs.Sheet as Sheet
 use Rattle.meaning.specs.Sheet.{unless, ◌then◌}
 use Rattle.reader.specs.declared.Why.{Why}
@@ -9,12 +9,8 @@ use Rattle.reader.specs.declared.Why.TheVariants.{BadShape, BadLiteral, NotAscen
 use Rattle.reader.specs.declared.Kind.{Kind}
 use Rattle.reader.specs.declared.Kind.TheVariants.{Limit, FirstRule, StepRule, Promise}
 use Rattle.reader.specs.declared.Fault.{Fault}
-use Rattle.reader.specs.declared.cursor.Step.{Step}
-use Rattle.reader.specs.declared.cursor.Step.TheVariants.{Moved, Refused}
-use Rattle.reader.specs.declared.Answer.{Answer}
-use Rattle.reader.specs.declared.Answer.TheVariants.{Good, Bad}
-use Rattle.reader.specs.declared.InNumbers.{InNumbers}
-use Rattle.reader.specs.declared.InNumbers.TheVariants as N
+use Rattle.reader.specs.declared.Verdict.{Verdict}
+use Rattle.reader.specs.declared.cursor.Cursor.{Cursor}
 
 -- the enum's variant for each fault of the meaning
 abbrev pub why_of : Sheet.Why → Why
@@ -52,22 +48,30 @@ abbrev pub fault_of : Sheet.Fault → Fault
 fault_of f = record { why = why_of f.why; at = f.at }
 
 -- what reading a sheet answers for its first fault
-abbrev pub answer_of : Option Sheet.Fault → Answer
-answer_of none = Good
-answer_of (some f) = Bad (fault_of f)
+abbrev pub answer_of : Option Sheet.Fault → Result (Unit {0}) Fault
+answer_of none = Ok tt
+answer_of (some f) = Err (fault_of f)
+
+-- a fault of the reader in numbers
+abbrev pub numbers_of : Fault → Verdict
+numbers_of f = record { answer = why_number f.why; place = f.at }
 
 -- the same in numbers: document 01's number and order 1's place
-abbrev pub in_numbers_of : Option Sheet.Fault → InNumbers
-in_numbers_of none = N.Good
-in_numbers_of (some f) = N.Refused (record { answer = Sheet.number_of f.why; place = f.at })
+abbrev pub in_numbers_of : Option Sheet.Fault → Result (Unit {0}) Verdict
+in_numbers_of none = Ok tt
+in_numbers_of (some f) = Err (record { answer = Sheet.number_of f.why; place = f.at })
+
+-- what a cursor's method gives back: the moved cursor, or the fault
+abbrev pub Step : Type 0
+Step = Result Cursor Fault
 
 abbrev pub refusal : Why → ℕ → Step
-refusal why at = Refused (record { why = why; at = at })
+refusal why at = Err (record { why = why; at = at })
 
--- What a cursor's method gives back: the cursor at `end` if there was no fault, else the fault.
+-- the cursor at `end` if there was no fault, else the fault
 abbrev pub step_to : ℕ → Option Sheet.Fault → Step
-step_to end none = Moved (record { at = end })
-step_to end (some f) = Refused (fault_of f)
+step_to end none = Ok (record { at = end })
+step_to end (some f) = Err (fault_of f)
 
 -- the record at `at`: the cursor behind it, or its fault
 unfoldable pub record_step : Sheet.Kind → ℕ → List ℕ → ℕ → Step
@@ -89,14 +93,10 @@ end_step s at = step_to at (unless (eqb at (length s)) Sheet.surplus at)
 
 -- go on from a moved cursor; a fault stays
 abbrev pub onwards : Step → (ℕ → Step) → Step
-onwards (Moved c) go = go c.at
-onwards (Refused f) go = Refused f
+onwards (Ok c) go = go c.at
+onwards (Err f) go = Err f
 
 -- a moved cursor stands within the sheet
 abbrev pub Within : List ℕ → Step → Type 0
-Within s (Moved c) = c.at ≤ length s
-Within s (Refused f) = Unit
-
-pub record OnwardsAsks (s : List ℕ) (n : ℕ) (step : Step) : Type 0 where
-  pub letters : n < 128
-  pub within : Within s step
+Within s (Ok c) = c.at ≤ length s
+Within s (Err f) = Unit

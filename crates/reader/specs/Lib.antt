@@ -1,5 +1,4 @@
 pub mod Header
-pub mod Signed
 pub mod Place
 pub mod Parts
 pub mod Answer

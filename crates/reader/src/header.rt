@@ -1,10 +1,10 @@
 // A sheet's first eight bytes: document 01's faults 1 to 5, in that order.
-ghost use Rattle.std.specs.Prelude.{◌≡◌, ◌+◌, ◌*◌, eqb};
+ghost use Rattle.std.specs.Prelude.{◌≡◌, eqb};
 ghost use Rattle.meaning.specs.Sheet.{least_bytes};
-ghost use Rattle.reader.specs.Answer.{step_to, refusal};
+ghost use Rattle.reader.specs.Answer.{step_to};
 ghost use Rattle.reader.specs.Whole.{header_fault};
 
-use super::cursor::{Cursor, Step};
+use super::cursor::{Cursor, refuse};
 use super::{Fault, Why};
 
 // Document 01's bounds.
@@ -45,22 +45,8 @@ pub fn version_ok(version: u8) -> bool
     version == 1
 }
 
-// The length that a sheet states, high byte first.
-fn stated_length(high: u8, low: u8) -> usize
-    ensures { result ≡ high * 256 + low }
-{
-    (high as usize) * 256 + low as usize
-}
-
-// A fault at a byte of the header.
-fn refuse(why: Why, at: usize) -> Step
-    ensures { result ≡ refusal why at }
-{
-    Step::Refused(Fault { why, at })
-}
-
 // The header's first fault, or a cursor at the first record.
-pub fn header(s: &[u8]) -> Step
+pub fn header(s: &[u8]) -> Result<Cursor, Fault>
     ensures { result ≡ step_to least_bytes (header_fault s.now) }
 {
     let len = s.len();
@@ -70,7 +56,8 @@ pub fn header(s: &[u8]) -> Step
     if !version_ok(s[VERSION_AT]) {
         return refuse(Why::BadVersion, VERSION_AT);
     }
-    if stated_length(s[LENGTH_AT], s[LENGTH_LOW_AT]) != len {
+    let stated = u16::from_be_bytes([s[LENGTH_AT], s[LENGTH_LOW_AT]]);
+    if stated as usize != len {
         return refuse(Why::BadLength, LENGTH_AT);
     }
     let n = s[LETTERS_AT];
@@ -83,5 +70,5 @@ pub fn header(s: &[u8]) -> Step
     if s[PROMISES_AT] > MOST_PROMISES {
         return refuse(Why::TooMany, PROMISES_AT);
     }
-    Step::Moved(Cursor { at: RECORDS_AT })
+    Ok(Cursor { at: RECORDS_AT })
 }

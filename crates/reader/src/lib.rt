@@ -3,12 +3,12 @@
 // what follows for a good sheet is in proofs/Good.antt.
 #![tactic(auto)]
 
-ghost use Rattle.std.specs.Prelude.{◌≡◌};
-ghost use Rattle.meaning.specs.Sheet.{end_at, first_fault};
+ghost use Rattle.std.specs.Prelude.{◌≡◌, ◌≤◌};
+ghost use Rattle.meaning.specs.Sheet.{end_at, first_fault, most_bytes_of_a_sheet};
 ghost use Rattle.meaning.specs.Promises.{ReadSays, ReadPlaced, ReadOut};
-ghost use Rattle.reader.specs.Answer.{step_to, why_number, answer_of, in_numbers_of};
+ghost use Rattle.reader.specs.Answer.{step_to, why_number, numbers_of, answer_of, in_numbers_of};
 
-use cursor::Step;
+use cursor::Cursor;
 
 pub mod cursor;
 pub mod header;
@@ -46,13 +46,6 @@ pub enum Kind {
     Promise,
 }
 
-// What reading a sheet says: it is good, or its first fault with its place.
-#[derive(Clone, Copy)]
-pub enum Answer {
-    Good,
-    Bad(Fault),
-}
-
 // An answer in numbers: document 01's number, and the place of a bad sheet's fault, 0 on every other answer.
 #[derive(Clone, Copy)]
 pub struct Verdict {
@@ -60,64 +53,58 @@ pub struct Verdict {
     pub place: u32,
 }
 
-// What a call that answers in numbers is told of its sheet: it is good, or this is the call's answer.
-#[derive(Clone, Copy)]
-pub enum InNumbers {
-    Good,
-    Refused(Verdict),
-}
-
 // The sheet's first fault, or a cursor at its end.
-fn walk(sheet: &[u8]) -> Step
+fn walk(sheet: &[u8]) -> Result<Cursor, Fault>
     ensures { result ≡ step_to (end_at sheet.now) (first_fault sheet.now) }
 {
-    match header::header(sheet) {
-        Step::Moved(c) => c.sections(sheet),
-        Step::Refused(f) => Step::Refused(f),
-    }
+    let first = header::header(sheet)?;
+    first.sections(sheet)
 }
 
 // Whether a sheet is good, or what its first fault is and where.
-pub fn read(sheet: &[u8]) -> Answer
+pub fn read(sheet: &[u8]) -> Result<(), Fault>
     ensures { result ≡ answer_of (first_fault sheet.now) }
 {
-    match walk(sheet) {
-        Step::Moved(_) => Answer::Good,
-        Step::Refused(f) => Answer::Bad(f),
-    }
+    walk(sheet)?;
+    Ok(())
 }
 
 // Document 01's number for a fault.
-pub fn number(why: Why) -> u32
-    ensures { result ≡ why_number why }
+impl From<Why> for u32 {
+    ghost from_gives = { λ why n. n ≡ why_number why };
+
+    fn from(why: Why) -> u32 {
+        match why {
+            Why::BadSize => 1,
+            Why::BadVersion => 2,
+            Why::BadLength => 3,
+            Why::BadLetters => 4,
+            Why::TooMany => 5,
+            Why::RecordMissing => 6,
+            Why::BadShape => 7,
+            Why::BadLiteral => 8,
+            Why::NotAscending => 9,
+            Why::Surplus => 10,
+        }
+    }
+}
+
+// A fault in numbers. Its place is within a sheet, so it fits.
+fn in_numbers(f: Fault) -> Verdict
+    requires { f.at ≤ most_bytes_of_a_sheet }
+    ensures { result ≡ numbers_of f }
 {
-    match why {
-        Why::BadSize => 1,
-        Why::BadVersion => 2,
-        Why::BadLength => 3,
-        Why::BadLetters => 4,
-        Why::TooMany => 5,
-        Why::RecordMissing => 6,
-        Why::BadShape => 7,
-        Why::BadLiteral => 8,
-        Why::NotAscending => 9,
-        Why::Surplus => 10,
+    Verdict {
+        answer: u32::from(f.why),
+        place: f.at as u32,
     }
 }
 
 // Reads a sheet for a call that answers in numbers: every call that takes a sheet refuses a bad one by these two.
-pub fn read_in_numbers(sheet: &[u8]) -> InNumbers
+pub fn read_in_numbers(sheet: &[u8]) -> Result<(), Verdict>
     ensures { result ≡ in_numbers_of (first_fault sheet.now) }
 {
-    match read(sheet) {
-        Answer::Good => InNumbers::Good,
-        Answer::Bad(f) => {
-            let why = f.why;
-            let answer = number(why);
-            let place = f.at as u32;
-            InNumbers::Refused(Verdict { answer, place })
-        }
-    }
+    read(sheet).map_err(in_numbers)
 }
 
 // The reader's own answer in numbers: 0 for a good sheet, or the number and the place of its first fault.
@@ -125,11 +112,11 @@ pub fn verdict_on(sheet: &[u8]) -> Verdict
     ensures { ReadPlaced sheet.now result.answer result.place }
 {
     match read_in_numbers(sheet) {
-        InNumbers::Good => Verdict {
+        Ok(()) => Verdict {
             answer: 0,
             place: 0,
         },
-        InNumbers::Refused(v) => v,
+        Err(v) => v,
     }
 }
 
@@ -137,8 +124,7 @@ pub fn verdict_on(sheet: &[u8]) -> Verdict
 pub fn naxxurbi_read(sheet: &[u8]) -> u32
     ensures { ReadSays sheet.now result }
 {
-    let v = verdict_on(sheet);
-    v.answer
+    verdict_on(sheet).answer
 }
 
 // The same with the place: number and place go into `out`, in this order, whatever the sheet. The place of a good sheet is 0.

@@ -1,4 +1,6 @@
 // Where the parts of a record stand. Every crate asks here, so that no other place knows an offset within a record.
+#![tactic(auto, unfolding(meaning::specs::Sheet::byte, meaning::specs::Sheet::next_at))]
+
 ghost use Rattle.reader.specs.Parts.{LimitAsks, LimitRead, StepAsks, StepRead};
 
 // A limit: whether it says exactly, its bound, and where its literals start and end.

@@ -9,29 +9,16 @@ use std::io;
 const ROOM: usize = 4097;
 
 // Shows the first n bytes.
-fn front(rt: &impl Print, name: &str, sheet: &[u8], n: usize) -> io::Result<()> {
-    if n <= sheet.len() {
-        show(rt, name, &sheet[..n])?;
-    }
-    Ok(())
-}
-
 fn show_front(rt: &impl Print, name: &str, sheet: &[u8; ROOM], n: usize) -> io::Result<()> {
-    front(rt, name, sheet, n)
+    match sheet.get(..n) {
+        Some(front) => show(rt, name, front),
+        None => Ok(()),
+    }
 }
 
 fn put(sheet: &mut [u8; ROOM], at: usize, b: u8) {
-    if at < ROOM {
-        sheet[at] = b;
-    }
-}
-
-// A place that many bytes on, within the largest sheet built here.
-fn on(at: usize, bytes: usize) -> usize {
-    if at < 8192 && bytes < 8192 {
-        at + bytes
-    } else {
-        at
+    if let Some(place) = sheet.get_mut(at) {
+        *place = b;
     }
 }
 
@@ -52,10 +39,8 @@ fn counts(sheet: &mut [u8; ROOM], limits: u8, firsts: u8, steps: u8, promises: u
 
 // The literals 1 to k in a row.
 fn rising(sheet: &mut [u8; ROOM], at: usize, k: u8) {
-    let mut i: u8 = 0;
-    while i < k {
-        put(sheet, on(at, i as usize), i + 1);
-        i += 1;
+    for i in 0..k {
+        put(sheet, at.saturating_add(i as usize), i + 1);
     }
 }
 
@@ -70,13 +55,11 @@ fn repeat(
     c: u8,
 ) -> usize {
     let mut end = at;
-    let mut left = records;
-    while left > 0 {
+    for _record in 0..records {
         put(sheet, end, a);
-        put(sheet, on(end, 1), b);
-        put(sheet, on(end, 2), c);
-        end = on(end, size);
-        left -= 1;
+        put(sheet, end.saturating_add(1), b);
+        put(sheet, end.saturating_add(2), c);
+        end = end.saturating_add(size);
     }
     end
 }
@@ -84,12 +67,10 @@ fn repeat(
 // First rules of k literals, and where they end.
 fn first_rules(sheet: &mut [u8; ROOM], at: usize, records: u16, k: u8) -> usize {
     let mut end = at;
-    let mut left = records;
-    while left > 0 {
+    for _record in 0..records {
         put(sheet, end, k);
-        rising(sheet, on(end, 1), k);
-        end = on(end, on(1, k as usize));
-        left -= 1;
+        rising(sheet, end.saturating_add(1), k);
+        end = end.saturating_add(1 + k as usize);
     }
     end
 }
@@ -111,8 +92,7 @@ pub fn longest(rt: &impl Print) -> io::Result<()> {
     put(&mut sheet, 4080, 16);
     show_front(rt, "6: the last record of 4,096 bytes", &sheet, 4096)?;
     put(&mut sheet, 4080, 14);
-    show_front(rt, "10: the last byte of 4,096", &sheet, 4096)?;
-    Ok(())
+    show_front(rt, "10: the last byte of 4,096", &sheet, 4096)
 }
 
 // All counts at their maxima, 901 bytes; the last promise starts at byte 899.
@@ -134,8 +114,7 @@ pub fn fullest(rt: &impl Print) -> io::Result<()> {
     put(&mut sheet, PROMISES_AT, 15);
     show_front(rt, "10: behind 15 promises", &sheet, 901)?;
     put(&mut sheet, PROMISES_AT, 17);
-    show_front(rt, "5: one promise more", &sheet, 901)?;
-    Ok(())
+    show_front(rt, "5: one promise more", &sheet, 901)
 }
 
 // One record of 255 bytes, in a sheet of 264.
@@ -166,6 +145,5 @@ pub fn long_records(rt: &impl Print) -> io::Result<()> {
         "6: a promise of 255 bytes, the last missing",
         &sheet,
         263,
-    )?;
-    Ok(())
+    )
 }

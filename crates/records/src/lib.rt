@@ -30,11 +30,9 @@ pub fn read_header(sheet: &[u8]) -> Stated
     requires { records_at ≤ length sheet.now }
     ensures { result ≡ stated_in sheet.now }
 {
-    let high = sheet[LENGTH_AT] as u16;
-    let low = sheet[LENGTH_LOW_AT] as u16;
     Stated {
         version: sheet[VERSION_AT],
-        size: high * 256 + low,
+        size: u16::from_be_bytes([sheet[LENGTH_AT], sheet[LENGTH_LOW_AT]]),
         letters: sheet[LETTERS_AT],
         limits: sheet[LIMITS_AT],
         firsts: sheet[FIRSTS_AT],
@@ -48,22 +46,22 @@ pub fn write_record(slice: &mut [u8], at: usize, body: &[u8]) -> usize
     requires { BodyAsks slice.old at body.now }
     ensures { RecordsWritten slice.old at (body.now ∷ []) slice.new result }
 {
-    let size = body.len();
-    let front = [size as u8];
+    let front = [body.len() as u8];
     ground::pieces::write(slice, at, &front);
-    let start = at + 1;
+    let start = at + front.len();
     ground::pieces::write(slice, start, body);
-    start + size
+    start + body.len()
 }
 
 // Writes a header into the front of a slice.
 pub fn write_header(slice: &mut [u8], stated: Stated)
     ensures { slice.new ≡ sets slice.old 0 (header stated) }
 {
+    let [high, low] = stated.size.to_be_bytes();
     let mut bytes = [0u8; RECORDS_AT];
     bytes[VERSION_AT] = stated.version;
-    bytes[LENGTH_AT] = (stated.size / 256) as u8;
-    bytes[LENGTH_LOW_AT] = (stated.size % 256) as u8;
+    bytes[LENGTH_AT] = high;
+    bytes[LENGTH_LOW_AT] = low;
     bytes[LETTERS_AT] = stated.letters;
     bytes[LIMITS_AT] = stated.limits;
     bytes[FIRSTS_AT] = stated.firsts;

@@ -1,3 +1,4 @@
+pub mod Courses
 pub mod Marks
 pub mod Running
 pub mod Rows

@@ -4,7 +4,7 @@ use mathlib.Core.Path.{◌≡◌, refl, sym, ap, subst, ◌∙◌}
 use mathlib.Core.Logic.{◌⊎◌, inl, inr}
 use mathlib.Core.Bool.{Bool, true, false, cond}
 use mathlib.Core.List.{List}
-use Prim.Native.Nat.{ℕ, zero, suc, ◌+◌, ◌-◌, ◌*◌, ◌≤◌, ◌<◌}
+use Prim.Native.Nat.{ℕ, zero, suc, ◌-◌, ◌*◌, ◌≤◌, ◌<◌}
 use native.Mathlib.Decide.{ℕ_discrete}
 use native.Mathlib.Omega.{arith}
 use lib.ListN.{length, get_or, set, length-set}
@@ -183,14 +183,6 @@ module _ {book table : List ℕ} {r : ℕ} {words₀ words old wit : List ℕ} {
       at : (q : ℕ) → (q ≡ 0 → ⊥) → q ≤ promises_of book → Before words (row_of r q wit) M log (get_or news q 0) m
       at zero n h = absurd (n refl)
       at (suc k) n h = Mo.before k (omega arith)
-
-  -- Its news are from a small number on.
-  pub moving-news : get_or news reason 0 ≤ never_yet
-  moving-news = by (Mo.never-yet reason within)
-    where
-      by : (get_or news reason 0 ≤ m) ⊎ (get_or news reason 0 ≡ never_yet) → get_or news reason 0 ≤ never_yet
-      by (inl x) = omega (arith, x, Mo.log_is.count, A.few)
-      by (inr x) = omega (arith, x)
 
   -- The next phase may be lent its row, the log and the line.
   pub moving-lent : {line' : List ℕ} → length log ≡ length log₀ → length line' ≡ length line → reason ≤ 16

@@ -6,20 +6,16 @@ use native.Mathlib.Nat.{suc-mul, zero-mul, mul-le-mul_right}
 use native.Mathlib.Omega.{arith}
 use native.Mathlib.Decide.{dec_lt}
 use lib.ListN.{length, get_or, take, drop, length-drop, length-append, get_or-append}
-use lib.Seq.{ext_get_or, length-take-le, length_front, take_at, drop_at, get_or-take, get_or-drop, get_or-append-add}
+use lib.Seq.{ext_get_or, length-take-le, take_at, drop_at, get_or-take, get_or-drop, get_or-append-add}
 use Rattle.rules.specs.Book.{promises_of}
 use Rattle.watch.specs.Witness.{BegunRow}
-use Rattle.rounds.specs.Rows.{row_of, Beginnable, BegunRows}
+use Rattle.rounds.specs.Rows.{row_of, Beginnable}
 
 -- ---- where rows stand
 
 -- The row of an earlier reason ends before.
 pub earlier-row : (q q' r : ℕ) → q < q' → q * r + r ≤ q' * r
 earlier-row q q' r h = subst (λ (n : ℕ). n ≤ q' * r) (suc-mul q r) (mul-le-mul_right r h)
-
--- The row of one of few reasons begins early.
-pub row-early : (q r : ℕ) → q ≤ 16 → r ≤ 16384 → q * r ≤ 262144
-row-early q r few small = let a = mul-le-mul_right {m = q} {n = 16} r few in omega arith
 
 -- ---- a row put back
 
@@ -49,10 +45,6 @@ front-put r old part = ap (λ (n : ℕ). take n old ++ (part ++ drop r (drop n o
 -- A row that lies in the list has r places.
 pub row-long : (r q : ℕ) (old : List ℕ) → suc q * r ≤ length old → length (row_of r q old) ≡ r
 row-long r q old inside = length-take-le r (drop (q * r) old) (omega (arith, suc-mul q r, length-drop (q * r) old))
-
--- So has the lent part.
-pub lent-long : (r q : ℕ) (old : List ℕ) → q * r + r ≤ length old → length (take (q * r + r - q * r) (drop (q * r) old)) ≡ r
-lent-long r q old inside = ap length (lent_row r q old) ∙ row-long r q old (omega (arith, suc-mul q r))
 
 -- Rows are the same if their places are.
 same_row : (r q : ℕ) (l m : List ℕ) → suc q * r ≤ length l → length l ≡ length m
@@ -203,7 +195,3 @@ module _ (book table : List ℕ) (r : ℕ) where
       subst (λ (n : ℕ). BegunRow book k table (take (n * r + r - n * r) (drop (n * r) wit)) part
       → Beginning book table r old (lent_back (n * r) r wit part) n) e
       (beginning-suc old wit part k b h)
-
-  -- All have begun.
-  pub beginning-all : (old wit : List ℕ) (k : ℕ) → Beginning book table r old wit k → promises_of book ≤ k → BegunRows book table r old wit
-  beginning-all old wit k b all = record { long = b.long; zeroth = b.zeroth; begun = λ j h. b.begun j (omega arith) }

@@ -1,3 +1,4 @@
+pub mod Courses
 pub mod Marked
 pub mod Phases
 pub mod Rows

@@ -1,5 +1,5 @@
 -- What the words say after the last round of striking. Assumes nothing.
-use Rattle.std.specs.Prelude.{◌≡◌, ◌⊎◌, List, ℕ, zero, suc, ◌+◌, ◌<◌, cond, eqb, length, get_or}
+use Rattle.std.specs.Prelude.{◌≡◌, ◌⊎◌, List, ℕ, zero, suc, ◌+◌, ◌<◌, cond, eqb, get_or}
 use Rattle.meaning.specs.System.{System, Livable}
 use Rattle.meaning.specs.Strike.{Struck, word_of}
 

@@ -1,8 +1,8 @@
 -- The rounds along stored moves: the row of the ways on between two phases of reason 0, and one phase. Assumes nothing.
-use mathlib.Core.Path.{◌≡◌, refl, sym, ap, subst, ◌∙◌}
+use mathlib.Core.Path.{◌≡◌, sym, ap, subst, ◌∙◌}
 use mathlib.Core.Logic.{◌⊎◌, inl, inr}
 use mathlib.Core.List.{List, ◌++◌}
-use Prim.Native.Nat.{ℕ, zero, suc, ◌+◌, ◌-◌, ◌*◌, ◌≤◌, ◌<◌}
+use Prim.Native.Nat.{ℕ, ◌+◌, ◌-◌, ◌*◌, ◌≤◌, ◌<◌}
 use native.Mathlib.Decide.{ℕ_discrete}
 use native.Mathlib.Omega.{arith}
 use lib.ListN.{length, get_or, set, take, drop}
@@ -14,7 +14,10 @@ use Rattle.moves.specs.Layout.{Backed}
 use Rattle.watch.specs.Witness.{Log}
 use Rattle.watch_along.specs.Along.{Woven}
 use Rattle.watch_along.specs.Along.{Watching}
-use Rattle.watch_along.specs.Ends.{Blank, Ahead, opening, going, Endable, Ended}
+use Rattle.watch_along.specs.Ends.{Blank, Ahead, opening, going, Endable}
+use Rattle.rounds.specs.declared.Course.{Course}
+use Rattle.rounds.specs.declared.Turn.{Turn}
+use Rattle.rounds.specs.Courses.{turn_of}
 use Rattle.rounds.specs.Rows.{row_of, Beginnable, BegunRows}
 use Rattle.rounds_along.specs.Along.{RunnableAlong, TurnDone, StrikableAlong}
 use Rattle.rounds.proofs.Running.{strikable-lawful}
@@ -131,6 +134,13 @@ module _ {book table : List ℕ} {r : ℕ} {words₀ words old wit forth back lo
             (sym (D.others 0 n (moving-inside A.stored.asked A.roomed Mo long within 0 (omega arith))))
             (ahead-on (row_of r 0 wit) back (row 0 (omega arith)) along-stepped.fallen
             (moving-later A.stored.asked A.roomed Mo long within along-stepped 0 (omega arith)) ahead))
+
+-- A phase of the course's turn was run: it is one of the course's next reason.
+pub turn-done : {words words' wit wit' forth back log log' : List ℕ} {r end : ℕ} {t : Turn} (k : Course) → t ≡ turn_of k
+    → TurnDone words words' wit wit' forth back log log' r t.reason t.word t.m end
+    → TurnDone words words' wit wit' forth back log log' r k.reason (k.base + k.reason) k.m end
+turn-done {words} {words'} {wit} {wit'} {forth} {back} {log} {log'} {r} {end} k e D =
+    subst (λ (t : Turn). TurnDone words words' wit wit' forth back log log' r t.reason t.word t.m end) e D
 
 -- Where the news of a phase are from, as `news_from` says it.
 pub since-early : {reason m end since : ℕ} → ((reason ≡ 0) × (since ≡ m)) ⊎ ((reason ≡ 0 → ⊥) × (since ≡ end)) → m ≤ end → since ≤ end

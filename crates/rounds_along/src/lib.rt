@@ -8,7 +8,8 @@ ghost use Rattle.rounds.specs.Phases.{Stricken};
 ghost use Rattle.rounds_along.specs.Along.{RunnableAlong, TurnDone, StrikableAlong};
 
 use ground::State;
-use rounds::{NEVER, REASONS, Turn, base_after, begin_rows, reason_after, rested};
+use rounds::{Course, Turn, begin_rows};
+use rules::Book;
 
 // One phase along stored moves: strikes together, for one reason, the places that it does not save; how long the log then is.
 fn phase(
@@ -27,10 +28,12 @@ fn phase(
         back.now log.old log.new r turn.reason turn.word turn.m result
         × (length line.new ≡ length line.old) }
 {
-    let reason = turn.reason;
-    let word = turn.word;
-    let m = turn.m;
-    let from = turn.from;
+    let Turn {
+        reason,
+        word,
+        m,
+        from,
+    } = turn;
     if reason == 0 {
         return watch_along::ends::phase(words, &mut wit[..r], forth, back, log, m, from, word);
     }
@@ -56,9 +59,10 @@ fn news_from(reason: usize, m: usize, end: usize) -> usize
     if reason == 0 { m } else { end }
 }
 
-// The rounds along stored moves, from words that are all 0; how many states are left.
+// The rounds along stored moves, from words that are all 0; how many states are left. (The rounds by tests have the same few lines: one
+// loop over either phase would need a trait, with what each keeps of row 0 as its ghost members, and be no plainer.)
 pub fn strike_rounds(
-    book: &[State],
+    book: &Book,
     table: &[State],
     words: &mut [u32],
     r: usize,
@@ -74,31 +78,14 @@ pub fn strike_rounds(
 {
     watch_along::ends::blank(&mut wit[..r]);
     begin_rows(book, table, r, wit);
-    let p = rules::promises(book);
-    let mut news = [NEVER; REASONS];
-    let mut m: usize = 0;
-    let mut left = r;
-    let mut base: u32 = 32;
-    let mut reason: usize = 0;
-    let mut quiet: usize = 0;
-    while quiet <= p {
-        let word = base + (reason as u32);
-        let from = news[reason] as usize;
-        let turn = Turn {
-            reason,
-            word,
-            m,
-            from,
-        };
+    let p = book.promises();
+    let mut course = Course::first(r);
+    // no range counts the phases: they end where one for each reason in a row has struck nothing
+    while course.quiet <= p {
+        let turn = course.turn();
         let end = phase(words, wit, forth, back, log, line, r, turn);
-        let n = end - m;
-        let since = news_from(reason, m, end);
-        news[reason] = since as u16;
-        m = end;
-        left -= n;
-        quiet = rested(quiet, n);
-        base = base_after(base, reason, p);
-        reason = reason_after(reason, p);
+        let since = news_from(course.reason, course.m, end);
+        course.go_on(end, since, p);
     }
-    left
+    course.left
 }

@@ -1,14 +1,12 @@
 -- The rounds by tests: the row of the pointers between two phases of reason 0, and one phase. Assumes nothing.
-use mathlib.Core.Path.{◌≡◌, refl, sym, ap, subst, ◌∙◌}
-use mathlib.Core.List.{List, ◌++◌}
-use Prim.Native.Nat.{ℕ, zero, suc, ◌+◌, ◌-◌, ◌*◌, ◌≤◌, ◌<◌}
+use mathlib.Core.Path.{◌≡◌, sym, ap, subst, ◌∙◌}
+use mathlib.Core.List.{List}
+use Prim.Native.Nat.{ℕ, ◌+◌, ◌-◌, ◌*◌, ◌≤◌, ◌<◌}
 use native.Mathlib.Decide.{ℕ_discrete}
 use native.Mathlib.Omega.{arith}
-use native.Mathlib.Nat.{zero-mul}
 use lib.ListN.{length, get_or, take, drop}
 use lib.Seq.{length-take-le, get_or-take}
 use Rattle.ground.specs.Wiping.{Zeros}
-use Rattle.meaning.specs.Promises.{most_states}
 use Rattle.rules.specs.Book.{book_system, promises_of}
 use Rattle.rules.specs.Table.{To}
 use Rattle.rules_signs.specs.Signs.{Signed}
@@ -16,6 +14,9 @@ use Rattle.watch.specs.Witness.{Log}
 use Rattle.watch_tests.specs.Tests.{WatchingByTests}
 use Rattle.ends_tests.specs.Phases.{fresh, Pointers, Phased, Unphased, Striking, DeadDone}
 use Rattle.ends_tests.proofs.Fewer.{phased-free, pointers-fewer}
+use Rattle.rounds.specs.declared.Course.{Course}
+use Rattle.rounds.specs.declared.Turn.{Turn}
+use Rattle.rounds.specs.Courses.{turn_of}
 use Rattle.rounds.specs.Rows.{row_of, BegunRows}
 use Rattle.rounds_tests.specs.Tests.{RunnableByTests, TestsDone, StrikableByTests}
 use Rattle.rounds.proofs.Rows.{lent_row, front-row, row-long, front-inside}
@@ -93,6 +94,13 @@ module _ {book table : List ℕ} {r : ℕ} {words₀ words old wit signs log₀ 
             subst (λ (l : List ℕ). Pointers book table words' l r)
             (sym (D.others 0 n (moving-inside A.asked A.roomed Mo long within 0 (omega arith))))
             (pointers-fewer book table words words' (row_of r 0 wit) r tests-stepped.fallen.free-before pointers)
+
+-- A phase of the course's turn was run: it is one of the course's next reason.
+pub turn-done : {book table words words' wit wit' log log' : List ℕ} {r end : ℕ} {t : Turn} (k : Course) → t ≡ turn_of k
+    → TestsDone book table words words' wit wit' log log' r t.reason t.word t.m end
+    → TestsDone book table words words' wit wit' log log' r k.reason (k.base + k.reason) k.m end
+turn-done {book} {table} {words} {words'} {wit} {wit'} {log} {log'} {r} {end} k e D =
+    subst (λ (t : Turn). TestsDone book table words words' wit wit' log log' r t.reason t.word t.m end) e D
 
 -- ---- a phase on its row
 

@@ -9,11 +9,12 @@ ghost use Rattle.rounds.specs.Phases.{Stricken};
 ghost use Rattle.rounds_tests.specs.Tests.{RunnableByTests, TestsDone, StrikableByTests};
 
 use ground::State;
-use rounds::{NEVER, REASONS, Turn, base_after, begin_rows, reason_after, rested};
+use rounds::{Course, Turn, begin_rows};
+use rules::Book;
 
 // One phase by tests: strikes together, for one reason, the places that it does not save; how long the log then is.
 fn phase(
-    book: &[State],
+    book: &Book,
     table: &[State],
     words: &mut [u32],
     wit: &mut [u16],
@@ -29,10 +30,12 @@ fn phase(
         wit.new log.old log.new r turn.reason turn.word turn.m result
         × (length line.new ≡ length line.old) }
 {
-    let reason = turn.reason;
-    let word = turn.word;
-    let m = turn.m;
-    let from = turn.from;
+    let Turn {
+        reason,
+        word,
+        m,
+        from,
+    } = turn;
     if reason == 0 {
         return ends_tests::dead_ends(book, table, words, &mut wit[..r], signs, log, m, word);
     }
@@ -54,7 +57,7 @@ fn phase(
 
 // The rounds by tests, from words and pointers that are all 0; how many states are left.
 pub fn strike_rounds(
-    book: &[State],
+    book: &Book,
     table: &[State],
     words: &mut [u32],
     r: usize,
@@ -67,30 +70,13 @@ pub fn strike_rounds(
     ensures { Stricken book.now table.now r words.old words.new result }
 {
     begin_rows(book, table, r, wit);
-    let p = rules::promises(book);
-    let mut news = [NEVER; REASONS];
-    let mut m: usize = 0;
-    let mut left = r;
-    let mut base: u32 = 32;
-    let mut reason: usize = 0;
-    let mut quiet: usize = 0;
-    while quiet <= p {
-        let word = base + (reason as u32);
-        let from = news[reason] as usize;
-        let turn = Turn {
-            reason,
-            word,
-            m,
-            from,
-        };
+    let p = book.promises();
+    let mut course = Course::first(r);
+    // no range counts the phases: they end where one for each reason in a row has struck nothing
+    while course.quiet <= p {
+        let turn = course.turn();
         let end = phase(book, table, words, wit, signs, log, line, r, turn);
-        let n = end - m;
-        news[reason] = end as u16;
-        m = end;
-        left -= n;
-        quiet = rested(quiet, n);
-        base = base_after(base, reason, p);
-        reason = reason_after(reason, p);
+        course.go_on(end, end, p);
     }
-    left
+    course.left
 }

@@ -1,6 +1,6 @@
 -- A test of every number below a bound, as loops make it. Assumes nothing.
 use mathlib.Core.Path.{◌≡◌, refl, sym, ◌∙◌, ap, ap₂, subst}
-use mathlib.Core.Bool.{Bool, true, false, not, ◌&&◌, and-false}
+use mathlib.Core.Bool.{Bool, true, false, ◌&&◌, and-false}
 use mathlib.Core.List.{List}
 use Prim.Native.Nat.{ℕ, zero, suc, ◌+◌, ◌/◌, ◌^◌, ◌≤◌, ◌<◌}
 use native.Mathlib.Nat.{div-lt_iff_lt-mul}
@@ -9,7 +9,7 @@ use lib.Pow.{pow_pos}
 use native.Mathlib.Numerals.{add-one}
 use native.Mathlib.Omega.{arith}
 use lib.Dec.{ltb}
-use borrow.Author.Tests.{lt-ltb, le-ltb, not-true, not-false}
+use borrow.Author.Tests.{lt-ltb, le-ltb}
 use Rattle.rules.specs.Book.{all_below, limit_row, row_holds, limit_ok}
 use Rattle.rules.specs.declared.book.Bounded.{Bounded}
 
@@ -33,27 +33,15 @@ pub all_same : (f g : ℕ → Bool) (n : ℕ) → ((i : ℕ) → i < n → f i �
 all_same f g zero h = refl
 all_same f g (suc n) h = ap₂ (λ (a b : Bool). a && b) (all_same f g n (λ i l. h i (omega arith))) (h n (omega arith))
 
--- What a loop over `count` numbers keeps that returns at the first which fails: those below i have passed.
-pub record Tested (test : ℕ → Bool) (count i : ℕ) : Type 0 where
-  pub within : i ≤ count
-  pub passed : all_below i test ≡ true
-
-module _ (test : ℕ → Bool) {count : ℕ} where
-  pub none-tested : Tested test count 0
-  none-tested = record { within = omega arith; passed = refl }
-
-  -- One more: its test r was not false.
-  pub one-passed : {i : ℕ} {r : Bool} → Tested test count i → i < count → r ≡ test i → not r ≡ false → Tested test count (i + 1)
-  one-passed {i} {r} t h e f = record { within = omega arith; passed = all_more test i t.passed (sym e ∙ not-false r f) }
-
-  -- What it returns, n being how many numbers there are: one failed, or all passed.
-  pub one-failed : {n i : ℕ} {r : Bool} → count ≡ n → i < count → r ≡ test i → not r ≡ true → false ≡ all_below n test
-  one-failed {n} {i} {r} e h d f = sym (all-broken test n i (omega arith) (sym d ∙ not-true r f))
-
-  pub all-passed : {n i : ℕ} → count ≡ n → Tested test count i → count ≤ i → true ≡ all_below n test
-  all-passed {n} {i} e t h =
-      let q : i ≡ n = omega (arith, t.within) in
-      sym (subst (λ (x : ℕ). all_below x test ≡ true) q t.passed)
+-- What `each_below` tells of a test, exactly.
+pub told : (test : ℕ → Bool) (n : ℕ) (r : Bool) → (r ≡ true → (i : ℕ) → i < n → test i ≡ true)
+    → (r ≡ false → (i : ℕ) × (i < n) × (test i ≡ false)) → r ≡ all_below n test
+told test n true t f = sym (passed-all n (t refl))
+  where
+    passed-all : (k : ℕ) → ((i : ℕ) → i < k → test i ≡ true) → all_below k test ≡ true
+    passed-all zero p = refl
+    passed-all (suc k) p = ap₂ (λ (a b : Bool). a && b) (passed-all k (λ i h. p i (omega arith))) (p k (omega arith))
+told test n false t f = let failed = f refl in sym (all-broken test n failed.0 failed.1 failed.2)
 
 -- A number is below 2 ^ n if nothing is left of it above its n lowest bits.
 pub shifted-out : (s n : ℕ) → s / 2 ^ n ≡ 0 → s < 2 ^ n
@@ -78,12 +66,6 @@ pub is_below : (s n r : ℕ) (rest : Bool) → r ≡ n → s / 2 ^ r ≡ 0 → r
 is_below s n r rest e h =
     let l : s < 2 ^ n = subst (λ (k : ℕ). s < 2 ^ k) e (shifted-out s r h) in
     sym (ap (λ (t : Bool). t && rest) (lt-ltb s (2 ^ n) l))
-
-pub past-last : (k n r : ℕ) (rest : Bool) → r ≡ n → r ≤ k → false ≡ (ltb k n && rest)
-past-last k n r rest e h = sym (ap (λ (t : Bool). t && rest) (le-ltb k n (omega arith)))
-
-pub not-past : (k n r : ℕ) (rest : Bool) → r ≡ n → k < r → rest ≡ (ltb k n && rest)
-not-past k n r rest e h = sym (ap (λ (t : Bool). t && rest) (lt-ltb k n (omega arith)))
 
 -- A limit's row, read, says what the limit says.
 pub limit-read : (book : List ℕ) (i s : ℕ) {row : Bounded} → row ≡ limit_row book i → row_holds s row ≡ limit_ok book s i

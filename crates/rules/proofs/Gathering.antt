@@ -3,7 +3,7 @@
 use mathlib.Core.Path.{◌≡◌, refl, sym, ◌∙◌, ap, ap₂, subst, subst₂}
 use mathlib.Core.Bool.{Bool, true, false, not, ◌&&◌, ◌||◌, and-true}
 use mathlib.Core.List.{List}
-use Prim.Native.Nat.{ℕ, suc, ◌+◌, ◌*◌, ◌^◌, ◌≤◌, ◌<◌}
+use Prim.Native.Nat.{ℕ, suc, ◌+◌, ◌^◌, ◌≤◌, ◌<◌}
 use native.Mathlib.Decide.{ℕ_discrete}
 use native.Mathlib.Numerals.{add-one}
 use native.Mathlib.Omega.{arith}
@@ -23,9 +23,6 @@ pub record Sofar (test : ℕ → ℕ → ℕ → Bool) (asks : ℕ → ℕ → B
   pub says : (t : ℕ) → all_below n (row_says test l t) ≡ all_below i (asks t)
 
 module _ (test : ℕ → ℕ → ℕ → Bool) (asks : ℕ → ℕ → Bool) (letters : ℕ) where
-  pub none_yet : (l : List ℕ) → Sofar test asks letters l 0 0
-  none_yet l = record { few = omega arith; masks = λ j h. absurd (omega arith); says = λ t. refl }
-
   -- A rule that is true of every state is passed over.
   pub passed_over : (l : List ℕ) (n i : ℕ) → Sofar test asks letters l n i → ((t : ℕ) → asks t i ≡ true)
       → Sofar test asks letters l n (i + 1)

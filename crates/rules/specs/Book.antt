@@ -7,7 +7,7 @@ use Rattle.std.specs.Int.Bits.{bit_and}
 use Rattle.std.specs.Int.Count.{ones}
 use Rattle.meaning.specs.System.{System}
 use Rattle.meaning.specs.Sheet.{most_letters, most_limits, most_promises, Kind, a_limit, a_first, a_step, a_promise}
-use Rattle.rules.specs.declared.book.Pair.{Pair}
+use Rattle.rules.specs.declared.tally.Literals.{Literals}
 use Rattle.rules.specs.declared.book.Bounded.{Bounded}
 
 -- ---- where things stand in a book
@@ -105,7 +105,7 @@ pub record CountsAre (l : List ℕ) (a b c d e : ℕ) : Type 0 where
   pub promises : promises_of l ≡ e
 
 -- the two masks at a place were read
-pub record MasksRead (l : List ℕ) (at : ℕ) (m : Pair) : Type 0 where
+pub record MasksRead (l : List ℕ) (at : ℕ) (m : Literals) : Type 0 where
   pub held_is : m.held ≡ get_or l at 0
   pub unheld_is : m.unheld ≡ get_or l (at + 1) 0
 

@@ -1,18 +1,37 @@
 // A book's layout: where each number of a compiled sheet stands. Only this module knows where a row begins and where its numbers stand in
-// it; they are read and written here. specs/Book.antt says the same under the same names.
-ghost use Rattle.std.specs.Prelude.{◌≡◌, ◌+◌, ◌≤◌, ◌<◌, length};
-ghost use Rattle.rules.specs.Book.{book_size, gather_size, most_rules, limit_width};
-ghost use Rattle.rules.specs.Book.{least_at, limit_at, first_at, step_at, right_at, promise_at, gathered_at, limit_row};
+// it; they are read and written here. specs/Book.antt says the same: `limits_from`, for one, is LIMITS.from there.
+ghost use Rattle.std.specs.Prelude.{◌≡◌, ◌+◌, ◌*◌, ◌≤◌, ◌<◌, length};
+ghost use Rattle.rules.specs.Book.{book_size, gather_size, most_rules, limit_width, least_at, right_at, gathered_at, limit_row, row_holds};
 ghost use Rattle.rules.specs.Book.{letters_of, limits_of, firsts_of, steps_of, promises_of, CountsAre, Shaped, MasksRead};
+ghost use Rattle.meaning.specs.Sheet.{most_letters, most_limits, most_promises};
 ghost use Rattle.rules.specs.Rows.{Put};
 
+use super::tally::Literals;
 use ground::{MOST_LIMITS, MOST_PROMISES, MOST_RULES};
+use std::marker::Model;
 
 // A book's numbers are as wide as a state.
 pub use ground::State;
 
-// How many numbers a row has: a list's are its two masks; a limit's its masks, the least and the most; a step rule's the masks of its
-// sides.
+// Rows of one kind, one behind another: where the first begins, and how many numbers each has.
+#[derive(Clone, Copy)]
+pub struct Rows {
+    from: usize,
+    width: usize,
+    ghost near: { from + width * most_rules ≤ 65536 },
+}
+
+impl Rows {
+    // Where row i begins.
+    pub fn at(self, i: usize) -> usize
+        requires { i ≤ most_rules }
+        ensures { result ≡ self.from + self.width * i }
+    {
+        self.from + self.width * i
+    }
+}
+
+// A list's row has its two masks; a limit's its masks, the least and the most; a step rule's the masks of its sides.
 const LIST_WIDTH: usize = 2;
 
 const LIMIT_WIDTH: usize = 4;
@@ -24,26 +43,36 @@ const LEAST: usize = LIST_WIDTH;
 
 pub const RIGHT: usize = LIST_WIDTH;
 
-// Where the rows of each kind begin, the limits' behind the counts; and how many numbers a book has.
-const LIMITS_FROM: usize = 8;
+// The rows of a book, the limits' behind the counts; and how many numbers a book has.
+pub const LIMITS: Rows = Rows {
+    from: 8,
+    width: LIMIT_WIDTH,
+};
 
-const FIRSTS_FROM: usize = LIMITS_FROM + LIMIT_WIDTH * MOST_LIMITS;
+pub const FIRSTS: Rows = Rows {
+    from: LIMITS.from + LIMIT_WIDTH * MOST_LIMITS,
+    width: LIST_WIDTH,
+};
 
-const STEPS_FROM: usize = FIRSTS_FROM + LIST_WIDTH * MOST_RULES;
+pub const STEPS: Rows = Rows {
+    from: FIRSTS.from + LIST_WIDTH * MOST_RULES,
+    width: STEP_WIDTH,
+};
 
-const PROMISES_FROM: usize = STEPS_FROM + STEP_WIDTH * MOST_RULES;
+pub const PROMISES: Rows = Rows {
+    from: STEPS.from + STEP_WIDTH * MOST_RULES,
+    width: LIST_WIDTH,
+};
 
-pub const BOOK_SIZE: usize = PROMISES_FROM + LIST_WIDTH * MOST_PROMISES;
+pub const BOOK_SIZE: usize = PROMISES.from + LIST_WIDTH * MOST_PROMISES;
 
-// How many numbers the lists take that are gathered from a book: at most one for each rule.
+// The rows of the lists that are gathered from a book, and how many numbers they take: at most one list for each rule.
+pub const GATHERED: Rows = Rows {
+    from: 0,
+    width: LIST_WIDTH,
+};
+
 pub const GATHER_SIZE: usize = LIST_WIDTH * MOST_RULES;
-
-// A list's masks: the letters that are to hold, and those that are not.
-#[derive(Clone, Copy)]
-pub struct Pair {
-    pub held: State,
-    pub unheld: State,
-}
 
 // A limit's row: its masks, and the least and the most of its literals that may be true.
 #[derive(Clone, Copy)]
@@ -54,44 +83,101 @@ pub struct Bounded {
     pub most: State,
 }
 
-// How many letters the sheet has.
-pub fn letters(book: &[State]) -> u32
-    requires { Shaped book.now }
-    ensures { result ≡ letters_of book.now }
-{
-    book[0] as u32
+impl Bounded {
+    // Whether the limit holds in s.
+    pub fn holds(self, s: State) -> bool
+        ensures { result ≡ row_holds s self }
+    {
+        let among = Literals {
+            held: self.held,
+            unheld: self.unheld,
+        };
+        let count = among.count(s);
+        self.least <= count && count <= self.most
+    }
 }
 
-// How many limits the sheet has.
-pub fn limits(book: &[State]) -> usize
-    requires { Shaped book.now }
-    ensures { result ≡ limits_of book.now }
-{
-    book[1] as usize
+// A sheet's book: its numbers, in the shape that a sheet's have. A contract sees the numbers, and their shape is what every book has.
+#[derive(Drop)]
+pub struct Book<'a> {
+    pub numbers: &'a [State],
 }
 
-// How many first rules the sheet has.
-pub fn firsts(book: &[State]) -> usize
-    requires { Shaped book.now }
-    ensures { result ≡ firsts_of book.now }
-{
-    book[2] as usize
+impl<'a> Model for Book<'a> {
+    ghost use Rattle.std.specs.Prelude.{List, ℕ};
+
+    ghost Value = { List ℕ };
+
+    ghost use Rattle.rules.specs.Book.{Shaped};
+
+    ghost view = { λ b. b.numbers.now };
+
+    ghost invariant = { λ b. Shaped b.numbers.now };
 }
 
-// How many step rules the sheet has.
-pub fn steps(book: &[State]) -> usize
-    requires { Shaped book.now }
-    ensures { result ≡ steps_of book.now }
-{
-    book[3] as usize
-}
+impl<'a> Book<'a> {
+    // Says what every book is, for a proof that needs it, and does nothing.
+    pub fn shaped(&self)
+        ensures { Shaped self.now }
+    {
+        let _ = &self.numbers;
+    }
 
-// How many promises the sheet has.
-pub fn promises(book: &[State]) -> usize
-    requires { Shaped book.now }
-    ensures { result ≡ promises_of book.now }
-{
-    book[4] as usize
+    // How many letters the sheet has. Each count keeps its function: `count(book, 3)` is no plainer than `steps(book)`.
+    pub fn letters(&self) -> u32
+        ensures number { result ≡ letters_of self.now }
+        ensures few { result ≤ most_letters }
+    {
+        self.numbers[0] as u32
+    }
+
+    // How many limits the sheet has.
+    pub fn limits(&self) -> usize
+        ensures number { result ≡ limits_of self.now }
+        ensures few { result ≤ most_limits }
+    {
+        self.numbers[1] as usize
+    }
+
+    // How many first rules the sheet has.
+    pub fn firsts(&self) -> usize
+        ensures number { result ≡ firsts_of self.now }
+        ensures few { result ≤ most_rules }
+    {
+        self.numbers[2] as usize
+    }
+
+    // How many step rules the sheet has.
+    pub fn steps(&self) -> usize
+        ensures number { result ≡ steps_of self.now }
+        ensures few { result ≤ most_rules }
+    {
+        self.numbers[3] as usize
+    }
+
+    // How many promises the sheet has.
+    pub fn promises(&self) -> usize
+        ensures number { result ≡ promises_of self.now }
+        ensures few { result ≤ most_promises }
+    {
+        self.numbers[4] as usize
+    }
+
+    // Limit i.
+    pub fn limit(&self, i: usize) -> Bounded
+        requires { i < limits_of self.now }
+        ensures { result ≡ limit_row self.now i }
+    {
+        let numbers = self.numbers;
+        let at = LIMITS.at(i);
+        let Literals { held, unheld } = masks_at(numbers, at);
+        Bounded {
+            held,
+            unheld,
+            least: numbers[at + LEAST],
+            most: numbers[at + LEAST + 1],
+        }
+    }
 }
 
 // Writes the five counts.
@@ -114,73 +200,32 @@ pub fn put_counts(
     book[4] = promises;
 }
 
-// Where limit i's row begins.
-pub fn limit_at(i: usize) -> usize
-    requires { i ≤ most_rules }
-    ensures { result ≡ limit_at i }
-{
-    LIMITS_FROM + LIMIT_WIDTH * i
-}
-
-// Where first rule i's masks stand.
-pub fn first_at(i: usize) -> usize
-    requires { i ≤ most_rules }
-    ensures { result ≡ first_at i }
-{
-    FIRSTS_FROM + LIST_WIDTH * i
-}
-
-// Where step rule i's row begins: the masks of its left side.
-pub fn step_at(i: usize) -> usize
-    requires { i ≤ most_rules }
-    ensures { result ≡ step_at i }
-{
-    STEPS_FROM + STEP_WIDTH * i
-}
-
 // Where the masks of step rule i's right side stand.
 pub fn right_at(i: usize) -> usize
     requires { i ≤ most_rules }
     ensures { result ≡ right_at i }
 {
-    step_at(i) + RIGHT
-}
-
-// Where promise i's masks stand.
-pub fn promise_at(i: usize) -> usize
-    requires { i ≤ most_rules }
-    ensures { result ≡ promise_at i }
-{
-    PROMISES_FROM + LIST_WIDTH * i
-}
-
-// Where gathered list i's masks stand.
-pub fn gathered_at(i: usize) -> usize
-    requires { i ≤ most_rules }
-    ensures { result ≡ gathered_at i }
-{
-    LIST_WIDTH * i
+    STEPS.at(i) + RIGHT
 }
 
 // The two masks that stand at a place.
-pub fn masks_at(l: &[State], at: usize) -> Pair
+pub fn masks_at(l: &[State], at: usize) -> Literals
     requires { at + 1 < length l.now }
     ensures { MasksRead l.now at result }
 {
-    let next = at + 1;
-    let held = l[at];
-    let unheld = l[next];
-    Pair { held, unheld }
+    Literals {
+        held: l[at],
+        unheld: l[at + 1],
+    }
 }
 
 // Writes two masks at a place.
-pub fn put_masks(l: &mut [State], at: usize, held: State, unheld: State)
+pub fn put_masks(l: &mut [State], at: usize, m: Literals)
     requires { at + 1 < length l.old }
-    ensures { Put l.old at held unheld l.new }
+    ensures { Put l.old at m.held m.unheld l.new }
 {
-    let next = at + 1;
-    l[at] = held;
-    l[next] = unheld;
+    l[at] = m.held;
+    l[at + 1] = m.unheld;
 }
 
 // Writes a limit's least and most into the row that begins at `row`.
@@ -189,35 +234,14 @@ pub fn put_bounds(book: &mut [State], row: usize, least: State, most: State)
     ensures { Put book.old (least_at row) least most book.new }
 {
     let at = row + LEAST;
-    let next = at + 1;
     book[at] = least;
-    book[next] = most;
+    book[at + 1] = most;
 }
 
 // Gathered list i.
-pub fn gathered(l: &[State], i: usize) -> Pair
+pub fn gathered(l: &[State], i: usize) -> Literals
     requires { (length l.now ≡ gather_size) × (i < most_rules) }
     ensures { MasksRead l.now (gathered_at i) result }
 {
-    let at = gathered_at(i);
-    masks_at(l, at)
-}
-
-// Limit i.
-pub fn limit(book: &[State], i: usize) -> Bounded
-    requires { Shaped book.now × (i < limits_of book.now) }
-    ensures { result ≡ limit_row book.now i }
-{
-    let at = limit_at(i);
-    let m = masks_at(book, at);
-    let third = at + LEAST;
-    let fourth = third + 1;
-    let least = book[third];
-    let most = book[fourth];
-    Bounded {
-        held: m.held,
-        unheld: m.unheld,
-        least,
-        most,
-    }
+    masks_at(l, GATHERED.at(i))
 }

@@ -8,7 +8,5 @@ pub mod freedom;
 pub mod gather;
 pub mod tally;
 
-pub use ask::{first_state, kept, lawful, moves, step_allows, step_asks};
-pub use book::{BOOK_SIZE, GATHER_SIZE, gathered, letters, limit, limits, promises, steps};
-pub use freedom::freer;
-pub use gather::{fits, gather_first, gather_next};
+pub use book::{BOOK_SIZE, Book, GATHER_SIZE, gathered};
+pub use gather::fits;

@@ -1,33 +1,38 @@
-// Two masks against a state: how many of their literals are true in it, whether some is, whether all are.
+// A list of literals against a state: how many are true in it, whether some is, whether all are.
 ghost use Rattle.std.specs.Prelude.{◌≡◌};
 ghost use Rattle.rules.specs.Book.{count_of, some_of, all_of};
 
 use super::book::State;
 use ground::ones_in;
 
-// How many literals are true in s: of the letters asked to hold those that do, and of those asked not to hold those that do not.
-pub fn count_true(s: State, held: State, unheld: State) -> State
-    ensures { result ≡ count_of s held unheld }
-{
-    let holding = ones_in(s & held);
-    let resting = ones_in(unheld & !s);
-    holding + resting
+// A list of literals as two masks: the letters that are to hold, and those that are not.
+#[derive(Clone, Copy)]
+pub struct Literals {
+    pub held: State,
+    pub unheld: State,
 }
 
-// Whether some literal is true in s.
-pub fn some_true(s: State, held: State, unheld: State) -> bool
-    ensures { result ≡ some_of s held unheld }
-{
-    let common = s & held;
-    let broken = s & unheld;
-    common != 0 || broken != unheld
-}
+impl Literals {
+    // How many are true in s: of the letters asked to hold those that do, and of those asked not to hold those that do not.
+    pub fn count(self, s: State) -> State
+        ensures { result ≡ count_of s self.held self.unheld }
+    {
+        let holding = ones_in(s & self.held);
+        let resting = ones_in(self.unheld & !s);
+        holding + resting
+    }
 
-// Whether every literal is true in s.
-pub fn all_true(s: State, held: State, unheld: State) -> bool
-    ensures { result ≡ all_of s held unheld }
-{
-    let common = s & held;
-    let broken = s & unheld;
-    common == held && broken == 0
+    // Whether some literal is true in s.
+    pub fn some(self, s: State) -> bool
+        ensures { result ≡ some_of s self.held self.unheld }
+    {
+        s & self.held != 0 || s & self.unheld != self.unheld
+    }
+
+    // Whether every literal is true in s.
+    pub fn all(self, s: State) -> bool
+        ensures { result ≡ all_of s self.held self.unheld }
+    {
+        s & self.held == self.held && s & self.unheld == 0
+    }
 }

@@ -1,14 +1,14 @@
 // Classes of states. States after which the same step rules ask something are of one class: they move to the same states, so that one
 // listing or count serves them all. A table of places finds an earlier state that is likely of the same class: `likely` in a small one,
 // where classes that share a slot forget one another, `found` in a large one, where they hardly ever do. That it is of the same class is
-// not promised here: who uses it tests it (rules::freer), so a wrong place only costs time.
+// not promised here: who uses it tests it (`Book::freer`), so a wrong place only costs time.
 #![tactic(auto)]
 
 ghost use Rattle.std.specs.Prelude.{◌≡◌, ◌<◌, ◌≤◌, ◌+◌, length};
 ghost use Rattle.meaning.specs.Promises.{most_states};
-ghost use Rattle.rules.specs.Book.{Shaped};
 
 use ground::State;
+use rules::Book;
 
 // How many places the judge remembers; and the strike checker, whose stack is small.
 pub const MANY: usize = 2048;
@@ -31,18 +31,11 @@ const MARKS: usize = 65535;
 const LOOKS: usize = 8;
 
 // A number of which step rules ask something after s, and of nothing else: the states of one class have one signature.
-fn signature(book: &[State], s: State) -> usize
-    requires { Shaped book.now }
-{
-    let steps = rules::steps(book);
-    let mut sign: usize = 0;
-    let mut i: usize = 0;
-    while i < steps {
-        if rules::step_asks(book, i, s) {
+fn signature(book: &Book, s: State) -> usize {
+    let mut sign = 0;
+    for i in 0..book.steps() {
+        if book.step_asks(i, s) {
             sign = (sign * SPREAD + i + 1) % SIGNATURES;
-            i += 1;
-        } else {
-            i += 1;
         }
     }
     sign
@@ -50,13 +43,13 @@ fn signature(book: &[State], s: State) -> usize
 
 // Whether the state at place i is looked for.
 fn worth(luck: usize, i: usize) -> bool {
-    if luck == 0 { i % 8 == 0 } else { true }
+    luck != 0 || i % 8 == 0
 }
 
 // The place that was given last for a state which is likely of the class of s, 0 where there was none. From now on it is i. Where it is not
-// worth looking, i itself.
-pub fn likely(book: &[State], s: State, i: usize, luck: usize, places: &mut [u16]) -> usize
-    requires { Shaped book.now × (0 < length places.old) × (length places.old ≤ 65536) }
+// worth looking, i itself. Since whoever asks tests what is found, there is no word of its own for none.
+pub fn likely(book: &Book, s: State, i: usize, luck: usize, places: &mut [u16]) -> usize
+    requires { (0 < length places.old) × (length places.old ≤ 65536) }
     ensures { length places.new ≡ length places.old }
 {
     if !worth(luck, i) {
@@ -64,31 +57,25 @@ pub fn likely(book: &[State], s: State, i: usize, luck: usize, places: &mut [u16
     }
     let slot = signature(book, s) % places.len();
     let place = places[slot] as usize;
-    let given = i % 65536;
-    places[slot] = given as u16;
+    places[slot] = (i % 65536) as u16;
     place
 }
 
 // The slot of a signature in a table with two numbers for each slot, the place given last and a mark: of the slots from `home` on the first
-// that has the mark, or none; `home` itself where the first few all have other marks.
+// that has the mark, or none; `home` itself where the first few all have other marks. The two numbers stand side by side in the one slice
+// of u16 that is lent: no heap, fixed memory.
 fn slot_of(places: &[u16], home: usize, mark: u16) -> usize
     requires { (length places.now ≤ 65536) × (home + home + 1 < length places.now) }
     ensures { result + result + 1 < length places.now }
 {
     let slots = places.len() / 2;
     let mut slot = home;
-    let mut left = LOOKS;
-    while left > 0 {
-        let at = slot + slot + 1;
-        let met = places[at];
-        if met == mark {
-            return slot;
-        }
-        if met == 0 {
+    for _ in 0..LOOKS {
+        let met = places[2 * slot + 1];
+        if met == mark || met == 0 {
             return slot;
         }
         slot = (slot + 1) % slots;
-        left -= 1;
     }
     home
 }
@@ -97,18 +84,16 @@ fn slot_of(places: &[u16], home: usize, mark: u16) -> usize
 fn given_last(places: &[u16], slot: usize, mark: u16, i: usize) -> usize
     requires { (length places.now ≤ 65536) × (slot + slot + 1 < length places.now) }
 {
-    let at = slot + slot;
-    let next = at + 1;
-    if places[next] == mark {
-        places[at] as usize
+    if places[2 * slot + 1] == mark {
+        places[2 * slot] as usize
     } else {
         i
     }
 }
 
 // The same as `likely`, in a table with two numbers for each slot; i where there was none. Empty slots hold zeros.
-pub fn found(book: &[State], s: State, i: usize, luck: usize, places: &mut [u16]) -> usize
-    requires { Shaped book.now × (2 ≤ length places.old) × (length places.old ≤ 65536) }
+pub fn found(book: &Book, s: State, i: usize, luck: usize, places: &mut [u16]) -> usize
+    requires { (2 ≤ length places.old) × (length places.old ≤ 65536) }
     ensures { length places.new ≡ length places.old }
 {
     if !worth(luck, i) {
@@ -116,36 +101,27 @@ pub fn found(book: &[State], s: State, i: usize, luck: usize, places: &mut [u16]
     }
     let sign = signature(book, s);
     let slots = places.len() / 2;
-    let home = sign % slots;
     let mark = (1 + sign / slots % MARKS) as u16;
-    let slot = slot_of(places, home, mark);
+    let slot = slot_of(places, sign % slots, mark);
     let place = given_last(places, slot, mark, i);
-    let at = slot + slot;
-    let next = at + 1;
-    let given = i % 65536;
-    places[at] = given as u16;
-    places[next] = mark;
+    places[2 * slot] = (i % 65536) as u16;
+    places[2 * slot + 1] = mark;
     place
 }
 
 // How many classes the table's first r states are of, likely; more than `most` where that many are met. Every slot is to hold zeros before.
-pub fn number(book: &[State], table: &[State], r: usize, most: usize, places: &mut [u16]) -> usize
-    requires { Shaped book.now × (r ≤ length table.now) × (r ≤ most_states) × (2 ≤ length places.old)
+pub fn number(book: &Book, table: &[State], r: usize, most: usize, places: &mut [u16]) -> usize
+    requires { (r ≤ length table.now) × (r ≤ most_states) × (2 ≤ length places.old)
         × (length places.old ≤ 65536) }
     ensures { (result ≤ most_states) × (length places.new ≡ length places.old) }
 {
-    let mut met: usize = 0;
-    let mut i: usize = 0;
-    while i < r {
+    let mut met = 0;
+    for (i, s) in table[..r].iter().enumerate() {
         if met > most {
             return met;
         }
-        let place = found(book, table[i], i, LUCKY, places);
-        if place == i {
+        if found(book, *s, i, LUCKY, places) == i {
             met += 1;
-            i += 1;
-        } else {
-            i += 1;
         }
     }
     met

@@ -1,27 +1,17 @@
 -- Words of two tests compared: where no number passes both, they have no bit in common (words-apart), and the other way round if each
--- number has a bit (apart_none). What is apart from a word is apart from its parts (apart-within). Comparing one word after the other
--- (paired_none, paired-more, paired-done). Assumes nothing.
+-- number has a bit (apart_none). What is apart from a word is apart from its parts (apart-within). Assumes nothing.
 use mathlib.Core.Path.{◌≡◌, refl, sym, ◌∙◌, ap, subst}
 use mathlib.Core.Logic.{◌⊎◌, inl, inr}
 use mathlib.Core.Bool.{Bool, true}
 use mathlib.Core.List.{List}
 use Prim.Native.Nat.{ℕ, suc, ◌+◌, ◌*◌, ◌/◌, ◌%◌, ◌≤◌, ◌<◌, min}
-use native.Mathlib.Decide.{ℕ_discrete}
 use native.Mathlib.Omega.{arith}
 use lib.Arith.{bin_ind}
 use lib.Bits.{bit_and}
-use lib.ListN.{length, get_or}
+use lib.ListN.{get_or}
 use Rattle.ground.specs.Bits.{bit}
 use Rattle.ground.proofs.Bits.{bit-none, bit-small, bit-cases, bit-and}
-use Rattle.rules_signs.specs.Words.{WordsOf, Window, Paired, Apart, Within, word_size, most_words, farthest}
-
--- What is so below k and at k is so below k + 1.
-pub below_more : (P : ℕ → Type 0) (k : ℕ) → ((j : ℕ) → j < k → P j) → P k → (j : ℕ) → j < k + 1 → P j
-below_more P k all here j h = by (ℕ_discrete j k)
-  where
-    by : Dec (j ≡ k) → P j
-    by (yes e) = subst P (sym e) here
-    by (no e) = all j (omega arith)
+use Rattle.rules_signs.specs.Words.{WordsOf, Apart, Within, word_size}
 
 -- ---- bits in common
 
@@ -90,22 +80,3 @@ pub apart-within : {l : List ℕ} {a u w : ℕ} (x : ℕ) → Within l a u w →
 apart-within {l} {a} {u} x W A = record {
   each = λ k h. part_apart (get_or l (x + k) 0) (get_or l (a + k) 0) (get_or l (u + k) 0) (W.each k h) (A.each k h);
 }
-
--- ---- one word after the other
-
--- A word of a window stands in the list, and near.
-pub word-inside : {l : List ℕ} {at w k : ℕ} → Window l at w → k < w → (at + k < length l) × (at + k < farthest + most_words)
-word-inside stands h = (omega (arith, stands.inside), omega (arith, stands.near, stands.narrow))
-
-module _ {R : ℕ → ℕ → Type 0} where
-  -- No word is compared yet.
-  pub paired_none : (l : List ℕ) (a u : ℕ) → Paired R l a u 0
-  paired_none l a u = record { each = λ k h. absurd (omega arith) }
-
-  -- One word more.
-  pub paired-more : {l : List ℕ} {a u k : ℕ} → Paired R l a u k → R (get_or l (a + k) 0) (get_or l (u + k) 0) → Paired R l a u (k + 1)
-  paired-more {l} {a} {u} {k} A e = record { each = below_more (λ j. R (get_or l (a + j) 0) (get_or l (u + j) 0)) k A.each e }
-
-  -- Past the last word all are compared.
-  pub paired-done : {l : List ℕ} {a u k w : ℕ} → Paired R l a u k → w ≤ k → Paired R l a u w
-  paired-done A h = record { each = λ j m. A.each j (omega arith) }

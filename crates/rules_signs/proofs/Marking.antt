@@ -1,15 +1,13 @@
--- A word built bit by bit: none yet (marked-none), a bit set (marked-set), a bit left out (marked-past), and the whole word (marked-word).
--- Assumes nothing.
+-- A word built bit by bit: none yet (marked-none), a bit set (marked-set), a bit left out (marked-past). Assumes nothing.
 use mathlib.Core.Path.{◌≡◌, sym, ◌∙◌, subst}
 use mathlib.Core.Bool.{Bool, true, false}
-use Prim.Native.Nat.{ℕ, ◌+◌, ◌^◌, ◌≤◌, ◌<◌, min}
+use Prim.Native.Nat.{ℕ, ◌+◌, ◌^◌, ◌≤◌, ◌<◌}
 use native.Mathlib.Decide.{ℕ_discrete, dec_lt}
 use native.Mathlib.Omega.{arith}
 use lib.Bits.{bit_or}
 use Rattle.ground.specs.Bits.{bit}
 use Rattle.ground.proofs.Bits.{bit-none, bit-marked, bit-unmarked}
 use Rattle.ground.proofs.Tests.{no_both}
-use Rattle.rules_signs.specs.Words.{WordOf, word_size}
 
 -- the bits of the numbers from `from` up to c are set as their test says
 pub record Marked (test : ℕ → Bool) (from n c x : ℕ) : Type 0 where
@@ -57,8 +55,3 @@ marked-past {test} {from} {n} {c} {x} M fails = record {
     full : (j : ℕ) → Dec (from + j < c) → from + j < c + 1 → test (from + j) ≡ true → bit j x ≡ 1
     full j (yes q) h t = M.full j q t
     full j (no q) h t = let at : from + j ≡ c = omega arith in absurd (no_both (subst (λ (k : ℕ). test k ≡ true) at t) fails)
-
--- After the last number the word is whole.
-pub marked-word :
-    {test : ℕ → Bool} {from n c x : ℕ} (end : ℕ) → Marked test from n c x → end ≡ min (from + word_size) n → end ≤ c → WordOf test from n x
-marked-word end M e h = record { sound = M.sound; full = λ b small inside t. M.full b (omega arith) t }

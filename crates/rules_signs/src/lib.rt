@@ -11,9 +11,10 @@ ghost use Rattle.rules.specs.Rows.{KeptBelow};
 ghost use Rattle.rules.specs.Table.{LawfulTable, To};
 ghost use Rattle.rules_signs.specs.Words.{word_size, most_words};
 ghost use Rattle.rules_signs.specs.Live.{Ruled};
-ghost use Rattle.rules_signs.specs.Signs.{Roomed, Signed, RowsTo, head_size, mixed_below, asked_from};
+ghost use Rattle.rules_signs.specs.Signs.{Roomed, Signed, RowsTo, head_size, mixed_below, asked_from, unmet_from};
 
 use ground::State;
+use rules::Book;
 
 pub mod live;
 pub mod words;
@@ -54,12 +55,20 @@ const MIXED: usize = 2147483647;
 
 const SPREAD: usize = 1103515245;
 
-// Whether the rows of r places, w words to a half, take no more than `size` numbers.
-fn fits(size: usize, r: usize, w: usize) -> bool
-    requires { (r ≤ most_states) × (w ≤ most_words) }
-    ensures { Says (asked_from w r ≤ size) result }
+// Where place i's row begins, w words to a half: the rules that ask something after its state.
+fn asked_at(w: usize, i: usize) -> usize
+    requires { (w ≤ most_words) × (i ≤ most_states) }
+    ensures { result ≡ asked_from w i }
 {
-    HEAD + r * (2 * w) <= size
+    HEAD + i * (2 * w)
+}
+
+// Where its second half begins: the rules that its state does not meet.
+fn unmet_at(w: usize, i: usize) -> usize
+    requires { (w ≤ most_words) × (i ≤ most_states) }
+    ensures { result ≡ unmet_from w i }
+{
+    asked_at(w, i) + w
 }
 
 // How many words a half of a row has: enough for n rules, or as many as there is room for.
@@ -67,26 +76,25 @@ fn width(size: usize, r: usize, n: usize) -> usize
     requires { (head_size ≤ size) × (r ≤ most_states) × (n ≤ most_rules) }
     ensures { (result ≤ most_words) × (asked_from result r ≤ size) }
 {
-    let full = n + (words::WORD - 1);
-    let mut w = full / words::WORD;
-    while !fits(size, r, w) {
-        w -= 1;
+    for w in (1..=n.div_ceil(words::WORD)).rev() {
+        if asked_at(w, r) <= size {
+            return w;
+        }
     }
-    w
+    0
 }
 
-// 1 if w words have a bit for each of n rules.
-fn whole(n: usize, w: usize) -> u64
+// Whether w words have a bit for each of n rules.
+fn whole(n: usize, w: usize) -> bool
     requires { w ≤ most_words }
-    ensures { result ≡ 1 → n ≤ word_size * w }
+    ensures { result ≡ true → n ≤ word_size * w }
 {
-    let bits = words::WORD * w;
-    if n <= bits { 1 } else { 0 }
+    n <= words::WORD * w
 }
 
 // Writes the rows of the table's first r places.
 fn write_rows(
-    book: &[State],
+    book: &Book,
     table: &[State],
     r: usize,
     live: &[u16],
@@ -99,19 +107,14 @@ fn write_rows(
     ensures { RowsTo book.now table.now live.now n w signs.new r
         × KeptBelow head_size signs.old signs.new }
 {
-    let mut i: usize = 0;
-    while i < r {
-        let s = table[i];
-        let row = HEAD + i * (2 * w);
-        let unmet = row + w;
-        words::write(book, true, s, live, n, w, signs, row);
-        words::write(book, false, s, live, n, w, signs, unmet);
-        i += 1;
+    for (i, s) in table[..r].iter().enumerate() {
+        words::write(book, true, *s, live, n, w, signs, asked_at(w, i));
+        words::write(book, false, *s, live, n, w, signs, unmet_at(w, i));
     }
 }
 
 // Writes the signs of the table's first r places, as far as there is room for them.
-pub fn fill(book: &[State], table: &[State], r: usize, signs: &mut [u64])
+pub fn fill(book: &Book, table: &[State], r: usize, signs: &mut [u64])
     requires { LawfulTable book.now table.now r × (head_size ≤ length signs.old) }
     ensures { Signed book.now table.now r signs.new
         × (length signs.new ≡ length signs.old) }
@@ -120,47 +123,29 @@ pub fn fill(book: &[State], table: &[State], r: usize, signs: &mut [u64])
     let n = live::list_live(book, table, r, &mut list);
     let w = width(signs.len(), r, n);
     signs[0] = w as u64;
-    signs[1] = whole(n, w);
+    signs[1] = u64::from(whole(n, w));
     write_rows(book, table, r, &list, n, w, signs);
 }
 
 // Whether a move leads from place i to place j.
-pub fn meets(book: &[State], table: &[State], r: usize, signs: &[u64], i: usize, j: usize) -> bool
+pub fn meets(book: &Book, table: &[State], r: usize, signs: &[u64], i: usize, j: usize) -> bool
     requires { Signed book.now table.now r signs.now × (i < r) × (j < r) }
     ensures { Says (To book.now table.now i j) result }
 {
     let w = signs[0] as usize;
-    let asked = HEAD + i * (2 * w);
-    let unmet = HEAD + j * (2 * w) + w;
-    if !words::apart(signs, asked, unmet, w) {
-        return false;
-    }
-    if signs[1] == 1 {
-        return true;
-    }
-    rules::moves(book, table[i], table[j])
+    let asked = asked_at(w, i);
+    let unmet = unmet_at(w, j);
+    words::apart(signs, asked, unmet, w) && (signs[1] == 1 || book.moves(table[i], table[j]))
 }
 
 // Whether it is sure that whoever moves to place j moves to place k, too.
-pub fn stricter(
-    book: &[State],
-    table: &[State],
-    r: usize,
-    signs: &[u64],
-    k: usize,
-    j: usize,
-) -> bool
+pub fn stricter(book: &Book, table: &[State], r: usize, signs: &[u64], k: usize, j: usize) -> bool
     requires { Signed book.now table.now r signs.now × (k < r) × (j < r) }
     ensures { result ≡ true → (i : ℕ) → i < r → To book.now table.now i j
         → To book.now table.now i k }
 {
-    if signs[1] != 1 {
-        return false;
-    }
     let w = signs[0] as usize;
-    let fewer = HEAD + k * (2 * w) + w;
-    let more = HEAD + j * (2 * w) + w;
-    words::within(signs, fewer, more, w)
+    signs[1] == 1 && words::within(signs, unmet_at(w, k), unmet_at(w, j), w)
 }
 
 // A number mixed with one more word.
@@ -168,8 +153,7 @@ fn mixed(mix: usize, word: u64) -> usize
     requires { mix < mixed_below }
     ensures { result < mixed_below }
 {
-    let part = word % (MIXED as u64);
-    (mix * SPREAD + (part as usize)) % MIXED
+    (mix * SPREAD + word as usize % MIXED) % MIXED
 }
 
 // A number below `count` that depends only on the rules that the state at place j does not meet.
@@ -178,13 +162,10 @@ pub fn slot(signs: &[u64], r: usize, j: usize, count: usize) -> usize
     ensures { result < count }
 {
     let w = signs[0] as usize;
-    let at = HEAD + j * (2 * w) + w;
-    let mut mix: usize = 0;
-    let mut k: usize = 0;
-    while k < w {
-        let next = at + k;
-        mix = mixed(mix, signs[next]);
-        k += 1;
+    let at = unmet_at(w, j);
+    let mut mix = 0;
+    for word in &signs[at..at + w] {
+        mix = mixed(mix, *word);
     }
     mix % count
 }

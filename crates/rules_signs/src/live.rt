@@ -5,37 +5,31 @@ ghost use Rattle.rules.specs.Table.{LawfulTable};
 ghost use Rattle.rules_signs.specs.Live.{AsksAfter, Live};
 
 use ground::State;
+use rules::Book;
 
 // Whether step rule i asks something after one of the table's first r states.
-fn asks_somewhere(book: &[State], table: &[State], r: usize, i: usize) -> bool
+fn asks_somewhere(book: &Book, table: &[State], r: usize, i: usize) -> bool
     requires { LawfulTable book.now table.now r × (i < steps_of book.now) }
     ensures { result ≡ false → (p : ℕ) → p < r → AsksAfter book.now table.now i p → ⊥ }
 {
-    let mut p: usize = 0;
-    while p < r {
-        if rules::step_asks(book, i, table[p]) {
+    for s in &table[..r] {
+        if book.step_asks(i, *s) {
             return true;
         }
-        p += 1;
     }
     false
 }
 
 // Lists the live rules; how many there are.
-pub fn list_live(book: &[State], table: &[State], r: usize, live: &mut [u16]) -> usize
+pub fn list_live(book: &Book, table: &[State], r: usize, live: &mut [u16]) -> usize
     requires { LawfulTable book.now table.now r × (length live.old ≡ most_rules) }
     ensures { Live book.now table.now r live.new result }
 {
-    let count = rules::steps(book);
-    let mut n: usize = 0;
-    let mut i: usize = 0;
-    while i < count {
+    let mut n = 0;
+    for i in 0..book.steps() {
         if asks_somewhere(book, table, r, i) {
             live[n] = i as u16;
             n += 1;
-            i += 1;
-        } else {
-            i += 1;
         }
     }
     n

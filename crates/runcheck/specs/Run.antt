@@ -1,10 +1,9 @@
--- The run checker's conditions one at a time, over any system, and its promise for a paper of which one part stands in bytes and the rest
--- in numbers. The two public calls promise what the meaning says (RunPlaced, RunBytesChecked). Assumes nothing.
+-- The run checker's conditions one at a time, over any system, and its promise for a paper whose states are any part
+-- (crate papers). The two public calls promise what the meaning says (RunPlaced, RunBytesChecked). Assumes nothing.
 use Rattle.std.specs.Prelude.{List, ℕ, suc, ◌≤◌, ◌<◌, length, get_or}
 use Rattle.meaning.specs.System.{System}
 use Rattle.meaning.specs.Papers.{RunAccepted}
-use Rattle.meaning.specs.Promises.{Whole, Checked, state_bytes}
-use Rattle.papers.specs.Paper.{states_of}
+use Rattle.meaning.specs.Promises.{Checked}
 
 -- each state moves to the following one
 abbrev pub MovesOn : System → List ℕ → Type 0
@@ -17,11 +16,11 @@ KeptFrom S states a k = (i : ℕ) × (a ≤ i) × (i < length states) × S.Kept 
 abbrev pub AllKept : System → List ℕ → (a : ℕ) → Type 0
 AllKept S states a = (k : ℕ) → k < S.promises → KeptFrom S states a k
 
--- in a system: the bytes hold whole states, and the run is accepted
-unfoldable pub PaperAccepted : System → (bytes numbers : List ℕ) (a : ℕ) → Type 0
-PaperAccepted S bytes numbers a = Whole state_bytes bytes × RunAccepted S (states_of bytes numbers) a
+-- in a system: the part is whole, and the run of its states is accepted
+unfoldable pub PaperAccepted : System → (whole : Type 0) (states : List ℕ) (a : ℕ) → Type 0
+PaperAccepted S whole states a = whole × RunAccepted S states a
 
 -- the number for a sheet, a paper and a
-unfoldable pub PaperChecked : (sheet bytes numbers : List ℕ) (a n : ℕ) → Type 0
+unfoldable pub PaperChecked : (sheet : List ℕ) (whole : Type 0) (states : List ℕ) (a n : ℕ) → Type 0
 unfolding PaperAccepted
-PaperChecked sheet bytes numbers a n = Checked sheet (λ S. PaperAccepted S bytes numbers a) n
+PaperChecked sheet whole states a n = Checked sheet (λ S. PaperAccepted S whole states a) n

@@ -6,135 +6,113 @@
 // what 0 then means is said in proofs/Exactly.antt.)
 #![tactic(auto)]
 
-ghost use Rattle.std.specs.Prelude.{◌≡◌, ◌≤◌, ◌<◌, length};
+ghost use Rattle.std.specs.Prelude.{◌≡◌};
 ghost use Rattle.std.proofs.Math.Option.{none};
 ghost use Rattle.meaning.specs.Sheet.{first_fault};
 ghost use Rattle.meaning.specs.Papers.{RunAccepted};
 ghost use Rattle.meaning.specs.Promises.{system_in, Placed, RunPlaced, RunBytesChecked};
 ghost use Rattle.ground.specs.Says.{Says};
-ghost use Rattle.papers.specs.Paper.{states_of};
-ghost use Rattle.rules.specs.Book.{Shaped, book_system};
+ghost use Rattle.rules.specs.Book.{book_system};
 ghost use Rattle.runcheck.specs.Run.{MovesOn, KeptFrom, AllKept, PaperAccepted, PaperChecked};
 
 use papers::answer::{Verdict, on_paper};
-use papers::{STATE_BYTES, State, state_at, states_in};
-use reader::InNumbers;
+use papers::{Part, State};
+use rules::Book;
 
 // Checks a run: these states, read to the last and then on from place a, for ever. 0 exactly if it obeys the sheet, 1 to 10 for a bad
 // sheet and the place of its fault, else 14.
 pub fn check_run(sheet: &[u8], states: &[State], a: u32) -> Verdict
     ensures { RunPlaced sheet.now states.now a result.answer result.place }
 {
-    check(sheet, &sheet[..0], states, a)
+    check(sheet, states, a)
 }
 
 // The same with the states as bytes, four each, big-endian, and without the place; a length that is no multiple of four gets 14.
 pub fn check_run_bytes(sheet: &[u8], states: &[u8], a: u32) -> u32
     ensures { RunBytesChecked sheet.now states.now a result }
 {
-    let none = [0 as State; 1];
-    let verdict = check(sheet, states, &none[..0], a);
-    verdict.answer
+    check(sheet, states, a).answer
 }
 
 // The sheet first, then the paper.
-fn check(sheet: &[u8], bytes: &[u8], numbers: &[State], a: u32) -> Verdict
-    ensures { Placed sheet.now
-        (PaperChecked sheet.now bytes.now numbers.now a) result.answer result.place }
+fn check<S: Part>(sheet: &[u8], states: S, a: u32) -> Verdict
+    ensures { Placed sheet.now (PaperChecked sheet.now (S.whole states) (S.items states) a)
+        result.answer result.place }
 {
     match reader::read_in_numbers(sheet) {
-        InNumbers::Good => on_paper(paper_accepted(sheet, bytes, numbers, a)),
-        InNumbers::Refused(v) => v,
+        Ok(()) => on_paper(paper_accepted(sheet, states, a)),
+        Err(v) => v,
     }
 }
 
-// For a good sheet: whether the bytes hold whole states, and the run is accepted.
-fn paper_accepted(sheet: &[u8], bytes: &[u8], numbers: &[State], a: u32) -> bool
+// For a good sheet: whether no byte is left over, and the run is accepted.
+fn paper_accepted<S: Part>(sheet: &[u8], states: S, a: u32) -> bool
     requires { first_fault sheet.now ≡ none }
-    ensures { Says (PaperAccepted (system_in sheet.now) bytes.now numbers.now a) result }
+    ensures { Says (PaperAccepted (system_in sheet.now) (S.whole states) (S.items states) a) result }
 {
-    if bytes.len() % STATE_BYTES != 0 {
+    if !states.is_whole() {
         return false;
     }
-    let mut book = [0 as State; rules::BOOK_SIZE];
-    compile::compile(sheet, &mut book);
-    accepted(&book, bytes, numbers, a as usize)
+    let mut numbers = [0 as State; rules::BOOK_SIZE];
+    compile::compile(sheet, &mut numbers);
+    let book = Book { numbers: &numbers };
+    accepted(&book, states, a as usize)
 }
 
 // Whether the run is accepted.
-fn accepted(book: &[State], bytes: &[u8], numbers: &[State], a: usize) -> bool
-    requires { Shaped book.now }
-    ensures { Says (RunAccepted (book_system book.now) (states_of bytes.now numbers.now) a) result }
+fn accepted<S: Part>(book: &Book, states: S, a: usize) -> bool
+    ensures { Says (RunAccepted (book_system book.now) (S.items states) a) result }
 {
-    let count = states_in(bytes, numbers);
+    let count = states.len();
     if count <= a {
         return false;
     }
-    let first = state_at(bytes, numbers, 0);
-    if !rules::first_state(book, first) {
+    if !book.first_state(states.at(0)) {
         return false;
     }
-    if !moves_on(book, bytes, numbers) {
+    if !moves_on(book, states) {
         return false;
     }
-    let end = count - 1;
-    let last = state_at(bytes, numbers, end);
-    let back = state_at(bytes, numbers, a);
-    if !rules::moves(book, last, back) {
+    let last = states.at(count - 1);
+    let back = states.at(a);
+    if !book.moves(last, back) {
         return false;
     }
-    keeps_all(book, bytes, numbers, a)
+    keeps_all(book, states, a)
 }
 
 // Whether each state moves to the following one.
-fn moves_on(book: &[State], bytes: &[u8], numbers: &[State]) -> bool
-    requires { Shaped book.now × (0 < length (states_of bytes.now numbers.now)) }
-    ensures { Says (MovesOn (book_system book.now) (states_of bytes.now numbers.now)) result }
+fn moves_on<S: Part>(book: &Book, states: S) -> bool
+    ensures { Says (MovesOn (book_system book.now) (S.items states)) result }
 {
-    let count = states_in(bytes, numbers);
-    let end = count - 1;
-    let mut i = 0;
-    while i < end {
-        let next = i + 1;
-        let s = state_at(bytes, numbers, i);
-        let t = state_at(bytes, numbers, next);
-        if !rules::moves(book, s, t) {
+    for i in 1..states.len() {
+        if !book.moves(states.at(i - 1), states.at(i)) {
             return false;
         }
-        i = next;
     }
     true
 }
 
 // Whether each promise is true in some state from a on.
-fn keeps_all(book: &[State], bytes: &[u8], numbers: &[State], a: usize) -> bool
-    requires { Shaped book.now × (a < length (states_of bytes.now numbers.now)) }
-    ensures { Says (AllKept (book_system book.now) (states_of bytes.now numbers.now) a) result }
+fn keeps_all<S: Part>(book: &Book, states: S, a: usize) -> bool
+    ensures { Says (AllKept (book_system book.now) (S.items states) a) result }
 {
-    let promises = rules::promises(book);
-    let mut k = 0;
-    while k < promises {
-        if !keeps(book, bytes, numbers, a, k) {
+    for k in 0..book.promises() {
+        if !keeps(book, states, a, k) {
             return false;
         }
-        k += 1;
     }
     true
 }
 
 // Whether promise k is.
-fn keeps(book: &[State], bytes: &[u8], numbers: &[State], a: usize, k: usize) -> bool
-    requires { Shaped book.now × (a < length (states_of bytes.now numbers.now)) }
-    ensures { Says (KeptFrom (book_system book.now) (states_of bytes.now numbers.now) a k) result }
+fn keeps<S: Part>(book: &Book, states: S, a: usize, k: usize) -> bool
+    ensures { Says (KeptFrom (book_system book.now) (S.items states) a k) result }
 {
-    let count = states_in(bytes, numbers);
-    let mut i = a;
-    while i < count {
-        let s = state_at(bytes, numbers, i);
-        if rules::kept(book, k, s) {
+    for i in a..states.len() {
+        if book.kept(k, states.at(i)) {
             return true;
         }
-        i += 1;
     }
     false
 }

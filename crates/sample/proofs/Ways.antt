@@ -1,10 +1,11 @@
--- The two ways of walking, along stored moves and by tests of pairs: what each has to be lent, and that a run found after nothing was
--- touched is the run of the whole. Assumes nothing.
+-- The two ways of walking, along stored moves and by tests of pairs: what each has to be lent. Assumes nothing.
 use mathlib.Core.Path.{◌≡◌, sym, subst, subst₂}
+use mathlib.Core.Bool.{Bool, true}
 use mathlib.Core.List.{List}
 use Prim.Native.Nat.{ℕ, ◌*◌, ◌≤◌}
 use native.Mathlib.Omega.{arith}
 use lib.ListN.{length, replicate, length-replicate}
+use Rattle.ground.proofs.Tests.{no_both}
 use Rattle.rules.specs.Book.{book_system}
 use Rattle.rules.specs.Table.{LawfulTable}
 use Rattle.rules_signs.specs.Signs.{head_size, Signed}
@@ -19,33 +20,22 @@ use Rattle.sample_walk.proofs.Trails.{few-rows}
 
 -- Arrays of zeros for n places are room for the distances and the queue of r places. Their lengths come by a law; computed, they would cost
 -- by the arrays' size.
-pub lent_rows : {book table : List ℕ} {r : ℕ} → LivableTable book table r → (n : ℕ) → r ≤ n
-    → (aims_of (book_system book) * r ≤ length (replicate {A = ℕ} (16 * n) 0)) × (r ≤ length (replicate {A = ℕ} n 0))
-lent_rows {book = book} {r = r} t n few = (
-  subst (λ (x : ℕ). aims_of (book_system book) * r ≤ x) (sym (length-replicate {A = ℕ} (16 * n) 0)) (few-rows t n few),
-  subst (λ (x : ℕ). r ≤ x) (sym (length-replicate {A = ℕ} n 0)) few,
+pub lent_rows : {book table : List ℕ} {r : ℕ} → LivableTable book table r → (m n : ℕ) → r ≤ n → m ≡ 16 * n
+    → (aims_of (book_system book) * r ≤ length (replicate {A = ℕ} m 0)) × (r ≤ length (replicate {A = ℕ} n 0))
+lent_rows {book = book} {r = r} t m n few rows = (
+  omega (arith, length-replicate {A = ℕ} m 0, few-rows t n few),
+  omega (arith, length-replicate {A = ℕ} n 0),
 )
-
--- With such arrays, and with signs, the run may be walked by tests.
-pub tests-ready : {book table words signs : List ℕ} {r : ℕ} (n : ℕ) → Steerable book table words r → Signed book table r signs → r ≤ n
-    → Steerable book table words r × (aims_of (book_system book) * r ≤ length (replicate {A = ℕ} (16 * n) 0))
-    × (r ≤ length (replicate {A = ℕ} n 0)) × Signed book table r signs
-tests-ready n A signed few = let room = lent_rows A.states n few in (A, room.0, room.1, signed)
-
--- An array of n zeros is room for the signs.
-pub signs-ready : {book table words : List ℕ} {r : ℕ} (n : ℕ) → Steerable book table words r → head_size ≤ n
-    → LawfulTable book table r × (head_size ≤ length (replicate {A = ℕ} n 0))
-signs-ready n A enough = (A.states.states, lent-signs n enough)
 
 -- the next moments and the distances can be found
 abbrev pub Ways : (book table : List ℕ) (r : ℕ) (forth back queue signs : List ℕ) → Type 0
 Ways book table r forth back queue signs = Onward book table r forth signs × Followable book table r back queue signs
 
 -- Stored moves need no signs.
-pub stored-ways : {book table : List ℕ} {r n : ℕ} {forth back : List ℕ} (queue signs : List ℕ) → StoredRows book table r forth back n
-    → (n ≡ 0 → ⊥)
+pub stored-ways : {book table : List ℕ} {r : ℕ} {forth back : List ℕ} {stored : Bool} (queue signs : List ℕ)
+    → StoredRows book table r forth back stored → stored ≡ true
     → r ≤ length queue → Ways book table r forth back queue signs
-stored-ways queue signs (none e) some room = absurd (some e)
+stored-ways queue signs (none e) some room = absurd (no_both some e)
 stored-ways queue signs (both e f b) some room = (
   record { stored = λ _. f; tested = λ z. absurd (omega (arith, f.long)) },
   record { stored = λ _. b; tested = λ z. absurd (omega (arith, b.long)); in_queue = room },
@@ -57,9 +47,3 @@ pub tested-ways : {book table : List ℕ} {r : ℕ} {signs : List ℕ} (moves qu
     → Ways book table r moves moves queue signs
 tested-ways moves queue e signed room =
     (record { stored = λ some. absurd (some e); tested = λ _. signed }, none-followable _ _ _ moves queue _ e signed room)
-
--- Where nothing is touched yet, the run found then is the run of the whole.
-pub walked-after : {book words words' words'' run run' run'' : List ℕ} {a b : ℕ} → (words' ≡ words) × (run' ≡ run)
-    → Walked book words' words'' run' run'' a b → Walked book words words'' run run'' a b
-walked-after {book} {words'' = words''} {run'' = run''} {a = a} {b = b} same w =
-    subst₂ (λ (ws rs : List ℕ). Walked book ws words'' rs run'' a b) same.0 same.1 w

@@ -1,5 +1,4 @@
--- A book's system is finite, and its livable states are lawful; so their moves can be stored, and distances can be measured through them.
--- Assumes nothing.
+-- A book's system is finite, and its livable states are lawful. Assumes nothing.
 use mathlib.Core.Path.{◌≡◌}
 use mathlib.Core.Bool.{true}
 use mathlib.Core.List.{List}
@@ -47,12 +46,3 @@ livable-table {book} {table} shaped some few in_table livables = record {
   some = some;
   livables = livables;
 }
-
--- The moves between the livable states can be stored.
-pub table-storable : {book table : List ℕ} {r : ℕ} → LivableTable book table r → Storable book table r
-table-storable t = storable t.states t.livables.rises
-
--- Distances to a promise can be measured.
-pub rows-measurable : {book table words : List ℕ} {r : ℕ} → Rowable book table words r → (q : ℕ) → q < promises_of book
-    → Measurable book q table words r
-rows-measurable L q h = record { states = L.states.states; promise = h; in_words = L.in_words }

@@ -139,10 +139,6 @@ module _ {book table dist : List ℕ} {r : ℕ} (w : Walkable book table dist r)
       = (w.rowed.distance aim place aimed inside).fewest (suc (row_at dist (aim * r) x)) (alive, (get_or table x 0, move, way)) in
       omega arith
 
-  -- The places can be scanned,
-  pub next-scannable : {signs : List ℕ} → Signed book table r signs → Scannable book table dist r signs place (aim * r)
-  next-scannable signed = record { signed = signed; inside = inside; in_dist = row_within w aim aimed }
-
   -- and the first of the nearest is the best.
   pub best-tested : (p : ℕ) → FirstNearest (Below (To book table place) r) (row_at dist (aim * r)) p
       → BestAt (book_system book) table r place aim p

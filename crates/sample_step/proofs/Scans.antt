@@ -11,10 +11,6 @@ use Rattle.ground.specs.Listed.{Between}
 use Rattle.distances.specs.Far.{far}
 use Rattle.sample_step.specs.Step.{Nearest, FirstNearest, Below, FirstAt}
 
--- Of no places none is the nearest.
-pub nearest-none : {P : ℕ → Type 0} {d : ℕ → ℕ} → ((x : ℕ) → P x → ⊥) → Nearest P d 0 far
-nearest-none none = record { low = λ x p. absurd (none x p); first = λ x p. absurd (none x p); here = inl (refl, refl) }
-
 module _ {P Q : ℕ → Type 0} {d : ℕ → ℕ} {best least : ℕ} (n : Nearest P d best least) where
   -- One more place, which is nearer, is the nearest so far.
   nearest-closer : (x : ℕ) → d x < least → Q x → ((y : ℕ) → Q y → P y ⊎ (y ≡ x)) → Nearest Q d x (d x)
@@ -52,34 +48,6 @@ module _ {P Q : ℕ → Type 0} {d : ℕ → ℕ} {best least : ℕ} (n : Neares
       here (inr v) = inr (keeps best v.0, v.1)
 
 -- ---- in a scan
-
--- With one place more a place was among those before, or it is that one.
-below-grows : (P : ℕ → Type 0) (j y : ℕ) → Below P (j + 1) y → Below P j y ⊎ (y ≡ j)
-below-grows P j y m = by (dec_lt y j)
-  where
-    by : Dec (y < j) → Below P j y ⊎ (y ≡ j)
-    by (yes l) = inl (l, m.1)
-    by (no l) = inr (omega (arith, m.0))
-
-module _ (P : ℕ → Type 0) (d : ℕ → ℕ) (j : ℕ) {best least : ℕ} (n : Nearest (Below P j) d best least) where
-  -- A place of P that is nearer is the nearest so far.
-  pub scanned-nearer : (d j < least) × P j → Nearest (Below P (j + 1)) d j (d j)
-  scanned-nearer w = nearest-closer n j w.0 (omega arith, w.1) (below-grows P j)
-
-  -- Any other place changes nothing.
-  pub scanned-not : ((d j < least) × P j → ⊥) → Nearest (Below P (j + 1)) d best least
-  scanned-not other = nearest-stays n (λ y m. (omega (arith, m.0), m.1)) (λ y m. by y m.1 (below-grows P j y m))
-    where
-      far-enough : P j → least ≤ d j
-      far-enough p = not-nearer (dec_lt (d j) least)
-        where
-          not-nearer : Dec (d j < least) → least ≤ d j
-          not-nearer (yes l) = absurd (other (l, p))
-          not-nearer (no l) = omega arith
-
-      by : (y : ℕ) → P y → Below P j y ⊎ (y ≡ j) → Below P j y ⊎ ((least ≤ d y) × ((z : ℕ) → Below P j z → z < y))
-      by y p (inl b) = inl b
-      by y p (inr e) = inr (subst (λ (z : ℕ). least ≤ d z) (sym e) (far-enough (subst P e p)), λ z b. omega (arith, b.0))
 
 -- Where no place of P has a lesser number than `wanted`, the first that has just that number is the first of the nearest.
 pub nearest-at : {P : ℕ → Type 0} {d : ℕ → ℕ} {r wanted p : ℕ} → ((x : ℕ) → x < r → P x → wanted ≤ d x) → FirstAt P d r wanted p → p < r

@@ -1,6 +1,6 @@
 -- What the parts of one step of the sample run promise one another: the first place, the nearest of some places, and the next moment.
 -- Assumes nothing.
-use Rattle.std.specs.Prelude.{◌≡◌, true, false, ◌⊎◌, List, ℕ, suc, ◌+◌, ◌≤◌, ◌<◌, length, get_or}
+use Rattle.std.specs.Prelude.{◌≡◌, true, false, ◌⊎◌, List, Option, Some, None, ℕ, suc, ◌+◌, ◌≤◌, ◌<◌, length, get_or}
 use Rattle.meaning.specs.System.{System}
 use Rattle.meaning.specs.Sample.{Passes, Best}
 use Rattle.moves.specs.Layout.{start_at, end_at, cell_at, HasRow}
@@ -15,6 +15,11 @@ pub record FirstPlace (book table : List ℕ) (r p : ℕ) : Type 0 where
   pub inside : p ≤ r
   pub earlier : (x : ℕ) → x < p → book_first book (get_or table x 0) ≡ false
   pub here : p < r → book_first book (get_or table p 0) ≡ true
+
+-- that place if there is one
+abbrev pub FirstPlaceFound : (book table : List ℕ) (r : ℕ) → Option ℕ → Type 0
+FirstPlaceFound book table r (Some p) = (p < r) × FirstPlace book table r p
+FirstPlaceFound book table r None = FirstPlace book table r r
 
 -- ---- the nearest of some places
 
@@ -42,6 +47,11 @@ pub record FirstAt (P : ℕ → Type 0) (d : ℕ → ℕ) (r wanted p : ℕ) : T
   pub inside : p ≤ r
   pub earlier : (x : ℕ) → x < p → (d x ≡ wanted) × P x → ⊥
   pub here : p < r → (d p ≡ wanted) × P p
+
+-- that place if there is one
+abbrev pub FirstAtFound : (P : ℕ → Type 0) (d : ℕ → ℕ) (r wanted : ℕ) → Option ℕ → Type 0
+FirstAtFound P d r wanted (Some p) = (p < r) × FirstAt P d r wanted p
+FirstAtFound P d r wanted None = FirstAt P d r wanted r
 
 -- what a scan for the next places of `place` stands on
 pub record Scannable (book table dist : List ℕ) (r : ℕ) (signs : List ℕ) (place from : ℕ) : Type 0 where

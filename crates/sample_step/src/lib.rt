@@ -3,26 +3,25 @@
 // least. Where the moves are stored, only the stored row is looked at, else places are tested by their signs.
 #![tactic(auto)]
 
-ghost use Rattle.std.specs.Prelude.{◌≡◌, ◌-◌, ◌*◌, ◌≤◌, ◌<◌, length};
+ghost use Rattle.std.specs.Prelude.{◌≡◌, ◌*◌, ◌≤◌, ◌<◌, length};
 ghost use Rattle.meaning.specs.Sample.{Passes};
 ghost use Rattle.ground.specs.Listed.{Between};
-ghost use Rattle.ground.specs.Says.{Says};
-ghost use Rattle.ground.specs.Wiping.{Wiped};
-ghost use Rattle.rules.specs.Book.{Shaped, book_system, promises_of};
+ghost use Rattle.rules.specs.Book.{book_system, promises_of};
 ghost use Rattle.rules.specs.Table.{To};
 ghost use Rattle.rules_signs.specs.Signs.{Signed};
 ghost use Rattle.sample_step.specs.Follow.{Followable};
 ghost use Rattle.moves.specs.Layout.{start_at, end_at, cells_of};
 ghost use Rattle.sample_step.specs.Rows.{aims_of, Rowable, RowsMeasured, Walkable};
-ghost use Rattle.sample_step.specs.Step.{FirstPlace, FirstNearest, Below, row_at, FirstAt, Scannable};
+ghost use Rattle.sample_step.specs.Step.{FirstPlaceFound, FirstNearest, Below, row_at, FirstAtFound, Scannable};
 ghost use Rattle.sample_step.specs.Step.{Lookable, Onward, BestAt, Stepped};
 
 use ground::State;
+use rules::Book;
 
 pub mod measure;
 
 // A moment of the walk: the state's place in the table, and the aim on arriving there.
-#[derive(Clone, Copy)]
+#[derive(Clone, Copy, PartialEq, Eq)]
 pub struct Moment {
     pub place: usize,
     pub aim: usize,
@@ -30,21 +29,9 @@ pub struct Moment {
 
 // ---- distances, once for the whole walk
 
-// With no promises the aim asks nothing, and every distance is 0.
-fn no_distances(dist: &mut [u16], r: usize)
-    requires { r ≤ length dist.old }
-    ensures { Wiped r dist.old dist.new }
-{
-    let mut x = 0;
-    while x < r {
-        dist[x] = 0;
-        x += 1;
-    }
-}
-
 // Row q, for each promise q.
 fn promise_rows(
-    book: &[State],
+    book: &Book,
     table: &[State],
     words: &[u32],
     dist: &mut [u16],
@@ -58,17 +45,15 @@ fn promise_rows(
         × Followable book.now table.now r back.now queue.old signs.now }
     ensures { RowsMeasured book.now table.now r dist.old dist.new }
 {
-    let mut q = 0;
-    while q < p {
+    for q in 0..p {
         let from = q * r;
         measure::distances(book, q, table, words, r, back, queue, dist, from, signs);
-        q += 1;
     }
 }
 
 // All rows: row q has the distances from the first r places to aim q.
 pub fn rows(
-    book: &[State],
+    book: &Book,
     table: &[State],
     words: &[u32],
     dist: &mut [u16],
@@ -81,9 +66,10 @@ pub fn rows(
         × Followable book.now table.now r back.now queue.old signs.now }
     ensures { RowsMeasured book.now table.now r dist.old dist.new }
 {
-    let p = rules::promises(book);
+    let p = book.promises();
     if p == 0 {
-        no_distances(dist, r);
+        // the one aim asks nothing, and every distance is 0
+        dist[..r].fill(0);
     } else {
         promise_rows(book, table, words, dist, r, p, back, queue, signs);
     }
@@ -91,31 +77,29 @@ pub fn rows(
 
 // ---- one step
 
-// The first place that holds a first state, or r.
-pub fn first_place(book: &[State], table: &[State], r: usize) -> usize
-    requires { Shaped book.now × (r ≤ length table.now) }
-    ensures { FirstPlace book.now table.now r result }
+// The first place that holds a first state.
+pub fn first_place(book: &Book, table: &[State], r: usize) -> Option<usize>
+    requires { r ≤ length table.now }
+    ensures { FirstPlaceFound book.now table.now r result }
 {
-    let mut place = 0;
-    while place < r {
-        if rules::first_state(book, table[place]) {
-            return place;
+    for place in 0..r {
+        if book.first_state(table[place]) {
+            return Some(place);
         }
-        place += 1;
     }
-    place
+    None
 }
 
 // The aim after state s.
-fn passed(book: &[State], aim: usize, s: State) -> usize
-    requires { Shaped book.now × (aim < aims_of (book_system book.now)) }
+fn passed(book: &Book, aim: usize, s: State) -> usize
+    requires { (aim < aims_of (book_system book.now)) }
     ensures { Passes (book_system book.now) aim s result × (result < aims_of (book_system book.now)) }
 {
-    let p = rules::promises(book);
+    let p = book.promises();
     if p == 0 {
         return 0;
     }
-    if rules::kept(book, aim, s) {
+    if book.kept(aim, s) {
         let next = aim + 1;
         if next < p {
             return next;
@@ -125,29 +109,10 @@ fn passed(book: &[State], aim: usize, s: State) -> usize
     aim
 }
 
-// Whether place x, at distance d, is a next place of `place` nearer than the nearest so far.
-fn nearer(
-    book: &[State],
-    table: &[State],
-    r: usize,
-    signs: &[u64],
-    place: usize,
-    x: usize,
-    d: u16,
-    least: u16,
-) -> bool
-    requires { Signed book.now table.now r signs.now × (place < r) × (x < r) }
-    ensures { Says ((d < least) × To book.now table.now place x) result }
-{
-    if d < least {
-        return rules_signs::meets(book, table, r, signs, place, x);
-    }
-    false
-}
-
-// The first of the nearest next places of `place`.
+// The first of the nearest next places of `place`. (`nearest_in_row` goes over a stored row and tests nothing, `first_at` stops at a hit:
+// one function of these would be no plainer.)
 fn nearest(
-    book: &[State],
+    book: &Book,
     table: &[State],
     dist: &[u16],
     r: usize,
@@ -160,44 +125,19 @@ fn nearest(
 {
     let mut best: usize = 0;
     let mut least: u16 = distances::FAR;
-    let mut x: usize = 0;
-    while x < r {
-        let at = from + x;
-        let d = dist[at];
-        if nearer(book, table, r, signs, place, x, d, least) {
+    for x in 0..r {
+        let d = dist[from + x];
+        if d < least && rules_signs::meets(book, table, r, signs, place, x) {
             best = x;
             least = d;
-            x += 1;
-        } else {
-            x += 1;
         }
     }
     best
 }
 
-// Whether place x, at distance d, is a next place of `place` at distance `wanted`.
-fn stands_at(
-    book: &[State],
-    table: &[State],
-    r: usize,
-    signs: &[u64],
-    place: usize,
-    x: usize,
-    d: u16,
-    wanted: u16,
-) -> bool
-    requires { Signed book.now table.now r signs.now × (place < r) × (x < r) }
-    ensures { Says ((d ≡ wanted) × To book.now table.now place x) result }
-{
-    if d == wanted {
-        return rules_signs::meets(book, table, r, signs, place, x);
-    }
-    false
-}
-
-// The first next place of `place` at distance `wanted`, or r.
+// The first next place of `place` at distance `wanted`.
 fn first_at(
-    book: &[State],
+    book: &Book,
     table: &[State],
     dist: &[u16],
     r: usize,
@@ -205,33 +145,22 @@ fn first_at(
     place: usize,
     from: usize,
     wanted: u16,
-) -> usize
+) -> Option<usize>
     requires { Scannable book.now table.now dist.now r signs.now place from }
-    ensures { FirstAt (To book.now table.now place) (row_at dist.now from) r wanted result }
+    ensures { FirstAtFound (To book.now table.now place) (row_at dist.now from) r wanted result }
 {
-    let mut x: usize = 0;
-    while x < r {
-        let at = from + x;
-        let d = dist[at];
-        if stands_at(book, table, r, signs, place, x, d, wanted) {
-            return x;
+    for x in 0..r {
+        if dist[from + x] == wanted && rules_signs::meets(book, table, r, signs, place, x) {
+            return Some(x);
         }
-        x += 1;
     }
-    x
-}
-
-// One less, but not below 0.
-fn one_less(d: u16) -> u16
-    ensures { result ≡ d - 1 }
-{
-    if d > 0 { d - 1 } else { 0 }
+    None
 }
 
 // The best next place of `place` for that aim, sought among all places. No next state is nearer than one less than the state's own
 // distance; where that distance is not 0, one is as near, so that only places at just that distance are tested.
 fn seek(
-    book: &[State],
+    book: &Book,
     table: &[State],
     dist: &[u16],
     r: usize,
@@ -244,14 +173,11 @@ fn seek(
     ensures { BestAt (book_system book.now) table.now r place aim result }
 {
     let from = aim * r;
-    let at = from + place;
-    let own = dist[at];
-    let wanted = one_less(own);
-    let hit = first_at(book, table, dist, r, signs, place, from, wanted);
-    if hit < r {
-        return hit;
+    let wanted = dist[from + place].saturating_sub(1);
+    match first_at(book, table, dist, r, signs, place, from, wanted) {
+        Some(hit) => hit,
+        None => nearest(book, table, dist, r, signs, place, from),
     }
-    nearest(book, table, dist, r, signs, place, from)
 }
 
 // The first of the nearest places in the stored row of `place`.
@@ -261,53 +187,41 @@ fn nearest_in_row(dist: &[u16], from: usize, forth: &[u16], place: usize) -> usi
         (Between (cells_of forth.now) (start_at forth.now place) (end_at forth.now place))
         (row_at dist.now from) result }
 {
+    let start = moves::row_start(forth, place);
     let end = moves::row_end(forth, place);
     let mut best: usize = 0;
     let mut least: u16 = distances::FAR;
-    let mut e = moves::row_start(forth, place);
-    while e < end {
+    for e in start..end {
         let x = moves::cell(forth, e);
-        let at = from + x;
-        let near = dist[at];
+        let near = dist[from + x];
         if near < least {
             best = x;
             least = near;
-            e += 1;
-        } else {
-            e += 1;
         }
     }
     best
 }
 
-// From one moment to the next: where the moves are stored, only the row of `place` is looked at, else (`forth` is empty) places are tested.
+// From one moment to the next: where the moves are stored, only the row of its place is looked at, else (`forth` is empty) places are
+// tested.
 pub fn step(
-    book: &[State],
+    book: &Book,
     table: &[State],
     dist: &[u16],
     r: usize,
-    place: usize,
-    aim: usize,
+    at: Moment,
     forth: &[u16],
     signs: &[u64],
 ) -> Moment
-    requires { Walkable book.now table.now dist.now r × (place < r) × (aim < aims_of (book_system book.now))
+    requires { Walkable book.now table.now dist.now r × (at.place < r) × (at.aim < aims_of (book_system book.now))
         × Onward book.now table.now r forth.now signs.now }
-    ensures { Stepped (book_system book.now) table.now r place aim result.place result.aim }
+    ensures { Stepped (book_system book.now) table.now r at.place at.aim result.place result.aim }
 {
-    let s = table[place];
-    let next = passed(book, aim, s);
-    if forth.len() == 0 {
-        let best = seek(book, table, dist, r, place, next, signs);
-        return Moment {
-            place: best,
-            aim: next,
-        };
+    let aim = passed(book, at.aim, table[at.place]);
+    if forth.is_empty() {
+        let place = seek(book, table, dist, r, at.place, aim, signs);
+        return Moment { place, aim };
     }
-    let from = next * r;
-    let near = nearest_in_row(dist, from, forth, place);
-    Moment {
-        place: near,
-        aim: next,
-    }
+    let place = nearest_in_row(dist, aim * r, forth, at.place);
+    Moment { place, aim }
 }

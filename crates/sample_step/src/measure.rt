@@ -8,11 +8,12 @@ ghost use Rattle.distances.specs.Values.{Measurable};
 ghost use Rattle.sample_step.specs.Follow.{Followable};
 
 use ground::State;
+use rules::Book;
 
 // The distances to promise k, counted from 0, of the table's first r places, written from `from` on: GONE for a struck place, FAR where no
 // path of unstruck states leads to the promise. By the stored moves back where they are stored, else (`back` is empty) by tests of pairs.
 pub fn distances(
-    book: &[State],
+    book: &Book,
     k: usize,
     table: &[State],
     words: &[u32],
@@ -28,7 +29,7 @@ pub fn distances(
     ensures { Measured (book_system book.now) ((book_system book.now).Kept k) table.now
         words.now r from dist.old dist.new × (length queue.new ≡ length queue.old) }
 {
-    if back.len() == 0 {
+    if back.is_empty() {
         distances_tests::by_tests(book, k, table, words, r, queue, dist, from, signs);
     } else {
         distances_along::follow(book, k, table, words, r, back, queue, dist, from);

@@ -107,13 +107,3 @@ steerable-of {table = table} {r = r} shaped some few in_table in_words lists = r
   states = livable-table shaped some few in_table (livables-of table r in_table lists);
   in_words = in_words;
 }
-
-module _ {book table words : List ℕ} {r : ℕ} (s : Steerable book table words r) where
-  -- With the words wiped, distances can be measured.
-  pub rowable-of : {words' : List ℕ} → Wiped r words words' → Rowable book table words' r
-  rowable-of w = record { states = s.states; in_words = omega (arith, w.long, s.in_words); unmarked = w.zeros }
-
-  -- With the rows measured, the walk can begin.
-  pub walkable-of : {old dist : List ℕ} → aims_of (book_system book) * r ≤ length old → RowsMeasured book table r old dist
-      → Walkable book table dist r
-  walkable-of h m = record { states = s.states; in_dist = omega (arith, h, m.long); rowed = m.rowed }

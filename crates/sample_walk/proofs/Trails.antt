@@ -8,6 +8,7 @@ use native.Mathlib.Decide.{ℕ_discrete, dec_lt}
 use native.Mathlib.Nat.{mul-le-mul}
 use native.Mathlib.Omega.{arith}
 use lib.Bits.{bit_or}
+use Rattle.std.proofs.Common.{Option, Some, None, IsSome}
 use lib.ListN.{length, get_or, set, length-set}
 use lib.Seq.{get_or-set_same, get_or-set_other}
 use Rattle.meaning.specs.System.{System}
@@ -21,7 +22,7 @@ use Rattle.ground.proofs.Bits.{bit-none, bit-marked, bit-unmarked}
 use Rattle.rules.specs.Book.{Shaped, book_system}
 use Rattle.rules.proofs.Facts.{promises-are, first-is, first-true}
 use Rattle.sample_step.specs.Rows.{Livables, LivableTable, aims_of, Walkable}
-use Rattle.sample_step.specs.Step.{FirstPlace, Onward, Stepped}
+use Rattle.sample_step.specs.Step.{FirstPlace, FirstPlaceFound, Onward, Stepped}
 use Rattle.sample_step.proofs.Books.{finite-book}
 use Rattle.sample_step.proofs.Places.{same_place, places-rise}
 use Rattle.sample_walk.specs.Walk.{LoopCut, Ended}
@@ -83,6 +84,13 @@ module _ {S : System} {table : List ℕ} {r : ℕ} {f aims : ℕ → ℕ} {i pla
 
       state : f (suc i) ≡ get_or table place' 0
       state = best-unique (subst₂ (λ (a s : ℕ). Best S a s (f (suc i))) same m.here (m.sample.best i)) t.best.1
+
+-- There is such a place.
+pub first-found : {book table : List ℕ} {r : ℕ} → LivableTable book table r → (o : Option ℕ) → FirstPlaceFound book table r o → IsSome o
+first-found t (Some p) h = refl
+first-found {book} {r = r} t None h =
+    let x = the-sample t.livables (finite-book book) t.some in
+    absurd (omega (arith, (moment-starts t x.2 r h).inside))
 
 -- ---- the first walk
 
@@ -237,9 +245,6 @@ module _ {book table dist forth signs old words : List ℕ} {r i place aim : ℕ
   -- The place has a word, and the aim a bit of it; so has the next aim.
   pub walking-at : place < length words
   walking-at = omega (arith, w.trail.at.inside, w.in_words)
-
-  pub walking-small : place < 16384
-  walking-small = omega (arith, w.trail.at.inside, w.walkable.states.states.few)
 
   pub walking-aim : aim < 16
   walking-aim = omega (arith, moment-aim w.trail.at, few-aims w.walkable.states.states.shaped)

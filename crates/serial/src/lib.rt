@@ -5,13 +5,14 @@
 
 ghost use Rattle.std.specs.Prelude.{◌≡◌, length};
 ghost use Rattle.meaning.specs.Sheet.{most_bytes_of_a_sheet};
-ghost use Rattle.serial.specs.Serial.{Takes, Closes, Answers, TakesState, ClosesState, counted};
+ghost use Rattle.serial.specs.Serial.{Takes, Closes, Answers, TakesState, ClosesState, counted, lead_in, state_of};
 
 use answers::{DONE, LEAD_CLOSED};
-use reader::Verdict;
 use reader::header::MOST_BYTES;
+use reader::{Verdict, Why};
 
-// The count that stands for more bytes than a sheet may have.
+// The count that stands for more bytes than a sheet may have. It is no variant of an enum, nor is the mark below a bool, because of the C
+// interface: callers keep the two numbers, and a refusal leaves them as they are, whatever they are (`Takes`, `TakesState`).
 pub const MORE: usize = MOST_BYTES + 1;
 
 // How many bytes have come, MORE standing for more than MOST_BYTES; and whether the lead is closed: 0 for an open one.
@@ -21,7 +22,26 @@ pub struct Lead {
     pub closed: u32,
 }
 
-// What taking a piece answers, and the lead after it.
+// A lead as callers in C keep it: the count and the mark.
+impl From<[u32; 2]> for Lead {
+    ghost from_gives = { λ state lead. lead ≡ lead_in state };
+
+    fn from(state: [u32; 2]) -> Lead {
+        let [taken, closed] = state;
+        Lead { taken, closed }
+    }
+}
+
+impl From<Lead> for [u32; 2] {
+    ghost from_gives = { λ lead state. state ≡ state_of lead };
+
+    fn from(lead: Lead) -> [u32; 2] {
+        [lead.taken, lead.closed]
+    }
+}
+
+// What taking a piece answers, and the lead after it. The answer is a number and no Result because it may not change: `Takes` and `Closes`
+// speak of the number, the lead and the buffer together, on every answer.
 #[derive(Clone, Copy)]
 pub struct Taken {
     pub answer: u32,
@@ -45,11 +65,7 @@ fn count(taken: u32, more: usize) -> u32
         return taken;
     }
     let room = MORE - before;
-    if room <= more {
-        return MORE as u32;
-    }
-    let after = before + more;
-    after as u32
+    (before + more.min(room)) as u32
 }
 
 // What the reader answers for the first bytes of the buffer.
@@ -59,33 +75,29 @@ fn front(sheet: &[u8], taken: usize) -> Verdict
 {
     if MOST_BYTES < taken {
         return Verdict {
-            answer: 1,
+            answer: u32::from(Why::BadSize),
             place: 0,
         };
     }
-    let bytes = &sheet[..taken];
-    reader::verdict_on(bytes)
+    reader::verdict_on(&sheet[..taken])
 }
 
 // Takes a piece: 0, and its bytes stand behind those that came; after closing 18, and nothing is changed.
 pub fn take(lead: Lead, sheet: &mut [u8; MOST_BYTES], piece: &[u8]) -> Taken
     ensures { Takes lead sheet.old piece.now result.answer result.lead sheet.new }
 {
-    let closed = lead.closed;
+    let Lead { taken, closed } = lead;
     if closed != 0 {
         return Taken {
             answer: LEAD_CLOSED,
             lead,
         };
     }
-    let taken = lead.taken;
-    let at = taken as usize;
-    ground::pieces::write(sheet, at, piece);
-    let after = count(taken, piece.len());
+    ground::pieces::write(sheet, taken as usize, piece);
     Taken {
         answer: DONE,
         lead: Lead {
-            taken: after,
+            taken: count(taken, piece.len()),
             closed,
         },
     }
@@ -115,13 +127,8 @@ pub fn close(lead: Lead, sheet: &[u8; MOST_BYTES]) -> Closed
 pub fn naxxurbi_serial_take(state: &mut [u32; 2], sheet: &mut [u8; MOST_BYTES], piece: &[u8]) -> u32
     ensures { TakesState state.old sheet.old piece.now result state.new sheet.new }
 {
-    let lead = Lead {
-        taken: state[0],
-        closed: state[1],
-    };
-    let r = take(lead, sheet, piece);
-    let after = r.lead;
-    *state = [after.taken, after.closed];
+    let r = take(Lead::from(*state), sheet, piece);
+    *state = <[u32; 2]>::from(r.lead);
     r.answer
 }
 
@@ -129,12 +136,7 @@ pub fn naxxurbi_serial_take(state: &mut [u32; 2], sheet: &mut [u8; MOST_BYTES], 
 pub fn naxxurbi_serial_close(state: &mut [u32; 2], sheet: &[u8; MOST_BYTES], out: &mut [u32; 2])
     ensures { ClosesState state.old sheet.now out.new state.new }
 {
-    let lead = Lead {
-        taken: state[0],
-        closed: state[1],
-    };
-    let r = close(lead, sheet);
-    let after = r.lead;
-    *state = [after.taken, after.closed];
+    let r = close(Lead::from(*state), sheet);
+    *state = <[u32; 2]>::from(r.lead);
     *out = [r.answer, r.place];
 }

@@ -9,17 +9,17 @@
 ghost use Rattle.std.specs.Prelude.{◌≡◌};
 ghost use Rattle.std.proofs.Math.Option.{none};
 ghost use Rattle.meaning.specs.Sheet.{first_fault};
+ghost use Rattle.meaning.specs.Papers.{StrikesAccepted};
 ghost use Rattle.meaning.specs.Promises.{system_in, Placed, StrikesPlaced, StrikesBytesChecked};
 ghost use Rattle.ground.specs.Says.{Says};
-ghost use Rattle.papers.specs.Paper.{states_of, words_of};
-ghost use Rattle.rules.specs.Book.{Shaped, book_system};
+ghost use Rattle.rules.specs.Book.{book_system};
 ghost use Rattle.strikes_covers.specs.Asks.{AllLawful};
 ghost use Rattle.strikes_entries.specs.Entries.{Rising};
-ghost use Rattle.strikecheck.specs.Strikes.{ReasonsFit, Accepted, PaperAccepted, PaperChecked};
+ghost use Rattle.strikecheck.specs.Strikes.{ReasonsFit, PaperAccepted, PaperChecked};
 
 use papers::answer::{Verdict, on_paper};
-use papers::{STATE_BYTES, State, WORD_BYTES, state_at, states_in, word_at, words_in};
-use reader::InNumbers;
+use papers::{Part, State};
+use rules::Book;
 use strikes_apart::all_different;
 use strikes_covers::firsts_listed;
 use strikes_entries::entries_right;
@@ -29,124 +29,102 @@ use strikes_entries::entries_right;
 pub fn check_strikes(sheet: &[u8], states: &[State], words: &[u32]) -> Verdict
     ensures { StrikesPlaced sheet.now states.now words.now result.answer result.place }
 {
-    check(sheet, &sheet[..0], states, &sheet[..0], words)
+    check(sheet, states, words)
 }
 
 // The same with states and words as bytes, four each, big-endian, and without the place; a length that is no multiple of four gets 14.
 pub fn check_strikes_bytes(sheet: &[u8], states: &[u8], words: &[u8]) -> u32
     ensures { StrikesBytesChecked sheet.now states.now words.now result }
 {
-    let no_states = [0 as State; 1];
-    let no_words = [0u32; 1];
-    let verdict = check(sheet, states, &no_states[..0], words, &no_words[..0]);
-    verdict.answer
+    check(sheet, states, words).answer
 }
 
-// The sheet first, then the paper. sb and sn are the states, wb and wn the words.
-fn check(sheet: &[u8], sb: &[u8], sn: &[State], wb: &[u8], wn: &[u32]) -> Verdict
+// The sheet first, then the paper. The run checker has the same for its paper: one for both would be told how a paper is accepted, and would
+// be no plainer than these two cases.
+fn check<S: Part, W: Part>(sheet: &[u8], states: S, words: W) -> Verdict
     ensures { Placed sheet.now
-        (PaperChecked sheet.now sb.now sn.now wb.now wn.now) result.answer
-        result.place }
+        (PaperChecked sheet.now (S.whole states) (W.whole words) (S.items states) (W.items words))
+        result.answer result.place }
 {
     match reader::read_in_numbers(sheet) {
-        InNumbers::Good => on_paper(paper_accepted(sheet, sb, sn, wb, wn)),
-        InNumbers::Refused(v) => v,
+        Ok(()) => on_paper(paper_accepted(sheet, states, words)),
+        Err(v) => v,
     }
 }
 
-// For a good sheet: whether the bytes hold whole states and words, and the list is accepted.
-fn paper_accepted(sheet: &[u8], sb: &[u8], sn: &[State], wb: &[u8], wn: &[u32]) -> bool
+// For a good sheet: whether no byte is left over, and the list is accepted.
+fn paper_accepted<S: Part, W: Part>(sheet: &[u8], states: S, words: W) -> bool
     requires { first_fault sheet.now ≡ none }
-    ensures { Says (PaperAccepted (system_in sheet.now)
-        sb.now sn.now wb.now wn.now) result }
+    ensures { Says (PaperAccepted (system_in sheet.now) (S.whole states) (W.whole words) (S.items states) (W.items words))
+        result }
 {
-    if sb.len() % STATE_BYTES != 0 {
+    if !states.is_whole() || !words.is_whole() {
         return false;
     }
-    if wb.len() % WORD_BYTES != 0 {
-        return false;
-    }
-    let mut book = [0 as State; rules::BOOK_SIZE];
-    compile::compile(sheet, &mut book);
-    accepted(&book, sb, sn, wb, wn)
+    let mut numbers = [0 as State; rules::BOOK_SIZE];
+    compile::compile(sheet, &mut numbers);
+    let book = Book { numbers: &numbers };
+    accepted(&book, states, words)
 }
 
 // Whether the list is accepted.
-fn accepted(book: &[State], sb: &[u8], sn: &[State], wb: &[u8], wn: &[u32]) -> bool
-    requires { Shaped book.now }
-    ensures { Says (Accepted book.now sb.now sn.now wb.now wn.now) result }
+fn accepted<S: Part, W: Part>(book: &Book, states: S, words: W) -> bool
+    ensures { Says (StrikesAccepted (book_system book.now) (S.items states) (W.items words)) result }
 {
-    let states = states_in(sb, sn);
-    let words = words_in(wb, wn);
-    if words != states {
+    if words.len() != states.len() {
         return false;
     }
-    if !words_rise(wb, wn) {
+    if !words_rise(words) {
         return false;
     }
-    if !reasons_fit(book, wb, wn) {
+    if !reasons_fit(book, words) {
         return false;
     }
-    if !all_lawful(book, sb, sn) {
+    if !all_lawful(book, states) {
         return false;
     }
-    let distinct = all_different(sb, sn);
-    if !firsts_listed(book, sb, sn, distinct) {
+    book.shaped();
+    let distinct = all_different(states);
+    if !firsts_listed(book, states, distinct) {
         return false;
     }
-    entries_right(book, sb, sn, wb, wn, distinct)
+    entries_right(book, states, words, distinct)
 }
 
 // Whether the words never fall.
-fn words_rise(wb: &[u8], wn: &[u32]) -> bool
-    ensures { Says (Rising (words_of wb.now wn.now)) result }
+fn words_rise<W: Part>(words: W) -> bool
+    ensures { Says (Rising (W.items words)) result }
 {
-    let words = words_in(wb, wn);
-    let mut i = 1;
-    while i < words {
-        let before = i - 1;
-        let earlier = word_at(wb, wn, before);
-        let later = word_at(wb, wn, i);
-        if later < earlier {
+    for i in 1..words.len() {
+        if words.at(i) < words.at(i - 1) {
             return false;
         }
-        i += 1;
     }
     true
 }
 
 // Whether each word's remainder by 32 is at most the number of promises.
-fn reasons_fit(book: &[State], wb: &[u8], wn: &[u32]) -> bool
-    requires { Shaped book.now }
-    ensures { Says (ReasonsFit (book_system book.now) (words_of wb.now wn.now)) result }
+fn reasons_fit<W: Part>(book: &Book, words: W) -> bool
+    ensures { Says (ReasonsFit (book_system book.now) (W.items words)) result }
 {
-    let promises = rules::promises(book);
-    let words = words_in(wb, wn);
-    let mut i = 0;
-    while i < words {
-        let word = word_at(wb, wn, i);
-        let reason = (word % 32) as usize;
+    let promises = book.promises();
+    for i in 0..words.len() {
+        let reason = (words.at(i) % 32) as usize;
         if promises < reason {
             return false;
         }
-        i += 1;
     }
     true
 }
 
 // Whether each state is lawful.
-fn all_lawful(book: &[State], sb: &[u8], sn: &[State]) -> bool
-    requires { Shaped book.now }
-    ensures { Says (AllLawful (book_system book.now) (states_of sb.now sn.now)) result }
+fn all_lawful<S: Part>(book: &Book, states: S) -> bool
+    ensures { Says (AllLawful (book_system book.now) (S.items states)) result }
 {
-    let states = states_in(sb, sn);
-    let mut i = 0;
-    while i < states {
-        let s = state_at(sb, sn, i);
-        if !rules::lawful(book, s) {
+    for i in 0..states.len() {
+        if !book.lawful(states.at(i)) {
             return false;
         }
-        i += 1;
     }
     true
 }

@@ -1,20 +1,21 @@
 // Whether the states of a paper are all different, found out window by window with a mark for each number, in a small stack.
 #![tactic(auto)]
 
-ghost use Rattle.std.specs.Prelude.{◌≡◌, true, ◌<◌, min};
+ghost use Rattle.std.specs.Prelude.{◌≡◌, true, ◌<◌};
 ghost use Rattle.ground.specs.States.{all_states};
-ghost use Rattle.papers.specs.Paper.{states_of};
 ghost use Rattle.strikes_apart.specs.Apart.{Different};
 ghost use Rattle.strikes_apart.specs.Windows.{AllSmall, Window};
 
 use ground::ALL_STATES;
 use ground::marks::{WORD_MARKS, mark, met};
-use papers::{State, state_at, states_in};
+use papers::{Part, State};
+
+pub mod front;
 
 // How many numbers a window has, and the words of marks for them.
-const WINDOW: State = 8192;
+const WINDOW: usize = 8192;
 
-const MARKS: usize = WINDOW as usize / WORD_MARKS;
+const MARKS: usize = WINDOW / WORD_MARKS;
 
 // What a window shows: a state that stands twice; or the least state after the window; or that there is none.
 #[derive(Clone, Copy)]
@@ -26,13 +27,14 @@ pub enum Looked {
 
 // True only if no state stands twice, of states that are numbers of letters. Windows are looked at in turn, from 0 up; windows that hold no
 // state are passed over.
-pub fn all_different(sb: &[u8], sn: &[State]) -> bool
-    requires { AllSmall (states_of sb.now sn.now) }
-    ensures { result ≡ true → Different (states_of sb.now sn.now) }
+pub fn all_different<S: Part>(states: S) -> bool
+    requires { AllSmall (S.items states) }
+    ensures { result ≡ true → Different (S.items states) }
 {
     let mut low: State = 0;
+    // no range counts the windows: the next one begins at the least state behind this one
     while low < ALL_STATES {
-        match window(sb, sn, low) {
+        match window(states, low) {
             Looked::Twice => {
                 return false;
             }
@@ -48,33 +50,25 @@ pub fn all_different(sb: &[u8], sn: &[State]) -> bool
 }
 
 // Looks at the states of the window that begins at low, with a mark for each.
-fn window(sb: &[u8], sn: &[State], low: State) -> Looked
-    requires { (low < all_states) × AllSmall (states_of sb.now sn.now) }
-    ensures { Window (states_of sb.now sn.now) low result }
+fn window<S: Part>(states: S, low: State) -> Looked
+    requires { (low < all_states) × AllSmall (S.items states) }
+    ensures { Window (S.items states) low result }
 {
-    let states = states_in(sb, sn);
     let mut marks = [0u32; MARKS];
     let mut next = ALL_STATES;
-    let mut i = 0;
-    while i < states {
-        let s = state_at(sb, sn, i);
+    for i in 0..states.len() {
+        let s = states.at(i);
         if s < low {
-            i += 1;
-        } else {
-            let k = s - low;
-            if k < WINDOW {
-                let place = k as usize;
-                let word = place / WORD_MARKS;
-                let bit = place % WORD_MARKS;
-                if met(marks[word], bit) {
-                    return Looked::Twice;
-                }
-                marks[word] = mark(marks[word], bit);
-                i += 1;
-            } else {
-                next = smaller(next, s);
-                i += 1;
+            continue;
+        }
+        let k = (s - low) as usize;
+        if k < WINDOW {
+            if met(marks[k / WORD_MARKS], k % WORD_MARKS) {
+                return Looked::Twice;
             }
+            marks[k / WORD_MARKS] = mark(marks[k / WORD_MARKS], k % WORD_MARKS);
+        } else {
+            next = next.min(s);
         }
     }
     if next < ALL_STATES {
@@ -82,11 +76,4 @@ fn window(sb: &[u8], sn: &[State], low: State) -> Looked
     } else {
         Looked::Done
     }
-}
-
-// The smaller of two numbers.
-fn smaller(a: State, b: State) -> State
-    ensures { result ≡ min a b }
-{
-    if a < b { a } else { b }
 }

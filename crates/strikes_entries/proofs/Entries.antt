@@ -18,7 +18,6 @@ use Rattle.rules.specs.Book.{book_system, book_lawful}
 use Rattle.rules.specs.Freer.{Freer}
 use Rattle.rules.proofs.Facts.{lawful-true}
 use Rattle.rules.proofs.FreerLaws.{freer-moves}
-use Rattle.papers.proofs.Loops.{Passed, passed_none, passed-more}
 use Rattle.strikes_covers.specs.Asks.{NextsWithin}
 use Rattle.strikes_entries.specs.Entries.{Rising, EntryOk, KeptBy, StateOk, places_of, Under, Reach, Follows, EntryAsks, EntriesAsk}
 
@@ -35,20 +34,6 @@ later-no-smaller words rising m (suc j) h below = by (dec_lt m (suc j)) (λ q. l
     by (no q) earlier = let e : suc j ≡ m = omega arith in subst (λ (k : ℕ). get_or words m 0 ≤ get_or words k 0) (sym e) (omega arith)
 
 -- ---- the first m words are those below the limit
-
-pub under_more : {words : List ℕ} {limit m : ℕ} → Under words limit m → m < length words → get_or words m 0 < limit
-    → Under words limit (m + 1)
-under_more {words} {limit} {m} u h here = record {
-  within = omega arith;
-  below = below_more (λ j. get_or words j 0 < limit) m
-      u.below here;
-}
-
-pub under-stops : {words : List ℕ} {limit m : ℕ} → Under words limit m → limit ≤ get_or words m 0 → Reach words limit m
-under-stops u stop = record { under = u; above = λ h. stop }
-
-pub under-ends : {words : List ℕ} {limit m : ℕ} → Under words limit m → length words ≤ m → Reach words limit m
-under-ends u h = record { under = u; above = λ q. absurd (omega arith) }
 
 -- A higher limit.
 under-higher : {words : List ℕ} {limit higher m : ℕ} → limit ≤ higher → Under words limit m → Under words higher m
@@ -69,18 +54,7 @@ listed-among states words {limit} {m} as_many rising r t (j, h, e, small) = by (
 
 -- ---- an entry
 
-pub near-places : (reason near far : ℕ) → reason ≡ 0 → near ≡ places_of reason near far
-near-places reason near far e = sym (ap (λ (r : ℕ). places_of r near far) e)
-
-pub far-places : (reason near far : ℕ) → (reason ≡ 0 → ⊥) → far ≡ places_of reason near far
-far-places zero near far more = absurd (more refl)
-far-places (suc k) near far more = refl
-
--- Reason 0 keeps nothing; another keeps the promise before it.
-pub zero-keeps-none : (S : System) (reason s : ℕ) → reason ≡ 0 → KeptBy S reason s → ⊥
-zero-keeps-none S zero s e k = k
-zero-keeps-none S (suc r) s e k = absurd (omega arith)
-
+-- Reason k + 1 keeps promise k.
 pub kept-by-says : (S : System) (reason s : ℕ) {r : Bool} → (reason ≡ 0 → ⊥) → Says (S.Kept (reason - 1) s) r → Says (KeptBy S reason s) r
 kept-by-says S zero s more says = absurd (more refl)
 kept-by-says S (suc k) s {r} more says = let e : suc k - 1 ≡ k = omega arith in subst (λ (i : ℕ). Says (S.Kept i s) r) e says
@@ -144,6 +118,12 @@ pub record Turn (book states words : List ℕ) (distinct : Bool) (i s word near 
   pub nearer : Reach words word near
   pub farther : Reach words (word + 1) far
 
+pub turn-at : {book states words : List ℕ} {distinct : Bool} {i s word near far count : ℕ} → EntriesAsk book states words distinct
+    → count ≡ length states → i < count → s ≡ get_or states i 0 → word ≡ get_or words i 0 → Reach words word near
+    → Reach words (word + 1) far → Turn book states words distinct i s word near far
+turn-at asks counted h s_is word-is nearer farther =
+    record { asks = asks; inside = omega arith; s_is = s_is; word-is = word-is; nearer = nearer; farther = farther }
+
 module _ {book states words : List ℕ} {distinct : Bool} {i s word near far : ℕ} (turn : Turn book states words distinct i s word near far)
     {m : ℕ}
     (m-is : m ≡ places_of (word % 32) near far) where
@@ -186,41 +166,26 @@ module _ {book states words : List ℕ} {distinct : Bool} {i s word near far : �
       lawful = lawful-true book u (turn.asks.states_ask.lawful k (omega (arith, w.before, turn.inside)))
 
   -- What the next states are looked for in, that the entry's state is lawful, and that they are there if that is known.
-  pub entry-asks : {known : Bool} → (known ≡ true → NextsWithin (book_system book) s states m) → EntryAsks book s states m distinct known
+  pub entry-asks : {known : Bool} → (known ≡ true → NextsWithin (book_system book) s states m) → EntryAsks book s states m known
   entry-asks there = record {
-    states_ask = record {
-      shaped = turn.asks.states_ask.shaped;
-      lawful = turn.asks.states_ask.lawful;
-      within = subst (λ (k : ℕ). k ≤ length states) (sym m-is) (by (word % 32));
-      different = turn.asks.states_ask.different;
-    };
+    states_ask = turn.asks.states_ask;
     lawful = subst (λ (x : ℕ). (book_system book).Lawful x) (sym turn.s_is) (turn.asks.states_ask.lawful i turn.inside);
     there = there;
   }
-    where
-      by : (reason : ℕ) → places_of reason near far ≤ length states
-      by zero = omega (arith, turn.nearer.under.within, turn.asks.as_many)
-      by (suc k) = omega (arith, turn.farther.under.within, turn.asks.as_many)
 
 -- ---- all entries
 
 -- The first i entries are right, and the two counts of places are no farther than entry i's word allows.
-pub record Entered (S : System) (states words : List ℕ) (count i near far : ℕ) : Type 0 where
-  pub entered : Passed (EntryOk S states words) (length states) count i
+pub record Entered (S : System) (states words : List ℕ) (i near far : ℕ) : Type 0 where
+  pub entered : (j : ℕ) → j < i → EntryOk S states words j
   pub near_under : {word : ℕ} → i < length words → word ≡ get_or words i 0 → Under words word near
   pub far_under : {word : ℕ} → i < length words → word ≡ get_or words i 0 → Under words (word + 1) far
 
-pub entered-none : {S : System} {states words : List ℕ} {count : ℕ} → count ≡ length states → Entered S states words count 0 0 0
-entered-none {words} e = record { entered = passed_none e; near_under = λ h _. nothing _; far_under = λ h _. nothing _ }
-  where
-    nothing : (limit : ℕ) → Under words limit 0
-    nothing limit = record { within = omega arith; below = λ j h. absurd (omega arith) }
-
-pub entered-more : {book states words : List ℕ} {distinct : Bool} {count i s word near near' far far' : ℕ}
-    → Turn book states words distinct i s word near' far' → Entered (book_system book) states words count i near far → i < count
-    → EntryOk (book_system book) states words i → Entered (book_system book) states words count (i + 1) near' far'
-entered-more {words = words} {i = i} {word = word} turn so_far h ok = record {
-  entered = passed-more so_far.entered h ok;
+pub entered-more : {book states words : List ℕ} {distinct : Bool} {i s word near near' far far' : ℕ}
+    → Turn book states words distinct i s word near' far' → Entered (book_system book) states words i near far
+    → EntryOk (book_system book) states words i → Entered (book_system book) states words (i + 1) near' far'
+entered-more {book} {states} {words} {i = i} {word = word} turn so_far ok = record {
+  entered = below_more (EntryOk (book_system book) states words) i so_far.entered ok;
   near_under = λ q e. under-higher (omega (arith, up q)) turn.nearer.under;
   far_under = λ q e. under-higher (omega (arith, up q)) turn.farther.under;
 }

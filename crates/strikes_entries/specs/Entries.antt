@@ -4,7 +4,7 @@ use Rattle.meaning.specs.System.{System}
 use Rattle.meaning.specs.Papers.{EntryRight}
 use Rattle.rules.specs.Book.{book_system}
 use Rattle.rules.specs.Freer.{Freer}
-use Rattle.papers.specs.Paper.{states_of, words_of}
+use Rattle.strikes_apart.specs.Apart.{Different}
 use Rattle.strikes_covers.specs.Asks.{NextsWithin, StatesAsk}
 
 -- the words never fall
@@ -48,17 +48,14 @@ pub record Follows (book states : List ℕ) (i : ℕ) : Type 0 where
   pub freer : Freer book (get_or states place 0) (get_or states i 0)
 
 -- a lawful state whose next states are looked for among the first m; `known` may be true only if they are there
-pub record EntryAsks (book : List ℕ) (s : ℕ) (states : List ℕ) (m : ℕ) (distinct known : Bool) : Type 0 where
-  pub states_ask : StatesAsk book states m distinct
+pub record EntryAsks (book : List ℕ) (s : ℕ) (states : List ℕ) (m : ℕ) (known : Bool) : Type 0 where
+  pub states_ask : StatesAsk book states
   pub lawful : (book_system book).Lawful s
   pub there : known ≡ true → NextsWithin (book_system book) s states m
 
--- a list of lawful states with as many words that never fall
+-- a list of lawful states with as many words that never fall; `distinct` may be true only if no state stands twice
 pub record EntriesAsk (book states words : List ℕ) (distinct : Bool) : Type 0 where
-  pub states_ask : StatesAsk book states (length states) distinct
+  pub states_ask : StatesAsk book states
+  pub different : distinct ≡ true → Different states
   pub as_many : length words ≡ length states
   pub rising : Rising words
-
--- in a book's system, for parts in bytes and numbers: the entries are right
-abbrev pub AllRight : (book sb sn wb wn : List ℕ) → Type 0
-AllRight book sb sn wb wn = EntriesOk (book_system book) (states_of sb sn) (words_of wb wn)

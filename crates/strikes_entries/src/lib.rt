@@ -8,53 +8,48 @@
 
 ghost use Rattle.std.specs.Prelude.{◌≡◌, true, ◌<◌, length};
 ghost use Rattle.ground.specs.Says.{Says};
-ghost use Rattle.papers.specs.Paper.{states_of, words_of};
-ghost use Rattle.rules.specs.Book.{Shaped, book_system};
-ghost use Rattle.strikes_entries.specs.Entries.{StateOk, KeptBy, places_of, Under, Reach, Follows, EntryAsks, EntriesAsk, AllRight};
+ghost use Rattle.rules.specs.Book.{book_system};
+ghost use Rattle.strikes_entries.specs.Entries.{StateOk, KeptBy, places_of, Under, Reach, Follows, EntryAsks, EntriesAsk, EntriesOk};
 
-use papers::{State, state_at, states_in, word_at, words_in};
+use papers::{Part, State};
+use rules::Book;
+use strikes_apart::front::Front;
 use strikes_covers::nexts_within;
 
 // Whether every entry shows what it must. Of the words, the first `near` are smaller than the entry's, and the first `far` the same or
 // smaller; both only grow. `last` is the entry last counted for; `likely` one whose state is likely of the same class.
-pub fn entries_right(
-    book: &[State],
-    sb: &[u8],
-    sn: &[State],
-    wb: &[u8],
-    wn: &[u32],
-    distinct: bool,
-) -> bool
-    requires { EntriesAsk book.now (states_of sb.now sn.now) (words_of wb.now wn.now) distinct }
-    ensures { Says (AllRight book.now sb.now sn.now wb.now wn.now) result }
+pub fn entries_right<S: Part, W: Part>(book: &Book, states: S, words: W, distinct: bool) -> bool
+    requires { EntriesAsk book.now (S.items states) (W.items words) distinct }
+    ensures { Says (EntriesOk (book_system book.now) (S.items states) (W.items words)) result }
 {
-    let states = states_in(sb, sn);
     let mut near = 0;
     let mut far = 0;
     let mut earlier = [0u16; rules_classes::FEW];
     let mut luck = rules_classes::LUCKY;
     let mut last = 0;
-    let mut i = 0;
-    while i < states {
-        let s = state_at(sb, sn, i);
-        let word = word_at(wb, wn, i);
+    for i in 0..states.len() {
+        let s = states.at(i);
+        let word = words.at(i);
         let reason = word % 32;
         let limit = word as u64;
-        near = reach(wb, wn, near, limit);
-        far = reach(wb, wn, far, limit + 1);
+        near = reach(words, near, limit);
+        far = reach(words, far, limit + 1);
         let m = places(reason, near, far);
         let likely = rules_classes::likely(book, s, i, luck, &mut earlier);
-        let known = follows(book, sb, sn, i, likely, last);
-        if !entry_right(book, s, reason, sb, sn, m, distinct, known) {
+        let known = follows(book, states, i, likely, last);
+        let front = Front {
+            states,
+            m,
+            distinct,
+        };
+        if !entry_right(book, s, reason, &front, known) {
             return false;
         }
         if known {
             luck = rules_classes::LUCKY;
-            i += 1;
         } else {
-            luck = luck / 2;
+            luck /= 2;
             last = i;
-            i += 1;
         }
     }
     true
@@ -62,44 +57,33 @@ pub fn entries_right(
 
 // True only if the state of entry `likely` or of entry `last` stands before entry i and may move wherever that one's may: if the earlier
 // entry is right, there is nothing to count.
-fn follows(book: &[State], sb: &[u8], sn: &[State], i: usize, likely: usize, last: usize) -> bool
-    requires { Shaped book.now × (i < length (states_of sb.now sn.now)) }
-    ensures { result ≡ true → Follows book.now (states_of sb.now sn.now) i }
+fn follows<S: Part>(book: &Book, states: S, i: usize, likely: usize, last: usize) -> bool
+    requires inside { i < length (S.items states) }
+    ensures { result ≡ true → Follows book.now (S.items states) i }
 {
-    if shown_by(book, sb, sn, i, likely) {
-        return true;
-    }
-    shown_by(book, sb, sn, i, last)
+    shown_by(book, states, i, likely) || shown_by(book, states, i, last)
 }
 
 // True only if entry k stands before entry i and its state may move wherever that one's may.
-fn shown_by(book: &[State], sb: &[u8], sn: &[State], i: usize, k: usize) -> bool
-    requires { Shaped book.now × (i < length (states_of sb.now sn.now)) }
-    ensures { result ≡ true → Follows book.now (states_of sb.now sn.now) i }
+fn shown_by<S: Part>(book: &Book, states: S, i: usize, k: usize) -> bool
+    requires inside { i < length (S.items states) }
+    ensures { result ≡ true → Follows book.now (S.items states) i }
 {
-    if k < i {
-        let wide = state_at(sb, sn, k);
-        let s = state_at(sb, sn, i);
-        return rules::freer(book, wide, s);
-    }
-    false
+    k < i && book.freer(states.at(k), states.at(i))
 }
 
 // From m on, how many words at the front are below the limit.
-fn reach(wb: &[u8], wn: &[u32], from: usize, limit: u64) -> usize
-    requires { Under (words_of wb.now wn.now) limit from }
-    ensures { Reach (words_of wb.now wn.now) limit result }
+fn reach<W: Part>(words: W, from: usize, limit: u64) -> usize
+    requires { Under (W.items words) limit from }
+    ensures { Reach (W.items words) limit result }
 {
-    let words = words_in(wb, wn);
-    let mut m = from;
-    while m < words {
-        let word = word_at(wb, wn, m) as u64;
-        if limit <= word {
+    let count = words.len();
+    for m in from..count {
+        if limit <= words.at(m) as u64 {
             return m;
         }
-        m += 1;
     }
-    m
+    count
 }
 
 // Reason 0 wants its next states among the nearer places.
@@ -109,19 +93,10 @@ fn places(reason: u32, near: usize, far: usize) -> usize
     if reason == 0 { near } else { far }
 }
 
-// The reason's promise is false in s, and every next state is among the first m, which may be known.
-fn entry_right(
-    book: &[State],
-    s: State,
-    reason: u32,
-    sb: &[u8],
-    sn: &[State],
-    m: usize,
-    distinct: bool,
-    known: bool,
-) -> bool
-    requires { EntryAsks book.now s (states_of sb.now sn.now) m distinct known }
-    ensures { Says (StateOk (book_system book.now) reason s (states_of sb.now sn.now) m) result }
+// The reason's promise is false in s, and every next state is in the front, which may be known.
+fn entry_right<S: Part>(book: &Book, s: State, reason: u32, front: &Front<S>, known: bool) -> bool
+    requires { EntryAsks book.now s (S.items front.now.states) front.now.m known }
+    ensures { Says (StateOk (book_system book.now) reason s (S.items front.now.states) front.now.m) result }
 {
     if kept_by(book, reason, s) {
         return false;
@@ -129,17 +104,15 @@ fn entry_right(
     if known {
         return true;
     }
-    nexts_within(book, s, sb, sn, m, distinct)
+    nexts_within(book, s, front)
 }
 
-// Whether the reason's promise is true in s; reason 0 has none.
-fn kept_by(book: &[State], reason: u32, s: State) -> bool
-    requires { Shaped book.now }
+// Whether the reason's promise is true in s; reason 0 has none. Reasons are document 01's numbers.
+fn kept_by(book: &Book, reason: u32, s: State) -> bool
     ensures { Says (KeptBy (book_system book.now) reason s) result }
 {
     if reason == 0 {
         return false;
     }
-    let k = reason as usize - 1;
-    rules::kept(book, k, s)
+    book.kept(reason as usize - 1, s)
 }

@@ -1,5 +1,5 @@
 pub mod Fronts
 pub mod Keeping
-pub mod Placing
+pub mod Copying
 pub mod Merging
 pub mod Joining

@@ -5,13 +5,10 @@ use mathlib.Core.List.{List}
 use Prim.Native.Nat.{ℕ, ◌+◌, ◌≤◌, ◌<◌}
 use native.Mathlib.Decide.{ℕ_discrete}
 use native.Mathlib.Omega.{arith}
-use borrow.Author.Tests.{eqb-true, eqb-false}
-use lib.Dec.{eqb}
 use lib.ListN.{length, get_or, set, length-set}
 use lib.Seq.{get_or-set_same, get_or-set_other}
 use Rattle.distances.specs.Values.{kept_in}
 use Rattle.watch.specs.Witness.{nobody, itself, BegunRow}
-use Rattle.watch.specs.Turns.{IsSo}
 
 -- the first i places have begun
 pub record Beginning (book : List ℕ) (k : ℕ) (table old row : List ℕ) (i : ℕ) : Type 0 where
@@ -49,16 +46,6 @@ module _ {book : List ℕ} {k : ℕ} {table old row : List ℕ} {i : ℕ} (B : B
   pub beginning-done : length row ≤ i → BegunRow book k table old row
   beginning-done over = record { long = B.long; keeps = λ j l e. B.keeps j (omega arith) e; lacks = λ j l e. B.lacks j (omega arith) e }
 
--- ---- whether a place is unstruck and has a number
-
 -- No test says both.
 pub no_both : {b : Bool} → b ≡ true → b ≡ false → ⊥
 no_both e f = let z : ◌≡◌ {A = ℕ} 1 0 = ap (λ (b : Bool). cond b 1 0) (sym e ∙ f) in absurd (omega arith)
-
--- It has the number, and its word is looked at.
-pub so-exactly : (words row : List ℕ) (i v : ℕ) → get_or row i 0 ≡ v → IsSo words row i v (eqb (get_or words i 0) 0)
-so-exactly words row i v h = record { yes = λ e. (eqb-true (get_or words i 0) 0 e, h); never = λ e u _. eqb-false (get_or words i 0) 0 e u }
-
--- It has another.
-pub so-never : (words row : List ℕ) (i v : ℕ) → (get_or row i 0 ≡ v → ⊥) → IsSo words row i v false
-so-never words row i v n = record { yes = λ e. absurd (no_both e refl); never = λ _ _ h. n h }

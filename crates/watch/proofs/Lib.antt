@@ -4,7 +4,6 @@ pub mod Beginning
 pub mod Turning
 pub mod Cuts
 pub mod Loosening
-pub mod Helped
 pub mod Hooked
 pub mod Falling
 pub mod Phasing

@@ -2,12 +2,12 @@
 use mathlib.Core.Path.{◌≡◌, sym, subst, ◌∙◌}
 use mathlib.Core.Logic.{◌⊎◌, inl, inr}
 use mathlib.Core.List.{List}
-use Prim.Native.Nat.{ℕ, zero, suc, ◌+◌, ◌≤◌, ◌<◌}
+use Prim.Native.Nat.{ℕ, zero, suc, ◌+◌, ◌<◌}
 use native.Mathlib.Omega.{arith}
 use lib.ListN.{length, get_or}
 use Rattle.distances.specs.Far.{Unstruck}
-use Rattle.watch.specs.Witness.{nobody, itself, Pointed, ChainIn, HungIn, Hung, SameOwn, free_in, Log, Fresh, Rested, Hangable, Rehung}
-use Rattle.watch.specs.Turns.{Before, first, again, Loosened, Fallable, FallsAt, was, keeps, falls, FellTo, Watched}
+use Rattle.watch.specs.Witness.{nobody, itself, Pointed, ChainIn, HungIn, Hung, SameOwn, free_in, Log, Fresh, Hangable, Rehung}
+use Rattle.watch.specs.Turns.{Before, first, again, Loosened, FallsAt, was, keeps, falls, FellTo, Watched}
 
 -- ---- what a row may be before a phase
 
@@ -15,10 +15,6 @@ module _ {words row log : List ℕ} {M : ℕ → ℕ → Type 0} {from m : ℕ} 
   pub before-fresh : m < from → Before words row M log from m → Fresh words row log m
   before-fresh h (first k F) = F
   before-fresh h (again R) = absurd (omega (arith, R.since, h))
-
-  pub before-rested : from ≤ m → Before words row M log from m → Rested words row M log from m
-  before-rested h (first k F) = absurd (omega arith)
-  before-rested h (again R) = R
 
   pub before-log : Before words row M log from m → Log words (length row) log m
   before-log (first k F) = F.log_is
@@ -84,17 +80,6 @@ module _ {words row row' log log' : List ℕ} {M : ℕ → ℕ → Type 0} {from
           → M i (get_or row' i 0)
       leads-at i h l (inl s) = subst (M i) (sym s) ((before-pointed B).leads i h (omega (arith, s, l, L.long)))
       leads-at i h l (inr s) = absurd (omega (arith, s.0, l, L.long, (before-pointed B).few))
-
-  -- Who is lost and does not hang anew may fall.
-  pub lost-fallable : {row'' : List ℕ} {word : ℕ} → 0 < word → Rehung words row' row'' M → Fallable words row'' log' m tail word
-  lost-fallable {row'' = row''} {word = word} some H = record {
-    some = some;
-    log_is = subst (λ (r : ℕ). Log words r log' m) (sym H.long) log-kept;
-    grows = L.grows;
-    within = omega (arith, L.within, (before-log B).in-log, L.log_long);
-    places = λ t h k. let p = L.places t h k in let a = p.0 in omega (arith, a, L.long, H.long);
-    alone = λ i h u e. L.alone i (omega (arith, h, L.long, H.long)) u (H.only i h e);
-  }
 
   -- The phase as a whole: the row rests again.
   pub phase-watched : {row'' words' log'' : List ℕ} {m' word : ℕ} → 0 < word → Rehung words row' row'' M

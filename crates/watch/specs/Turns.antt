@@ -1,10 +1,14 @@
 -- What the functions that watch a promise promise one another, along stored moves or by tests. Assumes nothing.
-use Rattle.std.specs.Prelude.{◌≡◌, Bool, true, false, cond, ◌⊎◌, List, ℕ, ◌+◌, ◌-◌, ◌*◌, ◌≤◌, ◌<◌, length, get_or, eqb}
+use Rattle.std.specs.Prelude.{◌≡◌, Bool, Option, MatchOption, true, false, cond, ◌⊎◌, List, ℕ, ◌+◌, ◌-◌, ◌*◌, ◌≤◌, ◌<◌, length, get_or, eqb}
 use Rattle.ground.specs.Listed.{Between}
 use Rattle.meaning.specs.Promises.{most_states}
 use Rattle.distances.specs.Far.{Unstruck}
 use Rattle.distances.specs.Values.{total}
 use Rattle.watch.specs.Witness.{nobody, Pointed, AllHung, SameOwn, Log, Rested, Fresh}
+
+-- the number x of a table names a place: it is that place plus one, and 0 names none
+abbrev pub Names : (x : ℕ) (place : Option ℕ) → Type 0
+Names x place = MatchOption place (x ≡ 0) (λ t. x ≡ t + 1)
 
 -- whether place i is unstruck and its number is v
 pub record IsSo (words row : List ℕ) (i v : ℕ) (b : Bool) : Type 0 where
@@ -67,19 +71,27 @@ pub record Loosened (words old row before log : List ℕ) (m tail : ℕ) : Type 
   pub places : (t : ℕ) → m ≤ t → t < tail → (get_or log t 0 < length old) × Unstruck words (get_or log t 0)
   pub alone : (i : ℕ) → i < length old → Unstruck words i → get_or row i 0 ≡ nobody → Between log m tail i
 
+-- place j helps place i: place i moves to it, it is unstruck and has a witness
+pub record HelpedBy (words row : List ℕ) (M : ℕ → ℕ → Type 0) (i j : ℕ) : Type 0 where
+  pub inside : j < length row
+  pub moves : M i j
+  pub unstruck : Unstruck words j
+  pub helped : get_or row j 0 ≡ nobody → ⊥
+
+-- nobody helps place i
+abbrev pub Helpless : (words row : List ℕ) (M : ℕ → ℕ → Type 0) (i : ℕ) → Type 0
+Helpless words row M i =
+    (h : ℕ) → h < length row → M i h → Unstruck words h → (get_or row h 0 ≡ nobody → ⊥) → ⊥
+
 -- who helps place i: a place to which it moves that is unstruck and has a witness
-pub data HelperIn (words row : List ℕ) (M : ℕ → ℕ → Type 0) (i j : ℕ) : Type 0 where
-  someone : j < length row → M i j → Unstruck words j → (get_or row j 0 ≡ nobody → ⊥) → HelperIn words row M i j
-  no_one : j ≡ length row → ((h : ℕ) → h < length row → M i h → Unstruck words h → (get_or row h 0 ≡ nobody → ⊥) → ⊥)
-      → HelperIn words row M i j
+abbrev pub HelperIn : (words row : List ℕ) (M : ℕ → ℕ → Type 0) (i : ℕ) (who : Option ℕ) → Type 0
+HelperIn words row M i who = MatchOption who (Helpless words row M i) (HelpedBy words row M i)
 
 -- who helps place i, if it is unstruck and has no witness yet
-pub data HelperFor (words row : List ℕ) (M : ℕ → ℕ → Type 0) (i j : ℕ) : Type 0 where
-  found : Unstruck words i → get_or row i 0 ≡ nobody → j < length row → M i j → Unstruck words j → (get_or row j 0 ≡ nobody → ⊥)
-      → HelperFor words row M i j
-  not_found : j ≡ length row
-      → (Unstruck words i → get_or row i 0 ≡ nobody → (h : ℕ) → h < length row → M i h → Unstruck words h → (get_or row h 0 ≡ nobody → ⊥) → ⊥)
-      → HelperFor words row M i j
+abbrev pub HelperFor : (words row : List ℕ) (M : ℕ → ℕ → Type 0) (i : ℕ) (who : Option ℕ) → Type 0
+HelperFor words row M i who =
+    MatchOption who (Unstruck words i → get_or row i 0 ≡ nobody → Helpless words row M i)
+    (λ j. Unstruck words i × (get_or row i 0 ≡ nobody) × HelpedBy words row M i j)
 
 -- the line in which they stand
 pub record Line (row line : List ℕ) : Type 0 where

@@ -4,33 +4,38 @@
 // struck places stand in a log, in the order in which they fell.
 #![tactic(auto)]
 
-ghost use Rattle.std.specs.Prelude.{◌<◌, ◌≤◌, length};
+ghost use Rattle.std.specs.Prelude.{ℕ, ◌<◌, ◌≤◌, length};
 ghost use Rattle.meaning.specs.Promises.{most_states};
-ghost use Rattle.rules.specs.Book.{Shaped, promises_of};
+ghost use Rattle.rules.specs.Book.{promises_of};
 ghost use Rattle.watch.specs.Witness.{BegunRow, Fresh};
-ghost use Rattle.watch.specs.Turns.{IsSo, Helps, Loosened, Fallable, FellTo};
+ghost use Rattle.watch.specs.Turns.{Names, IsSo, Helps, HelperIn, HelperFor, Loosened, Fallable, FellTo};
 
 use ground::State;
+use rules::Book;
 
 // Nobody helps a place; or it keeps the promise itself. Every place's number is less.
 pub const NOBODY: u16 = 65535;
 
 pub const ITSELF: u16 = 65534;
 
+// The place that a number of a table names: the number is that place plus one, and 0 names none.
+pub fn named(x: u16) -> Option<usize>
+    ensures { Names x result }
+{
+    (x as usize).checked_sub(1)
+}
+
 // What each place begins with: it keeps promise k, counted from 0, or nobody helps it yet.
-pub fn begin(book: &[State], k: usize, table: &[State], row: &mut [u16])
-    requires { Shaped book.now × (k < promises_of book.now) × (length row.old ≤ length table.now) }
+pub fn begin(book: &Book, k: usize, table: &[State], row: &mut [u16])
+    requires { (k < promises_of book.now) × (length row.old ≤ length table.now) }
     ensures { BegunRow book.now k table.now row.old row.new }
 {
-    let mut i: usize = 0;
-    while i < row.len() {
-        if rules::kept(book, k, table[i]) {
-            row[i] = ITSELF;
-            i += 1;
+    for (i, number) in row.iter_mut().enumerate() {
+        *number = if book.kept(k, table[i]) {
+            ITSELF
         } else {
-            row[i] = NOBODY;
-            i += 1;
-        }
+            NOBODY
+        };
     }
 }
 
@@ -39,10 +44,7 @@ pub fn is_so(words: &[u32], row: &[u16], i: usize, was: u16) -> bool
     requires { (i < length words.now) × (i < length row.now) }
     ensures { IsSo words.now row.now i was result }
 {
-    if row[i] == was {
-        return words[i] == 0;
-    }
-    false
+    row[i] == was && words[i] == 0
 }
 
 // Whether place j is unstruck and has a witness.
@@ -50,10 +52,31 @@ pub fn is_helped(words: &[u32], row: &[u16], j: usize) -> bool
     requires { (j < length words.now) × (j < length row.now) }
     ensures { Helps words.now row.now j result }
 {
-    if words[j] == 0 {
-        return row[j] != NOBODY;
+    words[j] == 0 && row[j] != NOBODY
+}
+
+// The moves between the places of a table, however they are known: stored, or by tests of pairs.
+pub trait Moves {
+    // They are known for the first r places; and place i moves to place j.
+    ghost known: { Self → ℕ → Type 0 };
+
+    ghost leads: { Self → ℕ → ℕ → Type 0 };
+
+    // The first place to which place i moves that is unstruck and has a witness.
+    fn seek_helper(&self, words: &[u32], row: &[u16], i: usize) -> Option<usize>
+        requires { known self.now (length row.now) × (i < length row.now) × (length row.now ≤ length words.now) }
+        ensures { HelperIn words.now row.now (leads self.now) i result };
+
+    // The same if place i is unstruck and has no witness itself.
+    fn helper(&self, words: &[u32], row: &[u16], i: usize) -> Option<usize>
+        requires { known self.now (length row.now) × (i < length row.now) × (length row.now ≤ length words.now) }
+        ensures { HelperFor words.now row.now (leads self.now) i result }
+    {
+        if is_so(words, row, i, NOBODY) {
+            return self.seek_helper(words, row, i);
+        }
+        None
     }
-    false
 }
 
 // Before the promise's first phase: all unstruck places that nobody helps, behind the log's first m.
@@ -62,14 +85,10 @@ pub fn list_alone(words: &[u32], row: &[u16], log: &mut [u16], m: usize) -> usiz
     ensures { Loosened words.now row.now row.now log.old log.new m result }
 {
     let mut tail = m;
-    let mut i: usize = 0;
-    while i < row.len() {
+    for i in 0..row.len() {
         if is_so(words, row, i, NOBODY) {
             log[tail] = i as u16;
             tail += 1;
-            i += 1;
-        } else {
-            i += 1;
         }
     }
     tail
@@ -89,17 +108,13 @@ pub fn fall(
         result }
 {
     let mut end = m;
-    let mut g = m;
-    while g < tail {
+    for g in m..tail {
         let t = log[g];
         let i = t as usize;
         if is_so(words, row, i, NOBODY) {
             words[i] = word;
             log[end] = t;
             end += 1;
-            g += 1;
-        } else {
-            g += 1;
         }
     }
     end

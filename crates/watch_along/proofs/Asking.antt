@@ -3,6 +3,7 @@
 use mathlib.Core.Path.{◌≡◌, refl, sym, ap, subst, ◌∙◌}
 use mathlib.Core.Logic.{◌⊎◌, inl, inr}
 use mathlib.Core.List.{List}
+use Rattle.std.proofs.Common.{Some, None}
 use Prim.Native.Nat.{ℕ, ◌+◌, ◌≤◌, ◌<◌}
 use native.Mathlib.Decide.{ℕ_discrete}
 use native.Mathlib.Omega.{arith}
@@ -13,10 +14,9 @@ use Rattle.meaning.specs.Promises.{most_states}
 use Rattle.moves.specs.Layout.{Backed}
 use Rattle.distances.specs.Far.{Unstruck}
 use Rattle.watch.specs.Witness.{nobody, Hangable, Hangs}
-use Rattle.watch.specs.Turns.{weight, unstruck_at, count_met_at, HelperFor, found, not_found}
-use Rattle.watch_along.specs.Along.{Leads, Readable, Woven, InLine, Askable, Asked}
+use Rattle.watch.specs.Turns.{weight, unstruck_at, count_met_at, HelperFor, HelpedBy}
+use Rattle.watch_along.specs.Along.{Leads, Woven, InLine, Askable, Asked}
 use Rattle.watch.proofs.Weights.{count_most, count_turn}
-use Rattle.watch_along.proofs.Seeking.{Sought}
 use Rattle.watch.proofs.Hooked.{Hooks, as_was, hooked, Hooked, hangs-hooked}
 
 -- where a place without a witness has a next place with one, that stands in the line, or the place itself in the log from g on
@@ -36,18 +36,6 @@ pub record AskedTo (words old forth log : List ℕ) (m tail : ℕ) (before row l
       → Hangs words old row (Backed back)
   pub waits : (back : List ℕ) → Woven (length old) forth back → Hangable words old (Backed back) log m tail
       → Waits words row (Backed back) log g tail line n
-
--- place i is unstruck and has no witness, and j helps it
-record Found (words row : List ℕ) (M : ℕ → ℕ → Type 0) (i j : ℕ) : Type 0 where
-  free : Unstruck words i
-  lone : get_or row i 0 ≡ nobody
-  leads : M i j
-  help_free : Unstruck words j
-  help_hangs : get_or row j 0 ≡ nobody → ⊥
-
-found-is : {words row : List ℕ} {M : ℕ → ℕ → Type 0} {i j : ℕ} → j < length row → HelperFor words row M i j → Found words row M i j
-found-is less (found z f a l y o) = record { free = z; lone = f; leads = l; help_free = y; help_hangs = o }
-found-is less (not_found e none) = absurd (omega arith)
 
 module _ (words old forth log : List ℕ) (m tail : ℕ) (before : List ℕ) (ready : Askable words old forth log m tail before) where
   -- the log up to g, where all but what changes is known
@@ -110,160 +98,151 @@ module _ (words old forth log : List ℕ) (m tail : ℕ) (before : List ℕ) (re
           let e = ready.log_few in
           (omega arith, omega arith, omega arith, omega arith, omega arith)
 
-      -- A helper may be sought for it.
-      pub ask-sought : Sought words row forth i
-      ask-sought =
-          let a = ready.in_words in
-          let b = r.long in
-          (subst (λ (x : ℕ). Readable forth x) (sym r.long) ready.onward, ask-place.1, omega arith)
+      -- who stands in the log from g on stands behind, unless it is this place
+      behind : (k : ℕ) → (i ≡ k → ⊥) → Between log g tail k → Between log (g + 1) tail k
+      behind k other (t, a, b, e) = by (ℕ_discrete t g)
+        where
+          by : Dec (t ≡ g) → Between log (g + 1) tail k
+          by (yes q) = absurd (other (sym here ∙ ap (λ (x : ℕ). get_or log x 0) (sym q) ∙ e))
+          by (no q) = (t, omega arith, b, e)
 
-      module _ (j : ℕ) (helps : HelperFor words row (Leads forth) i j) where
-        -- who stands in the log from g on stands behind, unless it is this place
-        behind : (k : ℕ) → (i ≡ k → ⊥) → Between log g tail k → Between log (g + 1) tail k
-        behind k other (t, a, b, e) = by (ℕ_discrete t g)
+      -- A place without a helper has no next place with a witness, and is passed by.
+      pub ask-past : HelperFor words row (Leads forth) i None → AskedHere row line n (g + 1)
+      ask-past helps = record {
+        begun = let a = r.begun in omega arith;
+        long = r.long;
+        line_long = r.line_long;
+        counted = r.counted;
+        in_line = r.in_line;
+        hangs = r.hangs;
+        waits = λ back w h k l a b z y p f o. on back w k l a b z y p f o (r.waits back w h k l a b z y p f o);
+      }
+        where
+          none : (k l : ℕ) → Unstruck words k → get_or row k 0 ≡ nobody → Unstruck words l → (get_or row l 0 ≡ nobody → ⊥) → l < length row
+              → Leads forth k l
+              → i ≡ k → ⊥
+          none k l z f y o b p q =
+              helps (ap (λ (x : ℕ). get_or words x 0) q ∙ z) (ap (λ (x : ℕ). get_or row x 0) q ∙ f) l b
+              (subst (λ (x : ℕ). Leads forth x l) (sym q) p) y o
+
+          on : (back : List ℕ) → Woven (length old) forth back → (k l : ℕ) → k < length row → l < length row → Unstruck words k
+              → Unstruck words l
+              → Backed back k l → get_or row k 0 ≡ nobody → (get_or row l 0 ≡ nobody → ⊥) → Between line 0 n l ⊎ Between log g tail k
+              → Between line 0 n l ⊎ Between log (g + 1) tail k
+          on back w k l a b z y p f o (inl s) = inl s
+          on back w k l a b z y p f o (inr s) =
+              let e = r.long in
+              inr (behind k (none k l z f y o b (w.turned_back k l (omega arith) (omega arith) p)) s)
+
+      module _ (j : ℕ) (helps : HelperFor words row (Leads forth) i (Some j)) where
+        fact : HelpedBy words row (Leads forth) i j
+        fact = helps.2
+
+        less : j < length row
+        less = fact.inside
+
+        -- the helper's place in the old row
+        small : j < most_states
+        small = let a = ready.few in let b = r.long in omega arith
+
+        counts : weight (unstruck_at nobody) words (set row i j) (length old) + 1 ≡ weight (unstruck_at nobody) words row (length old)
+        counts =
+            count_turn words row i nobody j (length old) ask-place.0 ask-place.1 helps.0 helps.1
+            (λ e. let a = small in omega arith)
+
+        -- The helper is a place, and the line has room for who found it.
+        pub ask-room : (j < most_states) × (n < length line) × (n < most_states)
+        ask-room =
+            let a = counts in
+            let b = r.counted in
+            let c = ready.line_is.in_line in
+            let d = ready.line_is.line_few in
+            let e = r.line_long in
+            (small, omega arith, omega arith)
+
+        row_here : get_or (set row i j) i 0 ≡ j
+        row_here = get_or-set_same row i j 0 ask-place.1
+
+        line-here : get_or (set line n i) n 0 ≡ i
+        line-here = get_or-set_same line n i 0 ask-room.1
+
+        -- who has a witness is another place
+        other-than : (k : ℕ) → (get_or row k 0 ≡ nobody → ⊥) → k ≡ i → ⊥
+        other-than k o q = o (ap (λ (x : ℕ). get_or row x 0) q ∙ helps.1)
+
+        hooks : (back : List ℕ) → Woven (length old) forth back → Hooked words row (set row i j) (Backed back)
+        hooks back w = record { long = length-set row i j; each = λ k h. by k (ℕ_discrete k i) }
           where
-            by : Dec (t ≡ g) → Between log (g + 1) tail k
-            by (yes q) = absurd (other (sym here ∙ ap (λ (x : ℕ). get_or log x 0) (sym q) ∙ e))
-            by (no q) = (t, omega arith, b, e)
-
-        -- A place without a helper has no next place with a witness, and is passed by.
-        pub ask-past : length row ≤ j → AskedHere row line n (g + 1)
-        ask-past over = record {
-          begun = let a = r.begun in omega arith;
-          long = r.long;
-          line_long = r.line_long;
-          counted = r.counted;
-          in_line = r.in_line;
-          hangs = r.hangs;
-          waits = λ back w h k l a b z y p f o. on back w k l a b z y p f o (r.waits back w h k l a b z y p f o);
-        }
-          where
-            none : (k l : ℕ) → Unstruck words k → get_or row k 0 ≡ nobody → Unstruck words l → (get_or row l 0 ≡ nobody → ⊥) → l < length row
-                → Leads forth k l
-                → i ≡ k → ⊥
-            none k l z f y o b p q = by helps
-              where
-                by : HelperFor words row (Leads forth) i j → ⊥
-                by (found z' f' a l' y' o') = omega arith
-                by (not_found e no_one) =
-                    no_one (ap (λ (x : ℕ). get_or words x 0) q ∙ z) (ap (λ (x : ℕ). get_or row x 0) q ∙ f) l b
-                    (subst (λ (x : ℕ). Leads forth x l) (sym q) p) y o
-
-            on : (back : List ℕ) → Woven (length old) forth back → (k l : ℕ) → k < length row → l < length row → Unstruck words k
-                → Unstruck words l
-                → Backed back k l → get_or row k 0 ≡ nobody → (get_or row l 0 ≡ nobody → ⊥) → Between line 0 n l ⊎ Between log g tail k
-                → Between line 0 n l ⊎ Between log (g + 1) tail k
-            on back w k l a b z y p f o (inl s) = inl s
-            on back w k l a b z y p f o (inr s) =
+            here-hooks : Hooks words row (Backed back) i (get_or (set row i j) i 0)
+            here-hooks =
                 let e = r.long in
-                inr (behind k (none k l z f y o b (w.turned_back k l (omega arith) (omega arith) p)) s)
+                hooked j helps.1 row_here less fact.unstruck fact.helped
+                (w.turned i j ask-place.0 (omega arith) fact.moves)
 
-        module _ (less : j < length row) where
-          -- the helper's place in the old row, and what was found
-          fact : Found words row (Leads forth) i j
-          fact = found-is less helps
+            by : (k : ℕ) → Dec (k ≡ i) → Hooks words row (Backed back) k (get_or (set row i j) k 0)
+            by k (yes q) = subst (λ (x : ℕ). Hooks words row (Backed back) x (get_or (set row i j) x 0)) (sym q) here-hooks
+            by k (no q) = as_was (get_or-set_other row i k j 0 q)
 
-          small : j < most_states
-          small = let a = ready.few in let b = r.long in omega arith
+        in-line' : InLine words (set row i j) (set line n i) (n + 1)
+        in-line' t h = by (ℕ_discrete t n)
+          where
+            by : Dec (t ≡ n)
+                → (get_or (set line n i) t 0 < length (set row i j)) × Unstruck words (get_or (set line n i) t 0)
+                × (get_or (set row i j) (get_or (set line n i) t 0) 0 ≡ nobody → ⊥)
+            by (yes q) =
+                let e : get_or (set line n i) t 0 ≡ i = ap (λ (x : ℕ). get_or (set line n i) x 0) q ∙ line-here in
+                let a = length-set row i j in
+                let b = ask-place.1 in (
+                  omega arith,
+                  ap (λ (x : ℕ). get_or words x 0) e ∙ helps.0,
+                  λ f. let d : j ≡ nobody = sym row_here ∙ sym (ap (λ (x : ℕ). get_or (set row i j) x 0) e) ∙ f in let c = small in
+                      omega arith,
+                )
+            by (no q) =
+                let e = get_or-set_other line n t i 0 q in
+                let u = r.in_line t (omega arith) in
+                let a = length-set row i j in
+                let b = u.0 in (
+                  omega arith,
+                  ap (λ (x : ℕ). get_or words x 0) e ∙ u.1,
+                  λ f. u.2 (sym (get_or-set_other row i (get_or line t 0) j 0 (other-than (get_or line t 0) u.2))
+                      ∙ sym (ap (λ (x : ℕ). get_or (set row i j) x 0) e) ∙ f),
+                )
 
-          counts : weight (unstruck_at nobody) words (set row i j) (length old) + 1 ≡ weight (unstruck_at nobody) words row (length old)
-          counts =
-              count_turn words row i nobody j (length old) ask-place.0 ask-place.1 fact.free fact.lone
-              (λ e. let a = small in omega arith)
+        -- who stands in the line stays there
+        still : (l : ℕ) → Between line 0 n l → Between (set line n i) 0 (n + 1) l
+        still l (t, a, b, e) = (t, a, omega arith, get_or-set_other line n t i 0 (λ q. omega arith) ∙ e)
 
-          -- The helper is a place, and the line has room for who found it.
-          pub ask-room : (j < most_states) × (n < length line) × (n < most_states)
-          ask-room =
-              let a = counts in
-              let b = r.counted in
-              let c = ready.line_is.in_line in
-              let d = ready.line_is.line_few in
-              let e = r.line_long in
-              (small, omega arith, omega arith)
+        waits' : (back : List ℕ) → Waits words row (Backed back) log g tail line n
+            → Waits words (set row i j) (Backed back) log (g + 1) tail (set line n i) (n + 1)
+        waits' back was k l a b z y p f o = by (ℕ_discrete l i)
+          where
+            -- who has no witness now is another place, and had none
+            apart : k ≡ i → ⊥
+            apart q =
+                let d : j ≡ nobody = sym row_here ∙ sym (ap (λ (x : ℕ). get_or (set row i j) x 0) q) ∙ f in
+                let c = small in
+                omega arith
 
-          row_here : get_or (set row i j) i 0 ≡ j
-          row_here = get_or-set_same row i j 0 ask-place.1
+            on : Between line 0 n l ⊎ Between log g tail k → Between (set line n i) 0 (n + 1) l ⊎ Between log (g + 1) tail k
+            on (inl s) = inl (still l s)
+            on (inr s) = inr (behind k (λ q. apart (sym q)) s)
 
-          line-here : get_or (set line n i) n 0 ≡ i
-          line-here = get_or-set_same line n i 0 ask-room.1
+            by : Dec (l ≡ i) → Between (set line n i) 0 (n + 1) l ⊎ Between log (g + 1) tail k
+            by (yes q) = inl (n, omega arith, omega arith, line-here ∙ sym q)
+            by (no q) =
+                let e = length-set row i j in
+                on (was k l (omega arith) (omega arith) z y p (sym (get_or-set_other row i k j 0 apart) ∙ f)
+                (λ d. o (get_or-set_other row i l j 0 q ∙ d)))
 
-          -- who has a witness is another place
-          other-than : (k : ℕ) → (get_or row k 0 ≡ nobody → ⊥) → k ≡ i → ⊥
-          other-than k o q = o (ap (λ (x : ℕ). get_or row x 0) q ∙ fact.lone)
-
-          hooks : (back : List ℕ) → Woven (length old) forth back → Hooked words row (set row i j) (Backed back)
-          hooks back w = record { long = length-set row i j; each = λ k h. by k (ℕ_discrete k i) }
-            where
-              here-hooks : Hooks words row (Backed back) i (get_or (set row i j) i 0)
-              here-hooks =
-                  let e = r.long in
-                  hooked j fact.lone row_here less fact.help_free fact.help_hangs
-                  (w.turned i j ask-place.0 (omega arith) fact.leads)
-
-              by : (k : ℕ) → Dec (k ≡ i) → Hooks words row (Backed back) k (get_or (set row i j) k 0)
-              by k (yes q) = subst (λ (x : ℕ). Hooks words row (Backed back) x (get_or (set row i j) x 0)) (sym q) here-hooks
-              by k (no q) = as_was (get_or-set_other row i k j 0 q)
-
-          in-line' : InLine words (set row i j) (set line n i) (n + 1)
-          in-line' t h = by (ℕ_discrete t n)
-            where
-              by : Dec (t ≡ n)
-                  → (get_or (set line n i) t 0 < length (set row i j)) × Unstruck words (get_or (set line n i) t 0)
-                  × (get_or (set row i j) (get_or (set line n i) t 0) 0 ≡ nobody → ⊥)
-              by (yes q) =
-                  let e : get_or (set line n i) t 0 ≡ i = ap (λ (x : ℕ). get_or (set line n i) x 0) q ∙ line-here in
-                  let a = length-set row i j in
-                  let b = ask-place.1 in (
-                    omega arith,
-                    ap (λ (x : ℕ). get_or words x 0) e ∙ fact.free,
-                    λ f. let d : j ≡ nobody = sym row_here ∙ sym (ap (λ (x : ℕ). get_or (set row i j) x 0) e) ∙ f in let c = small in
-                        omega arith,
-                  )
-              by (no q) =
-                  let e = get_or-set_other line n t i 0 q in
-                  let u = r.in_line t (omega arith) in
-                  let a = length-set row i j in
-                  let b = u.0 in (
-                    omega arith,
-                    ap (λ (x : ℕ). get_or words x 0) e ∙ u.1,
-                    λ f. u.2 (sym (get_or-set_other row i (get_or line t 0) j 0 (other-than (get_or line t 0) u.2))
-                        ∙ sym (ap (λ (x : ℕ). get_or (set row i j) x 0) e) ∙ f),
-                  )
-
-          -- who stands in the line stays there
-          still : (l : ℕ) → Between line 0 n l → Between (set line n i) 0 (n + 1) l
-          still l (t, a, b, e) = (t, a, omega arith, get_or-set_other line n t i 0 (λ q. omega arith) ∙ e)
-
-          waits' : (back : List ℕ) → Waits words row (Backed back) log g tail line n
-              → Waits words (set row i j) (Backed back) log (g + 1) tail (set line n i) (n + 1)
-          waits' back was k l a b z y p f o = by (ℕ_discrete l i)
-            where
-              -- who has no witness now is another place, and had none
-              apart : k ≡ i → ⊥
-              apart q =
-                  let d : j ≡ nobody = sym row_here ∙ sym (ap (λ (x : ℕ). get_or (set row i j) x 0) q) ∙ f in
-                  let c = small in
-                  omega arith
-
-              on : Between line 0 n l ⊎ Between log g tail k → Between (set line n i) 0 (n + 1) l ⊎ Between log (g + 1) tail k
-              on (inl s) = inl (still l s)
-              on (inr s) = inr (behind k (λ q. apart (sym q)) s)
-
-              by : Dec (l ≡ i) → Between (set line n i) 0 (n + 1) l ⊎ Between log (g + 1) tail k
-              by (yes q) = inl (n, omega arith, omega arith, line-here ∙ sym q)
-              by (no q) =
-                  let e = length-set row i j in
-                  on (was k l (omega arith) (omega arith) z y p (sym (get_or-set_other row i k j 0 apart) ∙ f)
-                  (λ d. o (get_or-set_other row i l j 0 q ∙ d)))
-
-          -- A place that found a helper hangs on it, and joins the line.
-          pub ask-more : AskedHere (set row i j) (set line n i) (n + 1) (g + 1)
-          ask-more = record {
-            begun = let a = r.begun in omega arith;
-            long = length-set row i j ∙ r.long;
-            line_long = length-set line n i ∙ r.line_long;
-            counted = let a = counts in let b = r.counted in omega arith;
-            in_line = in-line';
-            hangs = λ back w h. hangs-hooked words old row (Backed back) (r.hangs back w h) (set row i j) (hooks back w);
-            waits = λ back w h. waits' back (r.waits back w h);
-          }
+        -- A place that found a helper hangs on it, and joins the line.
+        pub ask-more : AskedHere (set row i j) (set line n i) (n + 1) (g + 1)
+        ask-more = record {
+          begun = let a = r.begun in omega arith;
+          long = length-set row i j ∙ r.long;
+          line_long = length-set line n i ∙ r.line_long;
+          counted = let a = counts in let b = r.counted in omega arith;
+          in_line = in-line';
+          hangs = λ back w h. hangs-hooked words old row (Backed back) (r.hangs back w h) (set row i j) (hooks back w);
+          waits = λ back w h. waits' back (r.waits back w h);
+        }

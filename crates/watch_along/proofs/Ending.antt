@@ -2,6 +2,7 @@
 use mathlib.Core.Path.{◌≡◌, refl, sym, ap, subst, ◌∙◌}
 use mathlib.Core.Logic.{◌⊎◌, inl, inr}
 use mathlib.Core.List.{List}
+use Rattle.std.proofs.Common.{Some, None}
 use Prim.Native.Nat.{ℕ, ◌+◌, ◌≤◌, ◌<◌}
 use native.Mathlib.Decide.{ℕ_discrete}
 use native.Mathlib.Omega.{arith}
@@ -9,24 +10,12 @@ use lib.ListN.{length, get_or, set, length-set}
 use lib.Seq.{get_or-set_same, get_or-set_other}
 use Rattle.ground.specs.Listed.{Between}
 use Rattle.meaning.specs.Promises.{most_states}
-use Rattle.moves.specs.Layout.{start_at, end_at, cell_at, Backed}
+use Rattle.moves.specs.Layout.{Backed}
 use Rattle.distances.specs.Far.{Unstruck}
-use Rattle.watch.specs.Witness.{nobody, Log, Fresh}
-use Rattle.watch.specs.Turns.{
-  Redirects,
-  turns,
-  stays,
-  Redirected,
-  Loosened,
-  Fallable,
-  FallsAt,
-  was,
-  keeps,
-  falls,
-  FellTo,
-}
-use Rattle.watch_along.specs.Along.{Leads, Readable, Woven, Walkable, Redirectable}
-use Rattle.watch_along.specs.Ends.{Blank, Going, Ahead, opening, going, CutOff, WayOn, goes, ends, Lookable, Looked, Ended}
+use Rattle.watch.specs.Witness.{nobody}
+use Rattle.watch.specs.Turns.{Redirects, turns, stays, Redirected, FallsAt, was, keeps, falls, FellTo}
+use Rattle.watch_along.specs.Along.{Leads, Woven, Walkable, Redirectable}
+use Rattle.watch_along.specs.Ends.{Going, Ahead, opening, going, CutOff, WayOn, Looked, Ended}
 use Rattle.watch_along.proofs.Redirecting.{redirectable-along}
 use Rattle.watch.proofs.Cuts.{
   Loses,
@@ -42,56 +31,12 @@ use Rattle.watch.proofs.Cuts.{
   cut-leads,
 }
 
--- ---- blanking a row
-
--- One more place is blank.
-pub blank-more : (row : List ℕ) (i : ℕ) → i < length row → ((j : ℕ) → j < i → get_or row j 0 ≡ nobody) → (j : ℕ) → j < i + 1
-    → get_or (set row i nobody) j 0 ≡ nobody
-blank-more row i inside B j h = by (ℕ_discrete j i)
-  where
-    by : Dec (j ≡ i) → get_or (set row i nobody) j 0 ≡ nobody
-    by (yes q) = ap (λ (x : ℕ). get_or (set row i nobody) x 0) q ∙ get_or-set_same row i nobody 0 inside
-    by (no q) = get_or-set_other row i j nobody 0 q ∙ B j (omega arith)
-
 -- ---- what the row may be before a round
 
 module _ {words row back log : List ℕ} {from m : ℕ} where
-  pub ahead-fresh : m < from → Ahead words row back log from m → Fresh words row log m
-  ahead-fresh h (opening k G few B) = record { log_is = G; few = few; each = λ i l. inl (B i l) }
-  ahead-fresh h (going R) = absurd (omega (arith, R.since, h))
-
-  pub ahead-blank : m < from → Ahead words row back log from m → Blank row
-  ahead-blank h (opening k G few B) = B
-  ahead-blank h (going R) = absurd (omega (arith, R.since, h))
-
-  pub ahead-going : from ≤ m → Ahead words row back log from m → Going words row back log from m
-  ahead-going h (opening k G few B) = absurd (omega arith)
-  ahead-going h (going R) = R
-
-  pub ahead-log : Ahead words row back log from m → Log words (length row) log m
-  ahead-log (opening k G few B) = G
-  ahead-log (going R) = R.log_is
-
   pub ahead-few : Ahead words row back log from m → length row ≤ most_states
   ahead-few (opening k G few B) = few
   ahead-few (going R) = R.few
-
--- With a blank row, all unstruck places are listed.
-pub listed-cut : {words row log log' : List ℕ} (back : List ℕ) {m tail : ℕ} → Blank row → length row ≤ most_states
-    → Loosened words row row log log' m tail
-    → CutOff words row row back log log' m tail
-listed-cut back B few L = record {
-  long = refl;
-  each = λ i h. inl (B i h);
-  leads = λ i h l. absurd (omega (arith, B i h, l, few));
-  sure = λ i h u l. absurd (omega (arith, B i h, l, few));
-  log_long = L.log_long;
-  kept = L.kept;
-  grows = L.grows;
-  within = L.within;
-  places = λ t h k. (L.places t h k).0;
-  alone = L.alone;
-}
 
 -- ---- cutting off
 
@@ -184,27 +129,6 @@ module _ {words old row back before log : List ℕ} {from m tail h : ℕ} (R : G
 
 -- ---- looking for a way on
 
--- along place i's row up to cell e there is no unstruck place
-abbrev pub NoneTo : (words forth : List ℕ) (i e : ℕ) → Type 0
-NoneTo words forth i e = (f : ℕ) → start_at forth i ≤ f → f < e → Unstruck words (cell_at forth f) → ⊥
-
-pub none_more : (words forth : List ℕ) (i e j : ℕ) → NoneTo words forth i e → j ≡ cell_at forth e → (Unstruck words j → ⊥)
-    → NoneTo words forth i (e + 1)
-none_more words forth i e j N is n f h k u = by (ℕ_discrete f e)
-  where
-    by : Dec (f ≡ e) → ⊥
-    by (yes q) = n (ap (λ (x : ℕ). get_or words x 0) (is ∙ ap (λ (x : ℕ). cell_at forth x) (sym q)) ∙ u)
-    by (no q) = N f h (omega arith) u
-
-pub none-ends : (words forth : List ℕ) (r i e : ℕ) → NoneTo words forth i e → end_at forth i ≤ e → WayOn words forth r i r
-none-ends words forth r i e N over =
-    ends refl (λ h s u. N s.0 s.1 (omega (arith, s.2, over)) (ap (λ (x : ℕ). get_or words x 0) s.3 ∙ u))
-
-pub here-goes : (words forth : List ℕ) (r i e j : ℕ) → start_at forth i ≤ e → e < end_at forth i → j ≡ cell_at forth e → j < r
-    → Unstruck words j
-    → WayOn words forth r i j
-here-goes words forth r i e j h k is l u = goes l (e, h, k, sym is) u
-
 -- what is known at turn g
 pub record Looking (words old row forth log : List ℕ) (m g : ℕ) : Type 0 where
   pub long : length row ≡ length old
@@ -218,10 +142,10 @@ looking-none words row forth log m = record { long = refl; each = λ i h. inl re
 
 module _ {words old row forth log : List ℕ} {m g : ℕ} (L : Looking words old row forth log m g) where
   -- One found a way on, and has it.
-  pub looking-more : {j : ℕ} → length old ≤ most_states → get_or log g 0 < length old → j < length old
-      → WayOn words forth (length old) (get_or log g 0) j
+  pub looking-more : {j : ℕ} → length old ≤ most_states → get_or log g 0 < length old
+      → WayOn words forth (length row) (get_or log g 0) (Some j)
       → Looking words old (set row (get_or log g 0) j) forth log m (g + 1)
-  looking-more {j = j} few inside below W = record {
+  looking-more {j = j} few inside W = record {
     long = length-set row (get_or log g 0) j ∙ L.long;
     each = λ i h. each_at i h (ℕ_discrete i (get_or log g 0));
     none_left = λ t h k e. none-at t h k e (ℕ_discrete (get_or log t 0) (get_or log g 0));
@@ -230,9 +154,8 @@ module _ {words old row forth log : List ℕ} {m g : ℕ} (L : Looking words old
       x : ℕ
       x = get_or log g 0
 
-      found : WayOn words forth (length old) (get_or log g 0) j → Leads forth (get_or log g 0) j × Unstruck words j
-      found (goes l s u) = (s, u)
-      found (ends e n) = absurd (omega (arith, e, below))
+      below : j < length old
+      below = omega (arith, W.0, L.long)
 
       here : get_or (set row (get_or log g 0) j) (get_or log g 0) 0 ≡ j
       here = get_or-set_same row (get_or log g 0) j 0 (omega (arith, inside, L.long))
@@ -242,10 +165,9 @@ module _ {words old row forth log : List ℕ} {m g : ℕ} (L : Looking words old
           ⊎ ((get_or (set row (get_or log g 0) j) i 0 < length old) × Leads forth i (get_or (set row (get_or log g 0) j) i 0)
           × Unstruck words (get_or (set row (get_or log g 0) j) i 0))
       each_at i h (yes q) =
-          let f = found W in
           let e : get_or (set row (get_or log g 0) j) i 0 ≡ j = ap (λ (y : ℕ). get_or (set row (get_or log g 0) j) y 0) q ∙ here in
-          let lead : Leads forth i j = subst (λ (y : ℕ). Leads forth y j) (sym q) f.0 in
-          inr (omega (arith, e, below), subst (λ (y : ℕ). Leads forth i y) (sym e) lead, ap (λ (y : ℕ). get_or words y 0) e ∙ f.1)
+          let lead : Leads forth i j = subst (λ (y : ℕ). Leads forth y j) (sym q) W.1 in
+          inr (omega (arith, e, below), subst (λ (y : ℕ). Leads forth i y) (sym e) lead, ap (λ (y : ℕ). get_or words y 0) e ∙ W.2)
       each_at i h (no q) =
           subst (λ (y : ℕ). (y ≡ get_or old i 0) ⊎ ((y < length old) × Leads forth i y × Unstruck words y))
           (sym (get_or-set_other row (get_or log g 0) i j 0 q)) (L.each i h)
@@ -262,15 +184,13 @@ module _ {words old row forth log : List ℕ} {m g : ℕ} (L : Looking words old
           earlier z = q (ap (λ (y : ℕ). get_or log y 0) z)
 
   -- One found none.
-  pub looking-past : {j : ℕ} → length old ≤ j → WayOn words forth (length old) (get_or log g 0) j → Looking words old row forth log m (g + 1)
-  looking-past {j = j} above W = record { long = L.long; each = L.each; none_left = λ t h k e. none-at t h k e (ℕ_discrete t g) W }
+  pub looking-past : WayOn words forth (length row) (get_or log g 0) None → Looking words old row forth log m (g + 1)
+  looking-past W = record { long = L.long; each = L.each; none_left = λ t h k e. none-at t h k e (ℕ_discrete t g) }
     where
       none-at : (t : ℕ) → m ≤ t → t < g + 1 → get_or row (get_or log t 0) 0 ≡ nobody → Dec (t ≡ g)
-          → WayOn words forth (length old) (get_or log g 0) j
           → (i : ℕ) → Leads forth (get_or log t 0) i → Unstruck words i → ⊥
-      none-at t h k e (no q) w i s u = L.none_left t h (omega arith) e i s u
-      none-at t h k e (yes q) (goes l z y) i s u = absurd (omega arith)
-      none-at t h k e (yes q) (ends z n) i s u = n i (subst (λ (y : ℕ). Leads forth (get_or log y 0) i) q s) u
+      none-at t h k e (no q) i s u = L.none_left t h (omega arith) e i s u
+      none-at t h k e (yes q) i s u = W i (subst (λ (y : ℕ). Leads forth (get_or log y 0) i) q s) u
 
   pub looking-done : {tail : ℕ} → tail ≤ g → Looked words old row forth log m tail
   looking-done over = record { long = L.long; each = L.each; none_left = λ t h k. L.none_left t h (omega arith) }
@@ -280,17 +200,6 @@ module _ {words old row forth log : List ℕ} {m g : ℕ} (L : Looking words old
 module _ {words row row' back log log' forth : List ℕ} {from m tail : ℕ} (A : Ahead words row back log from m)
     (W : Woven (length row) forth back)
     (C : CutOff words row row' back log log' m tail) where
-  pub cut-lookable : length log ≤ most_states → Lookable words row' forth log' m tail
-  cut-lookable short = let G = ahead-log A in record {
-    few = omega (arith, ahead-few A, C.long);
-    in_words = omega (arith, G.in_words, C.long);
-    onward = subst (λ (r : ℕ). Readable forth r) (sym C.long) W.onward;
-    grows = C.grows;
-    in-log = omega (arith, C.within, G.in-log, C.log_long);
-    log_few = omega (arith, short, C.log_long);
-    places = λ t h k. let a = C.places t h k in omega (arith, a, C.long);
-  }
-
   module _ {row'' : List ℕ} (L : Looked words row' row'' forth log' m tail) where
     long'' : length row'' ≡ length row
     long'' = L.long ∙ C.long
@@ -304,21 +213,6 @@ module _ {words row row' back log log' forth : List ℕ} {from m tail : ℕ} (A 
             → Between log' m tail i
         by (inl s) = C.alone i h u (sym s ∙ e)
         by (inr s) = absurd (omega (arith, e, s.0, C.long, ahead-few A))
-
-    pub cut-fallable : {word : ℕ} → 0 < word → Fallable words row'' log' m tail word
-    cut-fallable some = let G = ahead-log A in record {
-      some = some;
-      log_is = subst (λ (r : ℕ). Log words r log' m) (sym long'') (record {
-        in_words = G.in_words;
-        in-log = omega (arith, G.in-log, C.log_long);
-        count = G.count;
-        places = λ t h. let a = C.kept t h in let b = G.places t h in omega (arith, a, b);
-      });
-      grows = C.grows;
-      within = omega (arith, C.within, G.in-log, C.log_long);
-      places = λ t h k. let a = C.places t h k in omega (arith, a, long'');
-      alone = λ i h u e. lone i (omega (arith, h, long'')) u e;
-    }
 
     pub phase-ended : {words' log'' : List ℕ} {m' word : ℕ} → FellTo row'' word words words' log' log'' m m' → 0 < word
         → Ended words words' row row'' forth back log log'' m m' word

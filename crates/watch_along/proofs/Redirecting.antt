@@ -142,9 +142,6 @@ module _ (words old back : List ℕ) (c was to : ℕ) (before : List ℕ) (n : �
 
     -- the next place
     module _ (more : i < length old) where
-      pub chain-place : (i < length row) × (i < length words) × (i < most_states)
-      chain-place = (omega (arith, more, s.so_far.long), omega (arith, more, ready.turnable.in_words), omega (arith, more, few))
-
       -- The line has room for it, if it is to be redirected.
       pub chain-room : {b : Bool} → IsSo words row i was b → b ≡ true → (m < length line) × (m < most_states)
       chain-room so t =

@@ -1,7 +1,7 @@
 -- Watching a promise along stored moves: rows forth and back that can be read, and what the functions promise one another. That place i
 -- moves to place j is said by i's row forth (`Leads`), or by j's row back, which has one place for each chain (`Backed` of web).
 -- Assumes nothing.
-use Rattle.std.specs.Prelude.{◌≡◌, List, ℕ, ◌+◌, ◌≤◌, ◌<◌, length, get_or}
+use Rattle.std.specs.Prelude.{◌≡◌, Bool, true, false, Option, Some, None, List, ℕ, ◌+◌, ◌≤◌, ◌<◌, length, get_or}
 use Rattle.ground.specs.Listed.{Between}
 use Rattle.meaning.specs.Promises.{most_states}
 use Rattle.moves.specs.Layout.{moves_size, start_at, end_at, cells_of, cell_at, HasRow, Ascending, Backed}
@@ -17,6 +17,11 @@ Leads moves i j = Between (cells_of moves) (start_at moves i) (end_at moves i) j
 pub record Readable (moves : List ℕ) (r : ℕ) : Type 0 where
   pub row : (i : ℕ) → i < r → HasRow moves i
   pub places : (i e : ℕ) → i < r → start_at moves i ≤ e → e < end_at moves i → cell_at moves e < r
+
+-- one of place i's next places, of r places, of which a test says yes; none if it says no of all. `Test` is what the test may answer
+pub data NextWith (moves : List ℕ) (r i : ℕ) (Test : ℕ → Bool → Type 0) (who : Option ℕ) : Type 0 where
+  passes : (j : ℕ) → who ≡ Some j → j < r → Leads moves i j → Test j true → NextWith moves r i Test who
+  none_passes : who ≡ None → ((j : ℕ) → Leads moves i j → Test j false) → NextWith moves r i Test who
 
 -- the same of rows back, with their chains
 pub record Walkable (back : List ℕ) (r : ℕ) : Type 0 where

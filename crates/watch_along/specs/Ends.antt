@@ -1,5 +1,5 @@
 -- Dead ends along stored moves. A row has a number for each place: `nobody`, none is known; or a next place, its way on. Assumes nothing.
-use Rattle.std.specs.Prelude.{◌≡◌, ◌⊎◌, List, ℕ, ◌≤◌, ◌<◌, length, get_or}
+use Rattle.std.specs.Prelude.{◌≡◌, ◌⊎◌, Option, MatchOption, List, ℕ, ◌≤◌, ◌<◌, length, get_or}
 use Rattle.ground.specs.Listed.{Between}
 use Rattle.meaning.specs.Promises.{most_states}
 use Rattle.moves.specs.Layout.{Backed}
@@ -42,10 +42,10 @@ pub record CutOff (words old row back before log : List ℕ) (m tail : ℕ) : Ty
   pub places : (t : ℕ) → m ≤ t → t < tail → get_or log t 0 < length old
   pub alone : (i : ℕ) → i < length old → Unstruck words i → get_or row i 0 ≡ nobody → Between log m tail i
 
--- an unstruck next place of place i, sought along its row; or r, and then there is none
-pub data WayOn (words forth : List ℕ) (r i j : ℕ) : Type 0 where
-  goes : j < r → Leads forth i j → Unstruck words j → WayOn words forth r i j
-  ends : j ≡ r → ((h : ℕ) → Leads forth i h → Unstruck words h → ⊥) → WayOn words forth r i j
+-- an unstruck next place of place i, of r places, sought along its row; or there is none
+abbrev pub WayOn : (words forth : List ℕ) (r i : ℕ) (onto : Option ℕ) → Type 0
+WayOn words forth r i onto =
+    MatchOption onto ((h : ℕ) → Leads forth i h → Unstruck words h → ⊥) (λ j. (j < r) × Leads forth i j × Unstruck words j)
 
 -- the log's places from m up to `tail` may look for a way on
 pub record Lookable (words row forth log : List ℕ) (m tail : ℕ) : Type 0 where

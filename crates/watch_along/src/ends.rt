@@ -5,18 +5,14 @@ ghost use Rattle.meaning.specs.Promises.{most_states};
 ghost use Rattle.watch_along.specs.Along.{Readable};
 ghost use Rattle.watch_along.specs.Ends.{Blank, Ahead, Going, CutOff, WayOn, Lookable, Looked, Endable, Ended};
 
-use super::redirect;
+use super::{Forth, redirect};
 use watch::{NOBODY, fall, list_alone};
 
 // Before the first round no way on is known.
 pub fn blank(row: &mut [u16])
     ensures { Blank row.new × (length row.new ≡ length row.old) }
 {
-    let mut i: usize = 0;
-    while i < row.len() {
-        row[i] = NOBODY;
-        i += 1;
-    }
+    row.fill(NOBODY);
 }
 
 // Cuts off the places whose way on was struck since: these stand in the log behind its first m, up to the place returned.
@@ -33,12 +29,11 @@ fn cut(
         log.new m result }
 {
     let mut tail = m;
-    let mut h = from;
-    while h < m {
+    // `loosen` goes on to those that it cut off, and this does not: one function for both would take a flag, and is no plainer
+    for h in from..m {
         let t = log[h];
         let place = t as usize;
         tail = redirect(words, row, back, place, t, NOBODY, log, tail);
-        h += 1;
     }
     tail
 }
@@ -57,44 +52,30 @@ fn lost(
     ensures { CutOff words.now row.old row.new back.now log.old
         log.new m result }
 {
+    // the choice that `lost` of watching makes, between other steps with other promises: one function that takes the steps is no plainer
     if m < from {
         return list_alone(words, row, log, m);
     }
     cut(words, row, back, log, from, m)
 }
 
-// The first next place of place i that is unstruck, or r.
-fn way_on(words: &[u32], forth: &[u16], r: usize, i: usize) -> usize
-    requires { Readable forth.now r × (i < r) × (r ≤ length words.now) }
-    ensures { WayOn words.now forth.now r i result }
+// The first next place of place i, of r places, that is unstruck.
+fn way_on(words: &[u32], forth: Forth, r: usize, i: usize) -> Option<usize>
+    requires { Readable forth.rows.now r × (i < r) × (r ≤ length words.now) }
+    ensures { WayOn words.now forth.entry.rows.now r i result }
 {
-    let end = moves::row_end(forth, i);
-    let mut e = moves::row_start(forth, i);
-    while e < end {
-        let j = moves::cell(forth, e);
-        if words[j] == 0 {
-            return j;
-        }
-        e += 1;
-    }
-    r
+    forth.first_next(r, i, |j| words[j] == 0)
 }
 
 // Gives the log's places from m up to `tail` a way on, where there is one.
-fn look(words: &[u32], row: &mut [u16], forth: &[u16], log: &[u16], m: usize, tail: usize)
-    requires { Lookable words.now row.old forth.now log.now m tail }
-    ensures { Looked words.now row.old row.new forth.now log.now m tail }
+fn look(words: &[u32], row: &mut [u16], forth: Forth, log: &[u16], m: usize, tail: usize)
+    requires { Lookable words.now row.old forth.rows.now log.now m tail }
+    ensures { Looked words.now row.old row.new forth.entry.rows.now log.now m tail }
 {
-    let r = row.len();
-    let mut g = m;
-    while g < tail {
+    for g in m..tail {
         let i = log[g] as usize;
-        let j = way_on(words, forth, r, i);
-        if j < r {
+        if let Some(j) = way_on(words, forth, row.len(), i) {
             row[i] = j as u16;
-            g += 1;
-        } else {
-            g += 1;
         }
     }
 }
@@ -114,7 +95,8 @@ pub fn phase(
     ensures { Ended words.old words.new row.old row.new forth.now
         back.now log.old log.new m result word }
 {
+    // three steps as in `phase` of watching, each with another promise: one function that takes the steps is no plainer
     let tail = lost(words, row, back, log, from, m);
-    look(words, row, forth, log, m, tail);
+    look(words, row, Forth { rows: forth }, log, m, tail);
     fall(words, row, log, m, tail, word)
 }

@@ -6,13 +6,46 @@ ghost use Rattle.std.specs.Prelude.{◌≡◌, List, ℕ, ◌+◌, ◌<◌, ◌�
 ghost use Rattle.meaning.specs.Promises.{most_states};
 ghost use Rattle.moves.specs.Layout.{Linked, Backed};
 ghost use Rattle.watch.specs.Witness.{nobody, Rested, Hangable, Rehung};
-ghost use Rattle.watch.specs.Turns.{count_met_at, Redirected, Loosened, HelperIn, HelperFor, Line, Before, Watched};
-ghost use Rattle.watch_along.specs.Along.{Leads, Readable, Walkable, Woven, Redirectable, Passable};
+ghost use Rattle.watch.specs.Turns.{count_met_at, Redirected, Loosened, Line, Before, Watched};
+ghost use Rattle.watch_along.specs.Along.{Leads, Readable, NextWith, Walkable, Woven, Redirectable, Passable};
 ghost use Rattle.watch_along.specs.Along.{InLine, Hanging, Askable, Asked, Watching};
 
-use watch::{NOBODY, fall, is_helped, is_so, list_alone};
+use watch::{Moves, NOBODY, fall, is_helped, is_so, list_alone};
 
 pub mod ends;
+
+// Moves that are stored, forth: each place's row has its next places.
+#[derive(Clone, Copy)]
+struct Forth<'a> {
+    rows: &'a [u16],
+}
+
+impl Forth<'_> {
+    // The first next place of place i, of r places, that passes a test.
+    fn first_next<F: Fn(usize) -> bool>(&self, r: usize, i: usize, test: F) -> Option<usize>
+        requires readable { Readable self.now.rows.now r × (i < r) }
+        requires testable { (j : ℕ) → j < r → F.pre test j }
+        ensures { NextWith self.now.rows.now r i (F.post test) result }
+    {
+        for e in moves::row_start(self.rows, i)..moves::row_end(self.rows, i) {
+            let j = moves::cell(self.rows, e);
+            if test(j) {
+                return Some(j);
+            }
+        }
+        None
+    }
+}
+
+impl Moves for Forth<'_> {
+    ghost known = { λ s r. Readable s.rows.now r };
+
+    ghost leads = { λ s i j. Leads s.rows.now i j };
+
+    fn seek_helper(&self, words: &[u32], row: &[u16], i: usize) -> Option<usize> {
+        self.first_next(row.len(), i, |j| is_helped(words, row, j))
+    }
+}
 
 // Of the places on the chain that begins with place c, gives `to` to the unstruck ones whose number is `was`, and puts them into the line
 // behind its first n; how long the line then is.
@@ -33,15 +66,14 @@ fn redirect_chain(
     let r = row.len();
     let mut tail = n;
     let mut i = c;
+    // a chain of links is walked, and not a range: a `for` over an iterator of its own is no plainer
     while i < r {
         if is_so(words, row, i, was) {
             row[i] = to;
             line[tail] = i as u16;
             tail += 1;
-            i = moves::link(back, i);
-        } else {
-            i = moves::link(back, i);
         }
+        i = moves::link(back, i);
     }
     tail
 }
@@ -62,13 +94,10 @@ fn redirect(
     ensures { Redirected (λ i. Backed back.now i t) words.now was to row.old row.new n
         line.old line.new result }
 {
-    let end = moves::row_end(back, t);
     let mut tail = n;
-    let mut e = moves::row_start(back, t);
-    while e < end {
+    for e in moves::row_start(back, t)..moves::row_end(back, t) {
         let c = moves::cell(back, e);
         tail = redirect_chain(words, row, back, c, was, to, line, tail);
-        e += 1;
     }
     tail
 }
@@ -89,6 +118,7 @@ fn loosen(
 {
     let mut tail = m;
     let mut h = from;
+    // the log grows while it is walked: a `for` would stop at where it ended at first
     while h < tail {
         let t = log[h];
         let place = t as usize;
@@ -112,66 +142,34 @@ fn lost(
         × (length log.old ≤ most_states) }
     ensures { Loosened words.now row.old row.new log.old log.new m result }
 {
+    // `from` above m says that there was no phase yet: `phase` is handed it so, and its contract may not change
     if m < from {
         return list_alone(words, row, log, m);
     }
     loosen(words, row, back, log, from, m)
 }
 
-// The first next place of place i that is unstruck and has a witness, or the row's length.
-fn seek_helper(words: &[u32], row: &[u16], forth: &[u16], i: usize) -> usize
-    requires { Readable forth.now (length row.now) × (i < length row.now) × (length row.now ≤ length words.now) }
-    ensures { HelperIn words.now row.now (Leads forth.now) i result }
-{
-    let end = moves::row_end(forth, i);
-    let mut e = moves::row_start(forth, i);
-    while e < end {
-        let j = moves::cell(forth, e);
-        if is_helped(words, row, j) {
-            return j;
-        }
-        e += 1;
-    }
-    row.len()
-}
-
-// The same if place i is unstruck and has no witness; the row's length if not.
-fn helper(words: &[u32], row: &[u16], forth: &[u16], i: usize) -> usize
-    requires { Readable forth.now (length row.now) × (i < length row.now) × (length row.now ≤ length words.now) }
-    ensures { HelperFor words.now row.now (Leads forth.now) i result }
-{
-    if is_so(words, row, i, NOBODY) {
-        return seek_helper(words, row, forth, i);
-    }
-    row.len()
-}
-
 // Hangs those of the log's places from m up to `tail` that have a helper on it, and puts them into the line; how many those are.
 fn ask(
     words: &[u32],
     row: &mut [u16],
-    forth: &[u16],
+    forth: Forth,
     log: &[u16],
     m: usize,
     tail: usize,
     line: &mut [u16],
 ) -> usize
-    requires { Askable words.now row.old forth.now log.now m tail line.old }
-    ensures { Asked words.now row.old row.new forth.now log.now m tail
+    requires { Askable words.now row.old forth.rows.now log.now m tail line.old }
+    ensures { Asked words.now row.old row.new forth.entry.rows.now log.now m tail
         line.old line.new result }
 {
     let mut n: usize = 0;
-    let mut g = m;
-    while g < tail {
+    for g in m..tail {
         let i = log[g] as usize;
-        let j = helper(words, row, forth, i);
-        if j < row.len() {
+        if let Some(j) = forth.helper(words, row, i) {
             row[i] = j as u16;
             line[n] = i as u16;
             n += 1;
-            g += 1;
-        } else {
-            g += 1;
         }
     }
     n
@@ -188,6 +186,7 @@ fn spread(words: &[u32], row: &mut [u16], back: &[u16], line: &mut [u16], n: usi
 {
     let mut tail = n;
     let mut head: usize = 0;
+    // the line grows while it is walked: a `for` would stop at where it ended at first
     while head < tail {
         let t = line[head];
         let place = t as usize;
@@ -200,14 +199,14 @@ fn spread(words: &[u32], row: &mut [u16], back: &[u16], line: &mut [u16], n: usi
 fn rehang(
     words: &[u32],
     row: &mut [u16],
-    forth: &[u16],
+    forth: Forth,
     back: &[u16],
     log: &[u16],
     m: usize,
     tail: usize,
     line: &mut [u16],
 )
-    requires { Woven (length row.old) forth.now back.now × Hangable words.now row.old (Backed back.now) log.now m tail
+    requires { Woven (length row.old) forth.rows.now back.now × Hangable words.now row.old (Backed back.now) log.now m tail
         × Line row.old line.old × (length log.now ≤ most_states) }
     ensures { Rehung words.now row.old row.new (Backed back.now)
         × (length line.new ≡ length line.old) }
@@ -233,6 +232,6 @@ pub fn phase(
         log.old log.new m result word × (length line.new ≡ length line.old) }
 {
     let tail = lost(words, row, back, log, from, m);
-    rehang(words, row, forth, back, log, m, tail, line);
+    rehang(words, row, Forth { rows: forth }, back, log, m, tail, line);
     fall(words, row, log, m, tail, word)
 }

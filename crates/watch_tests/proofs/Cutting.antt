@@ -5,7 +5,7 @@ use mathlib.Core.Logic.{◌⊎◌, inl, inr}
 use mathlib.Core.Bool.{Bool, true, false}
 use mathlib.Core.List.{List}
 use Prim.Native.Nat.{ℕ, ◌+◌, ◌≤◌, ◌<◌}
-use native.Mathlib.Decide.{ℕ_discrete, dec_lt}
+use native.Mathlib.Decide.{ℕ_discrete}
 use native.Mathlib.Omega.{arith}
 use lib.ListN.{length, get_or, set, length-set}
 use lib.Seq.{get_or-set_same, get_or-set_other}
@@ -13,34 +13,12 @@ use Rattle.ground.specs.Listed.{Between}
 use Rattle.meaning.specs.Promises.{most_states}
 use Rattle.distances.specs.Far.{Unstruck}
 use Rattle.watch.specs.Witness.{nobody, free_in, Rested}
-use Rattle.watch.specs.Turns.{weight, unstruck_at, count_met_at, Helps}
+use Rattle.watch.specs.Turns.{weight, unstruck_at, count_met_at}
 use Rattle.watch_tests.specs.Tests.{IsCut, Cuttable, CutBelow}
-use Rattle.watch.proofs.Beginning.{no_both}
 use Rattle.watch.proofs.Sums.{weighs-one, weighs-none, two-counts}
 use Rattle.watch.proofs.Weights.{weight-turn, count_turn}
-use Rattle.watch.proofs.Cuts.{cut-then, cut-count}
+use Rattle.watch.proofs.Cuts.{cut-then}
 use Rattle.watch.proofs.Loosening.{Loosening}
-
--- ---- whether a place hangs on a lost one
-
--- Its witness is unstruck and has one, too;
-pub cut-helped : {words row : List ℕ} {i w : ℕ} {a : Bool} → w ≡ get_or row i 0 → Helps words row w a → a ≡ true → IsCut words row i false
-cut-helped {words = words} {row = row} e H t = record {
-  yes = λ f. absurd (no_both f refl);
-  never = λ f u l. subst (λ (x : ℕ). (Unstruck words x) × (get_or row x 0 ≡ nobody → ⊥)) e (H.yes t);
-}
-
--- or it is not;
-pub cut-lost : {words row : List ℕ} {i w : ℕ} → w ≡ get_or row i 0 → Unstruck words i → w < length row → IsCut words row i true
-cut-lost e u l = record { yes = λ f. (u, omega (arith, e, l)); never = λ f. absurd (no_both refl f) }
-
--- or the place has no other for its witness;
-pub cut-alone : {words row : List ℕ} {i w : ℕ} → w ≡ get_or row i 0 → length row ≤ w → IsCut words row i false
-cut-alone e n = record { yes = λ f. absurd (no_both f refl); never = λ f u l. absurd (omega (arith, e, l, n)) }
-
--- or it is struck.
-pub cut-struck : {words row : List ℕ} {i : ℕ} → (Unstruck words i → ⊥) → IsCut words row i false
-cut-struck n = record { yes = λ f. absurd (no_both f refl); never = λ f u l. absurd (n u) }
 
 -- ---- the pass, place by place
 
@@ -219,17 +197,7 @@ cut-done over C = record {
 
 module _ {words old row before log : List ℕ} {M : ℕ → ℕ → Type 0} {from m tail h : ℕ} (R : Rested words old M before from m)
     (L : Loosening words old row before log m tail h) where
-  -- A pass may be made,
-  pub loosening-cut : length before ≤ most_states → Cuttable words row log tail
-  loosening-cut most = record {
-    few = omega (arith, L.cut.long, R.pointed.few);
-    in_words = omega (arith, L.cut.long, R.log_is.in_words);
-    room = let b : free_in words (length row) ≡ free_in words (length old) = ap (λ (x : ℕ). free_in words x) L.cut.long in
-        omega (arith, b, R.log_is.count, cut-count R.log_is R.helped L.cut, L.cut.log_long, R.log_is.in-log);
-    log_few = omega (arith, L.cut.log_long, most);
-  }
-
-  -- and then all turns up to where it began are done.
+  -- After a pass all turns up to where it began are done.
   pub loosening-pass : {row' log' : List ℕ} {tail' : ℕ} → CutBelow words row row' log log' tail tail' (length row)
       → Loosening words old row' before log' m tail' tail
   loosening-pass {row' = row'} {log' = log'} {tail' = tail'} C = record {

@@ -1,4 +1,5 @@
 -- The line of those who watch by tests: filling it, and bringing places to its front by letting two change. Assumes nothing.
+use Rattle.std.specs.List.{SwappedAt}
 use mathlib.Core.Path.{◌≡◌, refl, sym, ap, subst, ◌∙◌}
 use mathlib.Core.Logic.{◌⊎◌, inl, inr}
 use mathlib.Core.List.{List}
@@ -14,24 +15,9 @@ use Rattle.watch_tests.specs.Tests.{Brought, Fronted, Copied, Ranked, Pending}
 
 -- ---- two numbers of the line change places
 
--- What two writes do.
-pub brought-set : (line : List ℕ) (n g : ℕ) → n < length line → g < length line
-    → Brought line (set (set line g (get_or line n 0)) n (get_or line g 0)) n g
-brought-set line n g a b = record {
-  long = length-set (set line g (get_or line n 0)) n (get_or line g 0) ∙ length-set line g (get_or line n 0);
-  here = first;
-  there = by (ℕ_discrete g n);
-  other = λ s p q. get_or-set_other (set line g (get_or line n 0)) n s (get_or line g 0) 0 p ∙ get_or-set_other line g s (get_or line n 0) 0 q;
-}
-  where
-    first : get_or (set (set line g (get_or line n 0)) n (get_or line g 0)) n 0 ≡ get_or line g 0
-    first = get_or-set_same (set line g (get_or line n 0)) n (get_or line g 0) 0 (let e = length-set line g (get_or line n 0) in omega arith)
-
-    by : Dec (g ≡ n) → get_or (set (set line g (get_or line n 0)) n (get_or line g 0)) g 0 ≡ get_or line n 0
-    by (yes q) =
-        ap (λ (x : ℕ). get_or (set (set line g (get_or line n 0)) n (get_or line g 0)) x 0) q ∙ first ∙ ap (λ (x : ℕ). get_or line x 0) q
-    by (no q) =
-        get_or-set_other (set line g (get_or line n 0)) n g (get_or line g 0) 0 q ∙ get_or-set_same line g (get_or line n 0) 0 b
+-- What swapping two does.
+pub brought-swap : {before line : List ℕ} {n g : ℕ} → SwappedAt before line n g → length line ≡ length before → Brought before line n g
+brought-swap S long = record { long = long; here = S.0 0; there = S.1 0; other = λ s p q. S.2 s 0 p q }
 
 module _ {before line : List ℕ} {n g : ℕ} (B : Brought before line n g) (after : n ≤ g) where
   -- Who stood behind the first n stands behind one more, unless it is the one brought.
@@ -77,44 +63,6 @@ module _ {before line : List ℕ} {n g : ℕ} (B : Brought before line n g) (aft
 
 -- ---- copying the log's places
 
--- At first none is copied;
-pub copied_none : (log : List ℕ) (m : ℕ) (line : List ℕ) (n : ℕ) → Copied log m m line line n n
-copied_none log m line n = record {
-  long = refl;
-  kept = λ s h. refl;
-  grows = omega arith;
-  count = omega arith;
-  same = λ s h. absurd (omega arith);
-}
-
--- then one more at a time,
-pub copied_more : {log : List ℕ} {m g : ℕ} {before line : List ℕ} {n k : ℕ} → Copied log m g before line n k → k < length line
-    → Copied log m (g + 1) before (set line k (get_or log g 0)) n (k + 1)
-copied_more {log = log} {m = m} {g = g} {line = line} {n = n} {k = k} C inside = record {
-  long = length-set line k (get_or log g 0) ∙ C.long;
-  kept = λ s h. get_or-set_other line k s (get_or log g 0) 0 (λ q. let a = C.grows in omega arith) ∙ C.kept s h;
-  grows = let a = C.grows in omega arith;
-  count = let a = C.count in omega arith;
-  same = λ s h. at s h (ℕ_discrete (n + s) k);
-}
-  where
-    at : (s : ℕ) → n + s < k + 1 → Dec (n + s ≡ k) → get_or (set line k (get_or log g 0)) (n + s) 0 ≡ get_or log (m + s) 0
-    at s h (yes q) =
-        let e : g ≡ m + s = let a = C.count in omega arith in
-        ap (λ (x : ℕ). get_or (set line k (get_or log g 0)) x 0) q ∙ get_or-set_same line k (get_or log g 0) 0 inside ∙ ap (λ (x : ℕ). get_or log x 0)
-        e
-    at s h (no q) = get_or-set_other line k (n + s) (get_or log g 0) 0 q ∙ C.same s (omega arith)
-
--- up to the last.
-pub copied-done : {log : List ℕ} {m g tail : ℕ} {before line : List ℕ} {n k : ℕ} → Copied log m g before line n k → g ≤ tail → tail ≤ g
-    → Copied log m tail before line n k
-copied-done {log = log} {m = m} {before = before} {line = line} {n = n} {k = k} C a b =
-    let e = same a b in
-    subst (λ (x : ℕ). Copied log m x before line n k) e C
-  where
-    same : {g tail : ℕ} → g ≤ tail → tail ≤ g → g ≡ tail
-    same a b = omega arith
-
 -- a line's first n places are unstruck and have a witness
 abbrev pub Front : (words row line : List ℕ) (n : ℕ) → Type 0
 Front words row line n =
@@ -157,3 +105,41 @@ fronted-pending {line = line} {line' = line'} {n = n} M F C i j a b z y l f o = 
   where
     still : Between line 0 n j → Between line' 0 n j
     still (s, c, d, e) = (s, c, d, C.kept s d ∙ e)
+
+-- At first none is copied;
+pub copied_none : (log : List ℕ) (m : ℕ) (line : List ℕ) (n : ℕ) → Copied log m m line line n n
+copied_none log m line n = record {
+  long = refl;
+  kept = λ s h. refl;
+  grows = omega arith;
+  count = omega arith;
+  same = λ s h. absurd (omega arith);
+}
+
+-- then one more at a time,
+pub copied_more : {log : List ℕ} {m g : ℕ} {before line : List ℕ} {n k : ℕ} → Copied log m g before line n k → k < length line
+    → Copied log m (g + 1) before (set line k (get_or log g 0)) n (k + 1)
+copied_more {log = log} {m = m} {g = g} {line = line} {n = n} {k = k} C inside = record {
+  long = length-set line k (get_or log g 0) ∙ C.long;
+  kept = λ s h. get_or-set_other line k s (get_or log g 0) 0 (λ q. let a = C.grows in omega arith) ∙ C.kept s h;
+  grows = let a = C.grows in omega arith;
+  count = let a = C.count in omega arith;
+  same = λ s h. at s h (ℕ_discrete (n + s) k);
+}
+  where
+    at : (s : ℕ) → n + s < k + 1 → Dec (n + s ≡ k) → get_or (set line k (get_or log g 0)) (n + s) 0 ≡ get_or log (m + s) 0
+    at s h (yes q) =
+        let e : g ≡ m + s = let a = C.count in omega arith in
+        ap (λ (x : ℕ). get_or (set line k (get_or log g 0)) x 0) q ∙ get_or-set_same line k (get_or log g 0) 0 inside ∙ ap (λ (x : ℕ). get_or log x 0)
+        e
+    at s h (no q) = get_or-set_other line k (n + s) (get_or log g 0) 0 q ∙ C.same s (omega arith)
+
+-- up to the last.
+pub copied-done : {log : List ℕ} {m g tail : ℕ} {before line : List ℕ} {n k : ℕ} → Copied log m g before line n k → g ≤ tail → tail ≤ g
+    → Copied log m tail before line n k
+copied-done {log = log} {m = m} {before = before} {line = line} {n = n} {k = k} C a b =
+    let e = same a b in
+    subst (λ (x : ℕ). Copied log m x before line n k) e C
+  where
+    same : {g tail : ℕ} → g ≤ tail → tail ≤ g → g ≡ tail
+    same a b = omega arith

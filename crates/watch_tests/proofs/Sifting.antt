@@ -3,26 +3,23 @@
 use mathlib.Core.Path.{◌≡◌, refl, sym, ap, subst, ◌∙◌}
 use mathlib.Core.Logic.{◌⊎◌, inl, inr}
 use mathlib.Core.List.{List}
-use Prim.Native.Nat.{ℕ, suc, ◌+◌, ◌-◌, ◌≤◌, ◌<◌}
-use native.Mathlib.Decide.{ℕ_discrete, dec_lt}
+use Prim.Native.Nat.{ℕ, suc, ◌+◌, ◌≤◌, ◌<◌}
+use native.Mathlib.Decide.{ℕ_discrete}
 use native.Mathlib.Omega.{arith}
 use lib.ListN.{length, get_or, set, length-set, replicate, length-replicate, get_or-replicate}
-use lib.Seq.{get_or-set_same, get_or-set_other, set_out}
+use lib.Seq.{get_or-set_same, get_or-set_other}
 use Rattle.ground.specs.Listed.{Between}
 use Rattle.meaning.specs.Promises.{most_states}
 use Rattle.rules_signs.specs.Signs.{Signed}
 use Rattle.distances.specs.Far.{Unstruck}
-use Rattle.watch.specs.Witness.{nobody, Hangs, Rehung}
-use Rattle.watch.specs.Turns.{HelperFor, found, not_found}
+use Rattle.watch.specs.Witness.{nobody, Hangs}
+use Rattle.std.proofs.Common.{Some, None}
+use Rattle.watch.specs.Turns.{HelperFor}
 use Rattle.watch_tests.specs.Tests.{Brought, Ranked, Pending, Shut, Seen, Noted, Spreading, Testable}
 use Rattle.watch.proofs.Hooked.{Hooks, as_was, hooked, hangs-hooked}
 use Rattle.watch_tests.proofs.Ranking.{brought-behind, brought-front, brought-here, brought-later, brought-from, brought-tested}
 
 -- ---- rows that differ only in whom places hang on
-
--- A row differs from itself in nothing.
-pub hangs-self : {words old row : List ℕ} {M : ℕ → ℕ → Type 0} → Hangs words old row M → Hangs words row row M
-hangs-self H = record { long = refl; pointed = H.pointed; hung = H.hung; own = λ i h. (λ e. e, λ e. e); only = λ i h e. e }
 
 -- Two such changes are one.
 pub hangs-then : {words old row row' : List ℕ} {M : ℕ → ℕ → Type 0} → Hangs words old row M → Hangs words row row' M
@@ -34,13 +31,6 @@ hangs-then H K = record {
   own = λ i h. let a = K.own i h in let b = H.own i (let e = K.long in omega arith) in (λ e. b.0 (a.0 e), λ e. a.1 (b.1 e));
   only = λ i h e. H.only i (let l = K.long in omega arith) (K.only i h e);
 }
-
--- So is a change and a rehanging.
-pub rehung-then : {words old row row' : List ℕ} {M : ℕ → ℕ → Type 0} → Hangs words old row M → Rehung words row row' M
-    → Rehung words old row' M
-rehung-then H R =
-    let K = hangs-then H (record { long = R.long; pointed = R.pointed; hung = R.hung; own = R.own; only = R.only }) in
-    record { long = K.long; pointed = K.pointed; hung = K.hung; own = K.own; only = K.only; closed = R.closed }
 
 -- ---- a place hangs, and is brought forward
 
@@ -139,23 +129,12 @@ pub record AskedOn (words old row : List ℕ) (M : ℕ → ℕ → Type 0) (befo
   pub within : g ≤ k
   pub waits : WaitsOn words row M line n g k
 
-pub asked-on-none : {words row : List ℕ} {M : ℕ → ℕ → Type 0} {line : List ℕ} {k : ℕ} → Hangs words row row M → Ranked words row line 0 k
-    → AskedOn words row row M line line 0 0 k
-asked-on-none H R = record {
-  hangs = H;
-  ranked = R;
-  line_long = refl;
-  ordered = omega arith;
-  within = omega arith;
-  waits = λ i j a b z y l f o. inr (R.alone i a z f);
-}
-
 module _ {words old row : List ℕ} {M : ℕ → ℕ → Type 0} {before line : List ℕ} {n g k : ℕ}
     (A : AskedOn words old row M before line n g k) where
   -- A place that found a helper hangs on it, and is brought forward.
-  pub asked-on-more : {line' : List ℕ} {j : ℕ} → g < k → j < length row → HelperFor words row M (get_or line g 0) j → Brought line line' n g
+  pub asked-on-more : {line' : List ℕ} {j : ℕ} → g < k → HelperFor words row M (get_or line g 0) (Some j) → Brought line line' n g
       → AskedOn words old (set row (get_or line g 0) j) M before line' (n + 1) (g + 1) k
-  asked-on-more {line' = line'} {j = j} more below F B = record {
+  asked-on-more {line' = line'} {j = j} more F B = record {
     hangs = hangs-more A.hangs K A.ordered B;
     ranked = ranked-more A.hangs K A.ordered B more A.ranked;
     line_long = B.long ∙ A.line_long;
@@ -164,20 +143,16 @@ module _ {words old row : List ℕ} {M : ℕ → ℕ → Type 0} {before line : 
     waits = waits';
   }
     where
-      hooking : HelperFor words row M (get_or line g 0) j → Hooking words row M line g (get_or line g 0) j
-      hooking (found z f a l y o) = record {
+      K : Hooking words row M line g (get_or line g 0) j
+      K = record {
         here = refl;
         inside = (A.ranked.places g more).0;
-        lone = f;
-        below = a;
-        free = y;
-        has = o;
-        leads = l;
+        lone = F.1;
+        below = F.2.inside;
+        free = F.2.unstruck;
+        has = F.2.helped;
+        leads = F.2.moves;
       }
-      hooking (not_found e none) = absurd (omega arith)
-
-      K : Hooking words row M line g (get_or line g 0) j
-      K = hooking F
 
       waits' : WaitsOn words (set row (get_or line g 0) j) M line' (n + 1) (g + 1) k
       waits' a b p q z y l f o = by (ℕ_discrete b (get_or line g 0))
@@ -198,9 +173,8 @@ module _ {words old row : List ℕ} {M : ℕ → ℕ → Type 0} {before line : 
               (λ d. o (get_or-set_other row (get_or line g 0) b j 0 t ∙ d)))
 
   -- One without a helper moves to no place with a witness.
-  pub asked-on-past : {j : ℕ} → g < k → length row ≤ j → HelperFor words row M (get_or line g 0) j
-      → AskedOn words old row M before line n (g + 1) k
-  asked-on-past {j = j} more over F = record {
+  pub asked-on-past : g < k → HelperFor words row M (get_or line g 0) None → AskedOn words old row M before line n (g + 1) k
+  asked-on-past more F = record {
     hangs = A.hangs;
     ranked = A.ranked;
     line_long = A.line_long;
@@ -210,10 +184,9 @@ module _ {words old row : List ℕ} {M : ℕ → ℕ → Type 0} {before line : 
   }
     where
       none : (a b : ℕ) → b < length row → Unstruck words a → Unstruck words b → M a b → get_or row a 0 ≡ nobody → (get_or row b 0 ≡ nobody → ⊥)
-          → get_or line g 0 ≡ a → HelperFor words row M (get_or line g 0) j → ⊥
-      none a b q z y l f o e (found z' f' c l' y' o') = omega arith
-      none a b q z y l f o e (not_found d no_one) =
-          no_one (ap (λ (x : ℕ). get_or words x 0) e ∙ z) (ap (λ (x : ℕ). get_or row x 0) e ∙ f) b q (subst (λ (x : ℕ). M x b) (sym e) l) y o
+          → get_or line g 0 ≡ a → ⊥
+      none a b q z y l f o e =
+          F (ap (λ (x : ℕ). get_or words x 0) e ∙ z) (ap (λ (x : ℕ). get_or row x 0) e ∙ f) b q (subst (λ (x : ℕ). M x b) (sym e) l) y o
 
       on : (a b : ℕ) → b < length row → Unstruck words a → Unstruck words b → M a b → get_or row a 0 ≡ nobody → (get_or row b 0 ≡ nobody → ⊥)
           → Between line 0 n b ⊎ Between line g k a → Between line 0 n b ⊎ Between line (g + 1) k a
@@ -221,20 +194,8 @@ module _ {words old row : List ℕ} {M : ℕ → ℕ → Type 0} {before line : 
       on a b q z y l f o (inr (s, c, d, e)) = by (ℕ_discrete s g)
         where
           by : Dec (s ≡ g) → Between line 0 n b ⊎ Between line (g + 1) k a
-          by (yes t) = absurd (none a b q z y l f o (ap (λ (x : ℕ). get_or line x 0) (sym t) ∙ e) F)
+          by (yes t) = absurd (none a b q z y l f o (ap (λ (x : ℕ). get_or line x 0) (sym t) ∙ e))
           by (no t) = inr (s, omega arith, d, e)
-
-  -- After the last, who waits waits for a place in front.
-  pub asked-on-done : k ≤ g → Spreading words old row M line 0 n k
-  asked-on-done over = record {
-    hangs = A.hangs;
-    ranked = A.ranked;
-    pending = λ i j a b z y l f o. only-front (A.waits i j a b z y l f o);
-  }
-    where
-      only-front : {i j : ℕ} → Between line 0 n j ⊎ Between line g k i → Between line 0 n j
-      only-front (inl s) = s
-      only-front (inr (t, a, b, e)) = absurd (omega arith)
 
 -- ---- sifting, place by place behind the front
 
@@ -247,19 +208,6 @@ pub record SiftedTo (words old row : List ℕ) (M : ℕ → ℕ → Type 0) (bef
   pub ordered : n ≤ g
   pub within : g ≤ k
   pub tested : (s : ℕ) → n ≤ s → s < g → get_or row (get_or line s 0) 0 ≡ nobody → M (get_or line s 0) (get_or before head 0) → ⊥
-
-pub sifted-none : {words old row : List ℕ} {M : ℕ → ℕ → Type 0} {line : List ℕ} {head from k : ℕ}
-    → Spreading words old row M line head from k
-    → SiftedTo words old row M line line head from from from k
-sifted-none S = record {
-  spreading = S;
-  line_long = refl;
-  at_head = refl;
-  begun = omega arith;
-  ordered = omega arith;
-  within = S.ranked.ordered;
-  tested = λ s a b. absurd (omega arith);
-}
 
 module _ {words old row : List ℕ} {M : ℕ → ℕ → Type 0} {before line : List ℕ} {head from n g k : ℕ}
     (S : SiftedTo words old row M before line head from n g k) (front : head < from) where
@@ -343,10 +291,6 @@ module _ {words old row : List ℕ} {M : ℕ → ℕ → Type 0} {before line : 
 -- ---- spreading, place by place of the line's front
 
 module _ {words old row : List ℕ} {M : ℕ → ℕ → Type 0} {line : List ℕ} {head n k : ℕ} (S : Spreading words old row M line head n k) where
-  -- The row as it is may be sifted.
-  pub spreading-self : Spreading words row row M line head n k
-  spreading-self = record { hangs = hangs-self S.hangs; ranked = S.ranked; pending = S.pending }
-
   -- A place to which nobody moves who stands alone need not be waited for.
   pub spreading-next : Shut words row M (get_or line head 0) → Spreading words old row M line (head + 1) n k
   spreading-next shut = record {
@@ -362,34 +306,6 @@ module _ {words old row : List ℕ} {M : ℕ → ℕ → Type 0} {line : List �
           at : Dec (s ≡ head) → Between line (head + 1) n j
           at (yes q) = absurd (shut i a z f (subst (M i) (sym e ∙ ap (λ (x : ℕ). get_or line x 0) q) l))
           at (no q) = (s, omega arith, d, e)
-
-  -- Once all of the front were spread from, nobody waits.
-  pub spreading-done : n ≤ head → Rehung words old row M
-  spreading-done over = record {
-    long = S.hangs.long;
-    pointed = S.hangs.pointed;
-    hung = S.hangs.hung;
-    own = S.hangs.own;
-    only = S.hangs.only;
-    closed = λ i j a b z y l f o. none-waits (S.pending i j a b z y l f o);
-  }
-    where
-      none-waits : {j : ℕ} → Between line head n j → ⊥
-      none-waits (t, a, b, e) = omega arith
-
-  -- Where all of the line have a witness, nobody waits, either.
-  pub spreading-all : n ≡ k → Rehung words old row M
-  spreading-all e = record {
-    long = S.hangs.long;
-    pointed = S.hangs.pointed;
-    hung = S.hangs.hung;
-    own = S.hangs.own;
-    only = S.hangs.only;
-    closed = λ i j a b z y l f o. none-waits (S.ranked.alone i a z f);
-  }
-    where
-      none-waits : {i : ℕ} → Between line n k i → ⊥
-      none-waits (t, a, b, same) = omega arith
 
 -- What was sifted since is part of the whole.
 pub spreading-then : {words old row row' : List ℕ} {M : ℕ → ℕ → Type 0} {line : List ℕ} {head n k : ℕ} → Hangs words old row M
@@ -429,25 +345,6 @@ seen-noted {words = words} {row = row} {M = M} {before = before} {seen = seen} {
         → Shut words row M s
     by q s h (inl e) is l = S.shut q s (omega (arith, h, N.long)) (sym e ∙ is) l
     by q s h (inr e) is l = let same : t ≡ s = omega (arith, e, is) in subst (λ (x : ℕ). Shut words row M x) same shut-now
-
--- Where few are left nothing is noted,
-pub noted-none : (seen : List ℕ) (t : ℕ) → Noted seen seen t
-noted-none seen t = record { long = refl; each = λ q. inl refl }
-
--- and else a write notes it.
-pub noted-set : (seen : List ℕ) (p t x : ℕ) → x ≡ suc t → Noted seen (set seen p x) t
-noted-set seen p t x is = record { long = length-set seen p x; each = λ q. by q (ℕ_discrete q p) (dec_lt p (length seen)) }
-  where
-    by : (q : ℕ) → Dec (q ≡ p) → Dec (p < length seen) → (get_or (set seen p x) q 0 ≡ get_or seen q 0) ⊎ (get_or (set seen p x) q 0 ≡ suc t)
-    by q (no e) d = inl (get_or-set_other seen p q x 0 e)
-    by q (yes e) (yes h) = inr (ap (λ (y : ℕ). get_or (set seen p x) y 0) e ∙ get_or-set_same seen p x 0 h ∙ is)
-    by q (yes e) (no h) = inl (ap (λ (l : List ℕ). get_or l q 0) (set_out seen p x (omega arith)))
-
--- Nobody who stands alone moves to place t if whoever does moves to a noted place, too.
-pub seen-shut : {words row : List ℕ} {M : ℕ → ℕ → Type 0} {seen : List ℕ} (q t noted place : ℕ) → q < length seen → noted ≡ get_or seen q 0
-    → 0 < noted
-    → place ≡ noted - 1 → place < length row → ((i : ℕ) → i < length row → M i t → M i place) → Seen words row M seen → Shut words row M t
-seen-shut q t noted place h e some is l stricter S i k u f m = S.shut q place h (omega (arith, e, some, is)) l i k u f (stricter i k m)
 
 -- The moves can be tested as before.
 pub testable-same : {book table words row row' signs line line' : List ℕ} {k : ℕ} → Testable book table words row signs line k

@@ -4,43 +4,22 @@ use mathlib.Core.Path.{◌≡◌, refl, sym, ap, subst, ◌∙◌}
 use mathlib.Core.Logic.{◌⊎◌, inl, inr}
 use mathlib.Core.Bool.{Bool, true, false}
 use mathlib.Core.List.{List}
+use Rattle.std.proofs.Common.{Some, None}
 use Prim.Native.Nat.{ℕ, ◌+◌, ◌≤◌, ◌<◌}
 use native.Mathlib.Decide.{ℕ_discrete}
 use native.Mathlib.Omega.{arith}
 use lib.ListN.{length, get_or, set}
-use Rattle.ground.specs.Says.{Says}
 use Rattle.meaning.specs.Promises.{most_states}
 use Rattle.rules.specs.Table.{To}
 use Rattle.rules_signs.specs.Signs.{Signed}
 use Rattle.distances.specs.Far.{Unstruck}
-use Rattle.watch.specs.Witness.{nobody, Rested, Hangs, Hangable}
-use Rattle.watch.specs.Turns.{IsSo, Helps, HelperIn, someone, no_one, Turnable, Redirected, Loosened, Line, Before, first}
-use Rattle.watch_tests.specs.Tests.{Anywhere, Fronted, Copied, Spreading, Testable, HelpsIt, JoinsIt, WatchingByTests}
-use Rattle.watch.proofs.Beginning.{no_both}
+use Rattle.watch.specs.Witness.{nobody, Hangs, Hangable}
+use Rattle.watch.specs.Turns.{IsSo, HelperIn, Turnable, Redirected, Loosened, Line, Before}
+use Rattle.watch_tests.specs.Tests.{Fronted, Copied, Spreading, Testable, HelpsIt, WatchingByTests}
 use Rattle.watch.proofs.Turning.{redirects-same, redirected-by, turned_none, place-past, place-room, place-more}
-use Rattle.watch.proofs.Phasing.{before-fresh, before-log, lost-hangable}
+use Rattle.watch.proofs.Phasing.{before-log, lost-hangable}
 use Rattle.watch_tests.proofs.Ranking.{copied-ranked, fronted-pending}
 use Rattle.watch_tests.proofs.Sifting.{testable-same}
-
--- ---- tests of pairs
-
--- Place j has a witness, and the move is tested; or it has none.
-pub helps-met : {words row : List ℕ} {M : ℕ → ℕ → Type 0} {i j : ℕ} {a b : Bool} → Helps words row j a → a ≡ true → Says (M i j) b
-    → HelpsIt words row M i j b
-helps-met H t S = record { yes = λ e. let u = H.yes t in (u.0, u.1, S.yes e); never = λ e z o l. S.never e l }
-
-pub helps-not : {words row : List ℕ} {M : ℕ → ℕ → Type 0} {i j : ℕ} {a : Bool} → Helps words row j a → a ≡ false
-    → HelpsIt words row M i j false
-helps-not H t = record { yes = λ e. absurd (no_both e refl); never = λ e z o l. H.never t z o }
-
--- Place i stands alone, and the move is tested; or it does not.
-pub joins-met : {words row : List ℕ} {M : ℕ → ℕ → Type 0} {i t : ℕ} {a b : Bool} → IsSo words row i nobody a → a ≡ true → Says (M i t) b
-    → JoinsIt words row M i t b
-joins-met H t S = record { yes = λ e. let u = H.yes t in (u.0, u.1, S.yes e); never = λ e z f l. S.never e l }
-
-pub joins-not : {words row : List ℕ} {M : ℕ → ℕ → Type 0} {i t : ℕ} {a : Bool} → IsSo words row i nobody a → a ≡ false
-    → JoinsIt words row M i t false
-joins-not H t = record { yes = λ e. absurd (no_both e refl); never = λ e z f l. H.never t z f }
 
 -- ---- seeking a helper, place by place
 
@@ -57,11 +36,11 @@ module _ (words row : List ℕ) (M : ℕ → ℕ → Type 0) (i : ℕ) where
           H.never f (ap (λ (x : ℕ). get_or words x 0) (sym q) ∙ z) (λ g. o (ap (λ (x : ℕ). get_or row x 0) q ∙ g)) (subst (M i) q l)
       by (no q) = N j (omega arith) z o l
 
-  pub seek_found : (j : ℕ) {b : Bool} → j < length row → HelpsIt words row M i j b → b ≡ true → HelperIn words row M i j
-  seek_found j h H t = let u = H.yes t in someone h u.2 u.0 u.1
+  pub seek_found : (j : ℕ) {b : Bool} → j < length row → HelpsIt words row M i j b → b ≡ true → HelperIn words row M i (Some j)
+  seek_found j h H t = let u = H.yes t in record { inside = h; moves = u.2; unstruck = u.0; helped = u.1 }
 
-  pub seek-all : (e : ℕ) → NoHelper words row M i e → length row ≤ e → HelperIn words row M i (length row)
-  seek-all e N over = no_one refl (λ j h l z o. N j (omega arith) z o l)
+  pub seek-all : (e : ℕ) → NoHelper words row M i e → length row ≤ e → HelperIn words row M i None
+  seek-all e N over = λ j h l z o. N j (omega arith) z o l
 
 -- ---- cutting off, place by place
 
@@ -104,18 +83,6 @@ module _ (words : List ℕ) (was to : ℕ) (old : List ℕ) (n : ℕ) (before : 
 
 -- ---- from part to part
 
--- For cutting off, the moves need not be known.
-pub rested-anywhere : {words row log : List ℕ} {M : ℕ → ℕ → Type 0} {from m : ℕ} → Rested words row M log from m
-    → Rested words row Anywhere log from m
-rested-anywhere R = record {
-  log_is = R.log_is;
-  since = R.since;
-  pointed = record { few = R.pointed.few; each = R.pointed.each; leads = λ i h l. tt };
-  chained = R.chained;
-  helped = R.helped;
-  noted = R.noted;
-}
-
 -- Who may hang anew hangs, as far as it has a witness.
 pub hangable-hangs : {words row log : List ℕ} {M : ℕ → ℕ → Type 0} {m tail : ℕ} → Hangable words row M log m tail → Hangs words row row M
 hangable-hangs H = record { long = refl; pointed = H.pointed; hung = H.hung; own = λ i h. (λ e. e, λ e. e); only = λ i h e. e }
@@ -145,33 +112,9 @@ cut-testable {book = book} {table = table} {signs = signs} B L S K = record {
 
 -- ---- the first phase
 
--- A row before its promise's first phase, wherever `from` is.
-pub watching-first : {book table words row signs log line : List ℕ} {m from word : ℕ} → m < from
-    → WatchingByTests book table words row signs log line m from word → WatchingByTests book table words row signs log line m (m + 1) word
-watching-first h W = record {
-  some = W.some;
-  signed = W.signed;
-  line_is = W.line_is;
-  log_few = W.log_few;
-  before = first (omega arith) (before-fresh h W.before);
-}
-
 module _ {book table words row signs log log' old line : List ℕ} {m from word tail n : ℕ}
     (W : WatchingByTests book table words row signs log old m from word)
     (L : Loosened words row row log log' m tail) (F : Fronted words row (length row) old line n) (within : n + tail ≤ m + length row) where
-  -- Who stands alone may be copied behind those that have a witness.
-  pub first-copy : (m ≤ tail) × (tail ≤ length log') × (n + tail ≤ m + length line) × (length log' ≤ most_states)
-      × (length line ≤ most_states)
-  first-copy =
-      let a = (before-log W.before).in-log in
-      let b = L.log_long in
-      let c = F.long in
-      let d = W.line_is.in_line in
-      let e = W.log_few in
-      let f = W.line_is.line_few in
-      let g = L.within in
-      (L.grows, omega arith, omega arith, omega arith, omega arith)
-
   -- Then the line may be spread from.
   module _ {line' : List ℕ} {k : ℕ} (C : Copied log' m tail line line' n k) where
     pub first-testable : Testable book table words row signs line' k

@@ -1,6 +1,6 @@
 -- `clash_choice::write_chosen`: limits and first rules, the chosen rules and the rest stand in the buffer, and the header in front of them.
 -- Assumes nothing.
-use mathlib.Core.Path.{◌≡◌, refl, sym, subst}
+use mathlib.Core.Path.{refl, sym, subst}
 use Prim.Native.Nat.{ℕ, ◌≤◌}
 use borrow.Author.Rules.{rules}
 use native.Mathlib.Omega.{arith}
