@@ -40,8 +40,8 @@ impl<'a> Book<'a> {
         right.held & right.unheld == 0
     }
 
-    // Gathers the clauses that a state after s must make true, without those that every state makes true, into a slice of GATHER_SIZE numbers;
-    // how many there are. Each clause costs something at every state that is walked or counted.
+    // Gathers the clauses that a state after s must make true, without those that every state makes true, into a slice of GATHER_SIZE
+    // numbers; how many there are. Each clause costs something at every state that is walked or counted.
     pub fn gather_next(&self, s: State, clauses: &mut [State]) -> usize
         requires { length clauses.old ≡ gather_size }
         ensures { NextClauses self.now s clauses.new result × (length clauses.new ≡ gather_size) }

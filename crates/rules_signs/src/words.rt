@@ -26,7 +26,7 @@ fn asks(book: &Book, ahead: bool, i: usize, s: State) -> bool
     }
 }
 
-// The word with bit b set. `ground::marks::mark` is the same for words of 32 bits: one for both would need a trait of its own, and be longer.
+// The word with bit b set. `ground::marks::mark` is the same for words of 32 bits: one for both would need a trait, and be longer.
 fn mark(word: u64, b: usize) -> u64
     requires { b < word_size }
     ensures { result ≡ bit_or word (2 ^ b) }

@@ -39,8 +39,8 @@ pub fn check_strikes_bytes(sheet: &[u8], states: &[u8], words: &[u8]) -> u32
     check(sheet, states, words).answer
 }
 
-// The sheet first, then the paper. The run checker has the same for its paper: one for both would be told how a paper is accepted, and would
-// be no plainer than these two cases.
+// The sheet first, then the paper. The run checker has the same for its paper: one for both would be told how a paper is accepted, and
+// would be no plainer than these two cases.
 fn check<S: Part, W: Part>(sheet: &[u8], states: S, words: W) -> Verdict
     ensures { Placed sheet.now
         (PaperChecked sheet.now (S.whole states) (W.whole words) (S.items states) (W.items words))
