@@ -1,5 +1,5 @@
 -- What a good sheet is, for the crates above: laws of the meaning (crates/meaning/specs/Sheet.antt), none of the reader's code.
---   answers       told: good, or refused by this number and this place (Refusal); placed-good, placed-refused
+--   answers       told: good, or refused by this number and this place (Refusal); placed-good, placed-refused; read-answer-unique
 --   the sheet     Header, good-header: lengths, counts, and that each section reads without fault to the sheet's end
 --   a section     record-good and limit-record .. promise-record (the i-th record), after_more, after-within, length-bodies, bodies-at
 --   a record      limit-good, first_good, step-good, promise-good: its shape and its lists; names-letter, not_least: what a literal names
@@ -95,6 +95,11 @@ pub placed-refused : (s : List ℕ) {v : Verdict} → Refusal s v → ReadPlaced
 unfolding ReadPlaced ReadSays read_number place_of
 placed-refused s bad =
     record { number = bad.number ∙ ap read_number (sym bad.first); where_met = bad.place ∙ ap place_of (sym bad.first) }
+
+-- Two answers that meet the reader's promise are the same answer.
+pub read-answer-unique : (s : List ℕ) {r r' : Result (Unit {0}) F.Fault} → r ≡ answer_of (first_fault s) → r' ≡ answer_of (first_fault s)
+    → r ≡ r'
+read-answer-unique s e e' = e ∙ sym e'
 
 -- ---- checks in a row
 

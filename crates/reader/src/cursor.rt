@@ -159,7 +159,7 @@ impl Cursor {
     }
 
     // The sheet's end: no byte stands after the last record.
-    fn end(self, s: &[u8]) -> Result<Cursor, Fault>
+    pub fn end(self, s: &[u8]) -> Result<Cursor, Fault>
         ensures { result ≡ end_step s.now self.at }
     {
         let at = self.at;
