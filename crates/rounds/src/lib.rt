@@ -93,7 +93,7 @@ pub fn begin_rows(book: &Book, table: &[State], r: usize, wit: &mut [u16])
 }
 
 // How many phases in a row have struck nothing, after one that struck n.
-fn rested(quiet: usize, n: usize) -> usize
+pub fn rested(quiet: usize, n: usize) -> usize
     requires { quiet ≤ 16 }
     ensures { ((n ≡ 0) × (result ≡ suc quiet)) ⊎ ((n ≡ 0 → ⊥) × (result ≡ 0)) }
 {
@@ -101,7 +101,7 @@ fn rested(quiet: usize, n: usize) -> usize
 }
 
 // The reason of the next phase.
-fn reason_after(reason: usize, p: usize) -> usize
+pub fn reason_after(reason: usize, p: usize) -> usize
     requires { (reason ≤ p) × (p ≤ 16) }
     ensures { ((reason < p) × (result ≡ suc reason)) ⊎ ((reason ≡ p) × (result ≡ 0)) }
 {
@@ -109,7 +109,7 @@ fn reason_after(reason: usize, p: usize) -> usize
 }
 
 // 32 times the round of the next phase.
-fn base_after(base: u32, reason: usize, p: usize) -> u32
+pub fn base_after(base: u32, reason: usize, p: usize) -> u32
     requires { (base < 1000000) × (reason ≤ p) }
     ensures { ((reason < p) × (result ≡ base)) ⊎ ((reason ≡ p) × (result ≡ base + 32)) }
 {
