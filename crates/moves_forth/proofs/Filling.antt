@@ -104,6 +104,15 @@ filled-back P at to moves cells long same f =
     subst (λ (l : List ℕ). Filled P at (cells_of moves) l to) (sym (cells-back moves cells long same))
     (subst (λ (l : List ℕ). Filled P at l cells to) (cells-part moves) f)
 
+-- What stays in the lent cells stays in the list's cells.
+pub before-back : (at : ℕ) (moves cells : List ℕ) → length moves ≡ moves_size → length cells ≡ most_cells
+    → ((e : ℕ) → e < at → get_or cells e 0 ≡ get_or (take (links_from - cells_from) (drop cells_from moves)) e 0)
+    → (e : ℕ) → e < at → get_or (cells_of (cells_back moves cells)) e 0 ≡ get_or (cells_of moves) e 0
+before-back at moves cells long same kept e h =
+    ap (λ (l : List ℕ). get_or l e 0) (cells-back moves cells long same)
+    ∙ kept e h
+    ∙ ap (λ (l : List ℕ). get_or l e 0) (cells-part moves)
+
 -- ---- row after row
 
 -- the rows of the first i places stand below `at`

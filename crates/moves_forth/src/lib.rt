@@ -1,7 +1,7 @@
 // Moves forth: for each of a table's first r places a row of the places that it moves to, one row for each class of states.
 #![tactic(auto)]
 
-ghost use Rattle.std.specs.Prelude.{◌≡◌, true, ◌<◌, ◌≤◌, length, IfSome};
+ghost use Rattle.std.specs.Prelude.{◌≡◌, true, ℕ, ◌<◌, ◌≤◌, length, get_or, IfSome};
 ghost use Rattle.rules.specs.Book.{book_lawful};
 ghost use Rattle.table_lookup.specs.Lookup.{Sorted};
 ghost use Rattle.meaning.specs.Promises.{most_states};
@@ -25,11 +25,12 @@ const CELLS_EACH: usize = 4;
 const PLACES_EACH: usize = 4;
 
 // Writes from `at` on, ascending, the places below r where a listed state stands; the cell after the last one written, or none where there
-// is no room for all of them. A state is likely to stand one place past the last.
+// is no room for all of them. The cells before `at` stay as they were. A state is likely to stand one place past the last.
 fn look_up(table: &[State], r: usize, list: &[State], at: usize, cells: &mut [u16]) -> Option<usize>
     requires { Sorted table.now r × (r ≤ most_states) × Sorted list.now (length list.now) × (at ≤ length cells.old)
         × (length cells.old ≤ most_cells) }
-    ensures { IfSome result (λ to. Filled (Listed list.now (length list.now) table.now r) at cells.old cells.new to) }
+    ensures row { IfSome result (λ to. Filled (Listed list.now (length list.now) table.now r) at cells.old cells.new to) }
+    ensures before { (e : ℕ) → e < at → get_or cells.new e 0 ≡ get_or cells.old e 0 }
 {
     let mut to = at;
     let mut likely: usize = 0;
@@ -64,6 +65,7 @@ fn row(
         × (at ≤ most_cells) × (length moves.old ≡ moves_size) }
     ensures row { IfSome result (λ to. Filled (Nexts book.now table.now r s) at (cells_of moves.old)
         (cells_of moves.new) to) }
+    ensures before { (e : ℕ) → e < at → get_or (cells_of moves.new) e 0 ≡ get_or (cells_of moves.old) e 0 }
     ensures rest { CellsOnly moves.old moves.new }
 {
     let n = walk_listing::next_states(book, s, room);
