@@ -1,5 +1,5 @@
 -- The two ways of walking, along stored moves and by tests of pairs: what each has to be lent. Assumes nothing.
-use mathlib.Core.Path.{◌≡◌, sym, subst, subst₂}
+use mathlib.Core.Path.{◌≡◌}
 use mathlib.Core.Bool.{Bool, true}
 use mathlib.Core.List.{List}
 use Prim.Native.Nat.{ℕ, ◌*◌, ◌≤◌}
@@ -7,15 +7,13 @@ use native.Mathlib.Omega.{arith}
 use lib.ListN.{length, replicate, length-replicate}
 use Rattle.ground.proofs.Tests.{no_both}
 use Rattle.rules.specs.Book.{book_system}
-use Rattle.rules.specs.Table.{LawfulTable}
-use Rattle.rules_signs.specs.Signs.{head_size, Signed}
-use Rattle.rules_signs.proofs.Rowing.{lent-signs}
+use Rattle.rules_signs.specs.Signs.{Signed}
 use Rattle.moves_both.specs.Web.{StoredRows, none, both}
 use Rattle.sample_step.specs.Follow.{Followable}
 use Rattle.sample_step.proofs.Lent.{none-followable}
 use Rattle.sample_step.specs.Rows.{aims_of, LivableTable}
 use Rattle.sample_step.specs.Step.{Onward}
-use Rattle.sample_walk.specs.Walk.{Steerable, Walked}
+use Rattle.sample_walk.specs.Walk.{Steerable}
 use Rattle.sample_walk.proofs.Trails.{few-rows}
 
 -- Arrays of zeros for n places are room for the distances and the queue of r places. Their lengths come by a law; computed, they would cost
@@ -26,6 +24,13 @@ lent_rows {book = book} {r = r} t m n few rows = (
   omega (arith, length-replicate {A = ℕ} m 0, few-rows t n few),
   omega (arith, length-replicate {A = ℕ} n 0),
 )
+
+-- With such arrays, and with signs, the run may be walked by tests.
+pub tests-ready : {book table words signs : List ℕ} {r : ℕ} (m n : ℕ) → Steerable book table words r → Signed book table r signs → r ≤ n
+    → m ≡ 16 * n
+    → Steerable book table words r × (aims_of (book_system book) * r ≤ length (replicate {A = ℕ} m 0))
+    × (r ≤ length (replicate {A = ℕ} n 0)) × Signed book table r signs
+tests-ready m n A signed few rows = let room = lent_rows A.states m n few rows in (A, room.0, room.1, signed)
 
 -- the next moments and the distances can be found
 abbrev pub Ways : (book table : List ℕ) (r : ℕ) (forth back queue signs : List ℕ) → Type 0
