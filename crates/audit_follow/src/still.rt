@@ -10,8 +10,12 @@ fn standing(states: &[State], from: usize, s: State) -> usize
     requires { from ≤ length states.now }
     ensures { Standing states.now from s result }
 {
-    let rest = &states[from..];
-    rest.iter().position(|t| *t != s).unwrap_or(rest.len())
+    for i in from..states.len() {
+        if states[i] != s {
+            return i - from;
+        }
+    }
+    states.len() - from
 }
 
 // How many of the states from place i on come by one and the same move, where `count` states came before, the last of them `last`: as many
