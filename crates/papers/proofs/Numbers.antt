@@ -1,17 +1,18 @@
--- The numbers of a part in bytes, by their places: how many there are, and that each is that of its own bytes. Assumes nothing.
+-- The numbers of a part in bytes, by their places: how many there are, and that each is that of its own bytes; and that numbers which
+-- stand as they are follow. Assumes nothing.
 use mathlib.Core.Path.{◌≡◌, refl, sym, ◌∙◌, ap}
-use mathlib.Core.List.{List, [], ◌∷◌}
-use Prim.Native.Nat.{ℕ, zero, suc, ◌+◌, ◌*◌, ◌/◌, ◌%◌, ◌≤◌, ◌<◌}
+use mathlib.Core.List.{List, [], ◌∷◌, append-nil}
+use Prim.Native.Nat.{ℕ, zero, suc, ◌+◌, ◌-◌, ◌*◌, ◌/◌, ◌%◌, ◌≤◌, ◌<◌}
 use native.Mathlib.Nat.{add-zero, add_comm, mul-zero, mul-suc}
 use native.Mathlib.Omega.{arith}
 use borrow.Author.Tests.{eqb-true, eqb-false}
 use lib.Dec.{eqb}
-use lib.ListN.{length, take, drop, get_or, length-drop}
-use lib.Seq.{get_or-drop, drop-drop}
+use lib.ListN.{length, take, drop, get_or, length-append, length-drop, get_or-append}
+use lib.Seq.{get_or-append-add, get_or-drop, drop-drop}
 use Rattle.std.specs.Int.{w32, from_be_bytes}
 use Rattle.ground.specs.Says.{Says}
 use Rattle.meaning.specs.Promises.{Whole, big_endian, numbers_from, numbers_in, state_bytes}
-use Rattle.papers.specs.Paper.{in_bytes, whole_in}
+use Rattle.papers.specs.Paper.{in_bytes, whole_in, mixed}
 
 -- the i-th number of a width
 abbrev pub number_in : (width : ℕ) → List ℕ → ℕ → ℕ
@@ -77,3 +78,31 @@ in-bytes-at bytes i below =
 pub whole-says : (bytes : List ℕ) → Says (whole_in bytes) (eqb (length bytes % 4) 0)
 unfolding Whole state_bytes
 whole-says bytes = record { yes = λ t. eqb-true _ _ t; never = λ f h. eqb-false _ _ f h }
+
+-- ---- bytes, and then numbers
+
+module _ (bytes numbers : List ℕ) where
+  -- There are as many numbers as their width goes into the bytes, and those that follow.
+  pub mixed-length : length (mixed bytes numbers) ≡ length bytes / 4 + length numbers
+  mixed-length = length-append (in_bytes bytes) numbers ∙ ap (λ (n : ℕ). n + length numbers) (in-bytes-length bytes)
+
+  -- A number in bytes is that of its bytes.
+  pub mixed-in-bytes : (i : ℕ) → i < length bytes / 4 → get_or (mixed bytes numbers) i 0 ≡ number_in 4 bytes i
+  unfolding numbers_in state_bytes
+  mixed-in-bytes i below =
+      get_or-append (in_bytes bytes) numbers 0 i (omega (arith, below, in-bytes-length bytes))
+      ∙ numbers-from-at 4 (length bytes / 4) bytes i below
+
+  -- The numbers follow those in bytes.
+  pub mixed-after : (i : ℕ) → length bytes / 4 ≤ i → get_or (mixed bytes numbers) i 0 ≡ get_or numbers (i - length bytes / 4) 0
+  mixed-after i above =
+      let e : i ≡ length (in_bytes bytes) + (i - length bytes / 4) = omega (arith, above, in-bytes-length bytes) in
+      ap (λ (k : ℕ). get_or (mixed bytes numbers) k 0) e ∙ get_or-append-add (in_bytes bytes) numbers (i - length bytes / 4) 0
+
+-- With no numbers they are those in the bytes, and with no bytes the numbers.
+pub mixed-of-bytes : (bytes : List ℕ) → mixed bytes [] ≡ in_bytes bytes
+mixed-of-bytes bytes = append-nil (in_bytes bytes)
+
+pub mixed-of-numbers : (numbers : List ℕ) → mixed [] numbers ≡ numbers
+unfolding numbers_in numbers_from state_bytes
+mixed-of-numbers numbers = refl

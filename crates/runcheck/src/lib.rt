@@ -35,7 +35,7 @@ pub fn check_run_bytes(sheet: &[u8], states: &[u8], a: u32) -> u32
 }
 
 // The sheet first, then the paper.
-fn check<S: Part>(sheet: &[u8], states: S, a: u32) -> Verdict
+fn check<S: Part<State>>(sheet: &[u8], states: S, a: u32) -> Verdict
     ensures { Placed sheet.now (PaperChecked sheet.now (S.whole states) (S.items states) a)
         result.answer result.place }
 {
@@ -46,7 +46,7 @@ fn check<S: Part>(sheet: &[u8], states: S, a: u32) -> Verdict
 }
 
 // For a good sheet: whether no byte is left over, and the run is accepted.
-fn paper_accepted<S: Part>(sheet: &[u8], states: S, a: u32) -> bool
+fn paper_accepted<S: Part<State>>(sheet: &[u8], states: S, a: u32) -> bool
     requires { first_fault sheet.now ≡ none }
     ensures { Says (PaperAccepted (system_in sheet.now) (S.whole states) (S.items states) a) result }
 {
@@ -60,7 +60,7 @@ fn paper_accepted<S: Part>(sheet: &[u8], states: S, a: u32) -> bool
 }
 
 // Whether the run is accepted.
-fn accepted<S: Part>(book: &Book, states: S, a: usize) -> bool
+fn accepted<S: Part<State>>(book: &Book, states: S, a: usize) -> bool
     ensures { Says (RunAccepted (book_system book.now) (S.items states) a) result }
 {
     let count = states.len();
@@ -82,7 +82,7 @@ fn accepted<S: Part>(book: &Book, states: S, a: usize) -> bool
 }
 
 // Whether each state moves to the following one.
-fn moves_on<S: Part>(book: &Book, states: S) -> bool
+fn moves_on<S: Part<State>>(book: &Book, states: S) -> bool
     ensures { Says (MovesOn (book_system book.now) (S.items states)) result }
 {
     for i in 1..states.len() {
@@ -94,7 +94,7 @@ fn moves_on<S: Part>(book: &Book, states: S) -> bool
 }
 
 // Whether each promise is true in some state from a on.
-fn keeps_all<S: Part>(book: &Book, states: S, a: usize) -> bool
+fn keeps_all<S: Part<State>>(book: &Book, states: S, a: usize) -> bool
     ensures { Says (AllKept (book_system book.now) (S.items states) a) result }
 {
     for k in 0..book.promises() {
@@ -106,7 +106,7 @@ fn keeps_all<S: Part>(book: &Book, states: S, a: usize) -> bool
 }
 
 // Whether promise k is.
-fn keeps<S: Part>(book: &Book, states: S, a: usize, k: usize) -> bool
+fn keeps<S: Part<State>>(book: &Book, states: S, a: usize, k: usize) -> bool
     ensures { Says (KeptFrom (book_system book.now) (S.items states) a k) result }
 {
     for i in a..states.len() {

@@ -41,7 +41,7 @@ pub fn check_strikes_bytes(sheet: &[u8], states: &[u8], words: &[u8]) -> u32
 
 // The sheet first, then the paper. The run checker has the same for its paper: one for both would be told how a paper is accepted, and
 // would be no plainer than these two cases.
-fn check<S: Part, W: Part>(sheet: &[u8], states: S, words: W) -> Verdict
+fn check<S: Part<State>, W: Part<u32>>(sheet: &[u8], states: S, words: W) -> Verdict
     ensures { Placed sheet.now
         (PaperChecked sheet.now (S.whole states) (W.whole words) (S.items states) (W.items words))
         result.answer result.place }
@@ -53,7 +53,7 @@ fn check<S: Part, W: Part>(sheet: &[u8], states: S, words: W) -> Verdict
 }
 
 // For a good sheet: whether no byte is left over, and the list is accepted.
-fn paper_accepted<S: Part, W: Part>(sheet: &[u8], states: S, words: W) -> bool
+fn paper_accepted<S: Part<State>, W: Part<u32>>(sheet: &[u8], states: S, words: W) -> bool
     requires { first_fault sheet.now ≡ none }
     ensures { Says (PaperAccepted (system_in sheet.now) (S.whole states) (W.whole words) (S.items states) (W.items words))
         result }
@@ -68,7 +68,7 @@ fn paper_accepted<S: Part, W: Part>(sheet: &[u8], states: S, words: W) -> bool
 }
 
 // Whether the list is accepted.
-fn accepted<S: Part, W: Part>(book: &Book, states: S, words: W) -> bool
+fn accepted<S: Part<State>, W: Part<u32>>(book: &Book, states: S, words: W) -> bool
     ensures { Says (StrikesAccepted (book_system book.now) (S.items states) (W.items words)) result }
 {
     if words.len() != states.len() {
@@ -92,7 +92,7 @@ fn accepted<S: Part, W: Part>(book: &Book, states: S, words: W) -> bool
 }
 
 // Whether the words never fall.
-fn words_rise<W: Part>(words: W) -> bool
+fn words_rise<W: Part<u32>>(words: W) -> bool
     ensures { Says (Rising (W.items words)) result }
 {
     for i in 1..words.len() {
@@ -104,7 +104,7 @@ fn words_rise<W: Part>(words: W) -> bool
 }
 
 // Whether each word's remainder by 32 is at most the number of promises.
-fn reasons_fit<W: Part>(book: &Book, words: W) -> bool
+fn reasons_fit<W: Part<u32>>(book: &Book, words: W) -> bool
     ensures { Says (ReasonsFit (book_system book.now) (W.items words)) result }
 {
     let promises = book.promises();
@@ -118,7 +118,7 @@ fn reasons_fit<W: Part>(book: &Book, words: W) -> bool
 }
 
 // Whether each state is lawful.
-fn all_lawful<S: Part>(book: &Book, states: S) -> bool
+fn all_lawful<S: Part<State>>(book: &Book, states: S) -> bool
     ensures { Says (AllLawful (book_system book.now) (S.items states)) result }
 {
     for i in 0..states.len() {

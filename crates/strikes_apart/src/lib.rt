@@ -27,7 +27,7 @@ pub enum Looked {
 
 // True only if no state stands twice, of states that are numbers of letters. Windows are looked at in turn, from 0 up; windows that hold no
 // state are passed over.
-pub fn all_different<S: Part>(states: S) -> bool
+pub fn all_different<S: Part<State>>(states: S) -> bool
     requires { AllSmall (S.items states) }
     ensures { result ≡ true → Different (S.items states) }
 {
@@ -50,7 +50,7 @@ pub fn all_different<S: Part>(states: S) -> bool
 }
 
 // Looks at the states of the window that begins at low, with a mark for each.
-fn window<S: Part>(states: S, low: State) -> Looked
+fn window<S: Part<State>>(states: S, low: State) -> Looked
     requires { (low < all_states) × AllSmall (S.items states) }
     ensures { Window (S.items states) low result }
 {

@@ -18,7 +18,12 @@ use strikes_covers::nexts_within;
 
 // Whether every entry shows what it must. Of the words, the first `near` are smaller than the entry's, and the first `far` the same or
 // smaller; both only grow. `last` is the entry last counted for; `likely` one whose state is likely of the same class.
-pub fn entries_right<S: Part, W: Part>(book: &Book, states: S, words: W, distinct: bool) -> bool
+pub fn entries_right<S: Part<State>, W: Part<u32>>(
+    book: &Book,
+    states: S,
+    words: W,
+    distinct: bool,
+) -> bool
     requires { EntriesAsk book.now (S.items states) (W.items words) distinct }
     ensures { Says (EntriesOk (book_system book.now) (S.items states) (W.items words)) result }
 {
@@ -57,7 +62,7 @@ pub fn entries_right<S: Part, W: Part>(book: &Book, states: S, words: W, distinc
 
 // True only if the state of entry `likely` or of entry `last` stands before entry i and may move wherever that one's may: if the earlier
 // entry is right, there is nothing to count.
-fn follows<S: Part>(book: &Book, states: S, i: usize, likely: usize, last: usize) -> bool
+fn follows<S: Part<State>>(book: &Book, states: S, i: usize, likely: usize, last: usize) -> bool
     requires inside { i < length (S.items states) }
     ensures { result ≡ true → Follows book.now (S.items states) i }
 {
@@ -65,7 +70,7 @@ fn follows<S: Part>(book: &Book, states: S, i: usize, likely: usize, last: usize
 }
 
 // True only if entry k stands before entry i and its state may move wherever that one's may.
-fn shown_by<S: Part>(book: &Book, states: S, i: usize, k: usize) -> bool
+fn shown_by<S: Part<State>>(book: &Book, states: S, i: usize, k: usize) -> bool
     requires inside { i < length (S.items states) }
     ensures { result ≡ true → Follows book.now (S.items states) i }
 {
@@ -73,7 +78,7 @@ fn shown_by<S: Part>(book: &Book, states: S, i: usize, k: usize) -> bool
 }
 
 // From m on, how many words at the front are below the limit.
-fn reach<W: Part>(words: W, from: usize, limit: u64) -> usize
+fn reach<W: Part<u32>>(words: W, from: usize, limit: u64) -> usize
     requires { Under (W.items words) limit from }
     ensures { Reach (W.items words) limit result }
 {
@@ -94,7 +99,13 @@ fn places(reason: u32, near: usize, far: usize) -> usize
 }
 
 // The reason's promise is false in s, and every next state is in the front, which may be known.
-fn entry_right<S: Part>(book: &Book, s: State, reason: u32, front: &Front<S>, known: bool) -> bool
+fn entry_right<S: Part<State>>(
+    book: &Book,
+    s: State,
+    reason: u32,
+    front: &Front<S>,
+    known: bool,
+) -> bool
     requires { EntryAsks book.now s (S.items front.now.states) front.now.m known }
     ensures { Says (StateOk (book_system book.now) reason s (S.items front.now.states) front.now.m) result }
 {

@@ -1,5 +1,5 @@
 use Rattle.papers.proofs.Numbers.{whole-says}
-use Rattle.papers.proofs.RefSliceU8Part.is_whole.Goals as goal
+use Rattle.papers.proofs.RefSliceU8PartState.is_whole.Goals as goal
 
 pub returns : goal.returns
 returns c = whole-says c.args.self.now

@@ -1,7 +1,7 @@
 -- The four bytes of number i are there, and are that number's. Assumes nothing.
 use Rattle.std.proofs.Common.{arith, ◌∙◌}
 use Rattle.papers.proofs.Numbers.{room-for, in-bytes-at}
-use Rattle.papers.proofs.RefSliceU8Part.at.Goals as goal
+use Rattle.papers.proofs.RefSliceU8PartState.at.Goals as goal
 
 pub overflow_mul-at : goal.overflow_mul-at
 overflow_mul-at c = omega (arith, room-for c.args.self.now c.args.i c.requires)
