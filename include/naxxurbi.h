@@ -57,10 +57,10 @@
  * for the audit, 2 for the run checker, 1 for the reader and for either call of the serial lead; what the caller and signal handlers take
  * comes on top.
  * host/c/stack.c runs each call on a fenced stack of just this size, on sheets of 24 letters that are judged to the end and on a bad one,
- * and prints what they take. As rattle-kit-5b, the kit before this one, compiled them, the judge, a class, the strike checker, the audit,
- * the run checker and the reader took at most 1,033,784, 1,033,928, 16,244, 12,200, 7,192 and 280 bytes, naxxurbi_clash and
- * naxxurbi_check_clash 1,038,568 and 1,038,296. Of the audit's, 3,056 are the loader's, the first time that memcpy is called. The judge
- * takes nearly as much for a bad sheet (1,022,952 bytes then), since its rooms have a fixed size.
+ * and prints what they take. As rattle-kit-13f compiles them for x86-64, the judge, a class, the strike checker, the audit, the run
+ * checker and the reader take at most 1,031,856, 1,032,000, 14,329, 12,264, 6,957 and 108 bytes, naxxurbi_clash and naxxurbi_check_clash
+ * 1,036,528 each. Of the audit's, 3,184 are the loader's, the first time that memcpy is called. The judge takes nearly as much for a bad
+ * sheet (1,023,040 bytes), since its rooms have a fixed size.
  *
  * Link libnaxxurbi.a, which bin/install-naxxurbi makes and which has every call; a program takes in only the objects that it calls. Or
  * link the archives it is made of: libfirmware.a (both checkers), libjudge.a (naxxurbi_judge), libreader.a (naxxurbi_read,

@@ -70,7 +70,7 @@ fn what_is(book: &Book, count: u32, broke: bool, t: State) -> Option<Breach>
 }
 
 // The step rule that a breach is told with, the move being from s to t. Asked once in a log at most; kept out of line, so that the moments
-// that break nothing do not pass through what it leaves (tried: inline, a log without rules takes half as many steps again).
+// that break nothing do not pass through what it leaves (tried: inline, a log without rules takes a quarter more instructions).
 #[cold]
 #[inline(never)]
 fn rule_told(book: &Book, breach: Breach, s: State, t: State) -> u32

@@ -1,5 +1,5 @@
 // A part of a paper, its states or its words, is handed to the checkers as numbers, or as bytes, big-endian, or as bytes and then numbers.
-// The checkers are written once, for any part. States and words have each their own type and width: nobody else knows these.
+// The checkers are written once, for any part. Which type and width states and words have is known here alone.
 #![tactic(auto)]
 
 ghost use Rattle.std.specs.Prelude.{◌≡◌, List, ℕ, ◌<◌, length, get_or};
@@ -10,10 +10,10 @@ pub mod answer;
 
 pub use ground::State;
 
-// How many bytes a number takes: `state_bytes` and `word_bytes` of the meaning.
+// How many bytes a number takes.
 pub const NUMBER_BYTES: usize = 4;
 
-// How many bytes a state takes, and a word.
+// How many bytes a state takes, and a word: `state_bytes` and `word_bytes` of the meaning.
 pub const STATE_BYTES: usize = NUMBER_BYTES;
 
 pub const WORD_BYTES: usize = NUMBER_BYTES;
@@ -77,15 +77,15 @@ impl Part<State> for &[u8] {
     ghost whole = { λ s. whole_in s.now };
 
     fn is_whole(self) -> bool {
-        self.len() % NUMBER_BYTES == 0
+        self.len() % STATE_BYTES == 0
     }
 
     fn len(self) -> usize {
-        self.len() / NUMBER_BYTES
+        self.len() / STATE_BYTES
     }
 
     fn at(self, i: usize) -> State {
-        let at = NUMBER_BYTES * i;
+        let at = STATE_BYTES * i;
         u32::from_be_bytes([self[at], self[at + 1], self[at + 2], self[at + 3]])
     }
 }

@@ -2,18 +2,15 @@
 use mathlib.Core.Path.{◌≡◌}
 use mathlib.Core.Bool.{true}
 use mathlib.Core.List.{List}
-use Prim.Native.Nat.{ℕ, ◌^◌, ◌≤◌, ◌<◌}
+use Prim.Native.Nat.{ℕ, ◌^◌, ◌≤◌}
 use lib.ListN.{length, get_or}
 use Rattle.meaning.specs.System.{Livable, Finite}
 use Rattle.meaning.specs.Promises.{most_states}
 use Rattle.meaning.proofs.Exists.{livable-next}
 use Rattle.meaning.proofs.Parts.{T?}
-use Rattle.rules.specs.Book.{Shaped, book_system, book_lawful, book_first, book_moves, book_kept, letters_of, promises_of}
+use Rattle.rules.specs.Book.{Shaped, book_system, book_lawful, book_first, book_moves, book_kept, letters_of}
 use Rattle.rules.proofs.Facts.{lawful-below, first-lawful, move-from, move-to}
-use Rattle.moves.specs.Moves.{Storable}
-use Rattle.moves.proofs.Rows.{storable}
-use Rattle.distances.specs.Values.{Measurable}
-use Rattle.sample_step.specs.Rows.{Livables, LivableTable, Rowable}
+use Rattle.sample_step.specs.Rows.{Livables, LivableTable}
 
 -- A livable state is lawful.
 pub livable-lawful : (book : List ℕ) (s : ℕ) → Livable (book_system book) s → book_lawful book s ≡ true

@@ -18,13 +18,12 @@ use Rattle.ground.proofs.Tests.{no_both}
 use Rattle.rules.specs.Book.{book_system, book_kept}
 use Rattle.rules.specs.Table.{To}
 use Rattle.rules.proofs.Facts.{kept-is, kept-true}
-use Rattle.rules_signs.specs.Signs.{Signed}
 use Rattle.moves.specs.Layout.{start_at, end_at, cells_of}
 use Rattle.moves.specs.Moves.{Forth}
 use Rattle.moves.proofs.Rows.{rows-has}
 use Rattle.distances.specs.Far.{far}
 use Rattle.sample_step.specs.Rows.{Livables, aims_of, Walkable}
-use Rattle.sample_step.specs.Step.{Nearest, FirstNearest, Below, row_at, FirstAt, Scannable, Lookable, BestAt}
+use Rattle.sample_step.specs.Step.{Nearest, FirstNearest, Below, row_at, FirstAt, Lookable, BestAt}
 use Rattle.sample_step.proofs.Places.{places-rise}
 use Rattle.sample_step.proofs.Distances.{row_within}
 use Rattle.sample_step.proofs.Scans.{nearest-at}

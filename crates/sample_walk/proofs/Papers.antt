@@ -2,7 +2,7 @@
 -- Assumes nothing.
 use mathlib.Core.Path.{◌≡◌, refl, sym, ap, ◌∙◌}
 use mathlib.Core.List.{List, [], ◌∷◌, ◌++◌}
-use Prim.Native.Nat.{ℕ, zero, suc, ◌+◌, ◌-◌, ◌*◌, ◌≤◌, ◌<◌}
+use Prim.Native.Nat.{ℕ, zero, suc, ◌+◌, ◌-◌, ◌≤◌, ◌<◌}
 use native.Mathlib.Decide.{dec_lt}
 use native.Mathlib.Omega.{arith}
 use lib.ListN.{length, get_or, take, drop, length-append, length-drop, get_or-append}
@@ -10,9 +10,7 @@ use lib.Seq.{ext_get_or, get_or-append-add, get_or-drop}
 use Rattle.meaning.specs.System.{System, Livable, Lists}
 use Rattle.meaning.specs.Sample.{RunPaper}
 use Rattle.meaning.specs.Promises.{over, most_states}
-use Rattle.ground.specs.Wiping.{Wiped}
 use Rattle.rules.specs.Book.{Shaped, book_system}
-use Rattle.sample_step.specs.Rows.{aims_of, Rowable, RowsMeasured, Walkable}
 use Rattle.sample_step.proofs.Books.{livable-table}
 use Rattle.sample_step.proofs.Places.{livables-of}
 use Rattle.sample_walk.specs.Steered.{Steered}

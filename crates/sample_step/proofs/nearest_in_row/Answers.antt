@@ -1,5 +1,5 @@
 -- `sample_step::nearest_in_row` meets its contract. Assumes nothing.
-use Rattle.std.proofs.Common.{◌≤◌, ◌<◌, arith}
+use Rattle.std.proofs.Common.{◌<◌, arith}
 use Rattle.moves.specs.Layout.{cells_of, end_at}
 use Rattle.sample_step.proofs.Scans.{nearest-all, looked-nearer, looked-not}
 use Rattle.sample_step.proofs.nearest_in_row.Goals as goal

@@ -1,7 +1,6 @@
 -- `sample_step::rows` meets its contract: zeros where there are no promises, else the promises' rows. Assumes nothing.
-use Rattle.std.proofs.Common.{ℕ, ◌*◌, ◌≤◌, ◌++◌, length, drop, subst, arith}
-use Rattle.std.proofs.lemmas.Grind.{common_steps}
-use Rattle.ground.specs.Wiping.{Wiped}
+use Rattle.std.proofs.Common.{ℕ, ◌*◌, ◌≤◌, length, subst, arith}
+use Rattle.ground.proofs.Wiping.{zeroed-front}
 use Rattle.rules.proofs.Facts.{promises-are}
 use Rattle.sample_step.proofs.Distances.{rowed-of-none}
 use Rattle.sample_step.proofs.rows.Goals as goal
@@ -17,7 +16,7 @@ promise_rows-requires c = (
 
 pub returns-then-p-eq0 : goal.returns-then-p-eq0
 returns-then-p-eq0 c =
-    let wiped : Wiped c.args.r c.args.dist.now (c.fill.new.self ++ drop c.args.r c.args.dist.now) = grind (arith, common_steps) in
+    let wiped = zeroed-front _ c.args.dist.now c.fill.new.self (omega arith) (c.fill.ensures.after (λ y e. e)) in
     record {
       rowed = rowed-of-none c.requires.0.states.livables (omega (arith, promises-are c.args.book.now)) wiped.zeros;
       long = wiped.long;

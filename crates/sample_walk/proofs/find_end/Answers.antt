@@ -3,17 +3,7 @@ use Rattle.std.proofs.Common.{◌≡◌, ℕ, subst, sym, get_or, arith}
 use Rattle.std.proofs.lemmas.Grind.{common_steps}
 use Rattle.ground.specs.Bits.{bit}
 use Rattle.ground.proofs.Marking.{marked-of, unmarked-of}
-use Rattle.sample_walk.proofs.Trails.{
-  Walking,
-  walking-begins,
-  walking-aim,
-  walking-next,
-  walking-asks,
-  walking-ends,
-  walking-room,
-  walking-few,
-  walking-goes,
-}
+use Rattle.sample_walk.proofs.Trails.{Walking, walking-begins, walking-aim, walking-asks, walking-ends, walking-room, walking-few, walking-goes}
 use Rattle.sample_walk.proofs.find_end.Goals as goal
 
 pub loop-next-init : goal.loop-next-init
